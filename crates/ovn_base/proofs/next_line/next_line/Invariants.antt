@@ -1,0 +1,19 @@
+use Rattle.std.proofs.Common.{◌≡◌, ◌≢◌, ◌+◌, ◌-◌, ◌≤◌, ◌^◌, false, cond, [], length, take}
+use Rattle.ovn_base.specs.Lines.{HasNoFeed, ended_lines}
+use Rattle.ovn_base.specs.Reading.{taken}
+use Rattle.ovn_base.proofs.Going.{Going}
+use Rattle.ovn_base.proofs.next_line.next_line.Given as goal
+
+abbrev pub invariant-line : goal.invariant-line
+invariant-line g l = record {
+  going : Going l.fn.buf (g.S.Source.left l.fn.source) l.is_skipped l.buf (g.S.Source.left l.source);
+  scanned : l.scanned ≤ length l.buf.held;
+  seen : HasNoFeed (take l.scanned l.buf.held);
+  sound : l.buf.faulted ≡ false;
+  ended : l.buf.ended ≡ false → l.fn.buf.ended ≡ false;
+  patient : ended_lines l.fn.buf.held ≢ [] → (g.S.Source.left l.source ≡ g.S.Source.left l.fn.source) × (l.buf.held ≡ l.fn.buf.held);
+  faults : g.S.Source.faults l.fn.source ≤ g.S.Source.faults l.source;
+}
+
+abbrev pub decreases-line : goal.decreases-line
+decreases-line g l = (2 ^ 40 - taken l.buf) + cond l.buf.ended 0 1

@@ -1,0 +1,15 @@
+-- Which texts are names.
+use Rattle.std.specs.Prelude.{◌≤◌, ◌||◌, ℕ, Bool, List, length}
+use Rattle.std.specs.Char.{is_ascii_alphanumeric}
+use Rattle.std.specs.List.{AllPass}
+use Rattle.std.proofs.Math.Dec.{eqb as nat_eq}
+
+-- a letter, a digit, or one of _ . : -
+abbrev pub name_byte : ℕ → Bool
+name_byte b = is_ascii_alphanumeric b || nat_eq b 95 || nat_eq b 46 || nat_eq b 58 || nat_eq b 45
+
+-- 1 to 64 such bytes
+pub record IsName (text : List ℕ) : Type 0 where
+  pub some : 1 ≤ length text
+  pub few : length text ≤ 64
+  pub bytes : AllPass name_byte text

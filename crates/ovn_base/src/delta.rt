@@ -1,0 +1,46 @@
+//! What came and what went.
+ghost use Rattle.std.specs.Prelude.{◌≡◌, IfOk};
+
+use crate::list::List;
+use crate::memory::NoMemory;
+
+/// What came and what went between two states of a set of values.
+#[derive(Debug, Clone, PartialEq, Eq, Hash, Drop)]
+pub struct Delta<F> {
+    /// The values that are there now and were not before.
+    pub added: List<F>,
+    /// The values that were there before and are not now.
+    pub removed: List<F>,
+}
+
+impl<F: Clone> Delta<F> {
+    /// An equal delta in memory of its own.
+    pub fn copy(&self) -> Result<Self, NoMemory>
+        requires clones { (x y : F) → F.is_clone x y → y ≡ x }
+        ensures { IfOk result (λ d. d ≡ self.now) }
+    {
+        Ok(Delta {
+            added: self.added.copy()?,
+            removed: self.removed.copy()?,
+        })
+    }
+}
+
+#[cfg(test)]
+mod tests {
+    use super::Delta;
+    use crate::list::List;
+    use std::test::Fail;
+
+    #[test]
+    fn copies_what_came_and_went(rt: HostRuntime) -> Result<(), Fail> {
+        let delta = Delta {
+            added: List::from_slice(rt.alloc(), &[1u16, 2])?,
+            removed: List::from_slice(rt.alloc(), &[3])?,
+        };
+        let copy = delta.copy()?;
+        assert_eq!(rt; copy, delta);
+        assert_eq!(rt; copy.removed.as_slice(), [3].as_slice());
+        Ok(())
+    }
+}

@@ -1,0 +1,169 @@
+//! Lines of a source, one after another.
+ghost use Rattle.ovn_base.specs.Causes.{Rose};
+ghost use Rattle.ovn_base.specs.Lines.{ended_lines};
+ghost use Rattle.ovn_base.specs.Reading.{Gives, Stops, taken, unread};
+ghost use Rattle.ovn_base.specs.Told.{WhereTold};
+ghost use Rattle.std.specs.Prelude.{
+  false,
+  if◌then◌else◌,
+  IfOk,
+  is_err,
+  length,
+  nat_lt,
+  OnErr,
+  true,
+  ◌<◌,
+  ◌^◌,
+  ◌||◌,
+  ◌≡◌,
+  ◌≢◌,
+  ◌≤◌,
+  [],
+};
+
+use crate::line_buf::{LINE_LIMIT, LineBuf};
+use crate::source::Source;
+
+/// What `next_line` found.
+#[derive(Clone, Copy, PartialEq, Eq, Debug)]
+pub enum Line {
+    /// A line of at most 1,048,576 bytes, which the buffer shows.
+    Text,
+    /// A line of more than 1,048,576 bytes, its line feed not counted. It was skipped to its end.
+    TooLong,
+    /// The end of the input, with no line left.
+    End,
+}
+
+/// Why `next_line` could not go on.
+#[derive(Clone, Copy, PartialEq, Eq, Debug)]
+pub enum LineFault {
+    /// The source failed.
+    ReadFault,
+    /// The input has no end within 2^40 bytes.
+    InputTooLong,
+}
+
+/// What a line of this length is, or one of which bytes were let go already.
+fn line_of(is_skipped: bool, length: usize) -> Line
+    ensures { result ≡ (if is_skipped || nat_lt LINE_LIMIT length then Line.TooLong else Line.Text) }
+{
+    if is_skipped || length > LINE_LIMIT {
+        Line::TooLong
+    } else {
+        Line::Text
+    }
+}
+
+/// The next line of the source, which the buffer then shows. A last line without a line feed counts where it isn't
+/// empty. It takes no memory, and asks for the end once.
+///
+/// # Errors
+///
+/// `ReadFault` only where the source failed, and `InputTooLong` where 2^40 bytes were taken without an end. No line
+/// that was taken whole is left out then, and the buffer can't be used again.
+pub fn next_line<S: Source>(source: &mut S, buf: &mut LineBuf) -> Result<Line, LineFault>
+    requires { buf.old.faulted ≡ false }
+
+    // The lines of the bytes, whole and in order.
+    ensures line { IfOk result (λ line. WhereTold
+        (unread buf.old (S.left source.old)) (unread buf.new (S.left source.new))
+        (Gives line buf.old buf.new)) }
+    ensures end { result ≡ Ok Line.End → (buf.new.held ≡ []) × (buf.new.ended ≡ true) }
+    ensures short { result ≡ Ok Line.Text → length buf.new.text ≤ LINE_LIMIT }
+    ensures progress { IfOk result (λ line. line ≢ Line.End → buf.old.given < buf.new.given) }
+
+    // It takes more only while it holds no whole line.
+    ensures patient { ended_lines buf.old.held ≢ [] → S.left source.new ≡ S.left source.old }
+
+    // A fault leaves out no line that was taken whole.
+    ensures fault { OnErr result
+        (WhereTold (unread buf.old (S.left source.old)) (S.left source.new) (Stops buf.old buf.new)) }
+    ensures none_held { OnErr result (ended_lines buf.new.held ≡ []) }
+    ensures before_end { OnErr result (buf.old.ended ≡ false) }
+    ensures read_fault { result ≡ Err LineFault.ReadFault → Rose (S.faults source.old) (S.faults source.new) }
+    ensures too_long { result ≡ Err LineFault.InputTooLong → taken buf.new ≡ 2 ^ 40 }
+    ensures faulted { buf.new.faulted ≡ is_err result }
+
+    ensures limit { taken buf.new ≤ 2 ^ 40 }
+    ensures below { buf.new.ended ≡ true → taken buf.new < 2 ^ 40 }
+    ensures faults { S.faults source.old ≤ S.faults source.new }
+{
+    // How many of the held bytes have no line feed among them, and whether bytes of the line were let go.
+    let mut scanned = 0;
+    let mut is_skipped = false;
+    'line: loop {
+        if buf.cut_line(scanned) {
+            return Ok(line_of(is_skipped, buf.text().len()));
+        }
+        scanned = buf.held_len();
+        if buf.ended() {
+            if scanned == 0 && !is_skipped {
+                return Ok(Line::End);
+            }
+            buf.cut_all();
+            return Ok(line_of(is_skipped, scanned));
+        }
+        if scanned > LINE_LIMIT {
+            buf.cut_all();
+            is_skipped = true;
+            scanned = 0;
+        }
+        buf.refill(source)?;
+    }
+}
+
+#[cfg(test)]
+mod tests {
+    use super::*;
+    use crate::memory_source::MemorySource;
+    use std::test::Fail;
+
+    #[test]
+    fn gives_each_line(rt: HostRuntime) -> Result<(), Fail> {
+        let alloc = rt.alloc();
+        let mut source = MemorySource::new(Vec::from_slice(alloc, b"a\nbc\n\nd")?, Vec::new(alloc));
+        let mut buf = LineBuf::new(alloc)?;
+        assert_eq!(rt; next_line(&mut source, &mut buf)?, Line::Text);
+        assert_eq!(rt; buf.text(), b"a".as_slice());
+        assert_eq!(rt; next_line(&mut source, &mut buf)?, Line::Text);
+        assert_eq!(rt; buf.text(), b"bc".as_slice());
+        assert_eq!(rt; next_line(&mut source, &mut buf)?, Line::Text);
+        assert_eq!(rt; buf.text(), b"".as_slice());
+        assert_eq!(rt; next_line(&mut source, &mut buf)?, Line::Text);
+        assert_eq!(rt; buf.text(), b"d".as_slice());
+        assert_eq!(rt; next_line(&mut source, &mut buf)?, Line::End);
+        assert_eq!(rt; next_line(&mut source, &mut buf)?, Line::End);
+        Ok(())
+    }
+
+    #[test]
+    fn skips_a_long_line(rt: HostRuntime) -> Result<(), Fail> {
+        let alloc = rt.alloc();
+        let mut bytes = vec![in alloc; b'x'; 1_048_576]?;
+        bytes.extend_from_slice(b"\nx")?;
+        bytes.extend_from_slice(&vec![in alloc; b'x'; 1_048_576]?)?;
+        bytes.extend_from_slice(b"\nnext\n")?;
+        let mut source = MemorySource::new(bytes, Vec::new(alloc));
+        let mut buf = LineBuf::new(alloc)?;
+        assert_eq!(rt; next_line(&mut source, &mut buf)?, Line::Text);
+        assert_eq!(rt; buf.text().len(), 1_048_576);
+        assert_eq!(rt; next_line(&mut source, &mut buf)?, Line::TooLong);
+        assert_eq!(rt; next_line(&mut source, &mut buf)?, Line::Text);
+        assert_eq!(rt; buf.text(), b"next".as_slice());
+        assert_eq!(rt; next_line(&mut source, &mut buf)?, Line::End);
+        Ok(())
+    }
+
+    #[test]
+    fn stops_at_a_fault(rt: HostRuntime) -> Result<(), Fail> {
+        let alloc = rt.alloc();
+        let mut source = MemorySource::new(Vec::from_slice(alloc, b"a\nb")?, vec![in alloc; 2]?);
+        let mut buf = LineBuf::new(alloc)?;
+        assert_eq!(rt; next_line(&mut source, &mut buf)?, Line::Text);
+        assert!(rt; !buf.faulted());
+        assert_eq!(rt; next_line(&mut source, &mut buf), Err(LineFault::ReadFault));
+        assert!(rt; buf.faulted());
+        Ok(())
+    }
+}

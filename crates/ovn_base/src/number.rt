@@ -1,0 +1,47 @@
+ghost use Rattle.std.specs.Prelude.{◌≡◌, ◌≢◌, ◌+◌, ◌++◌, ◌<◌, ◌≤◌, ℕ, IfSome, IfNone, OnOk};
+ghost use Rattle.std.specs.Fmt.{decimal};
+
+use crate::memory::NoMemory;
+
+fn digit(byte: u8) -> Option<u8>
+    ensures found { IfSome result (λ d. (d < 10) × (byte ≡ 48 + d)) }
+    ensures none { IfNone result ((d : ℕ) → d < 10 → byte ≢ 48 + d) }
+{
+    match byte {
+        b'0'..=b'9' => Some(byte - b'0'),
+        _ => None,
+    }
+}
+
+/// The number of at most `most` that the text writes in decimal, with no sign and no leading zero.
+pub fn read_number(text: &[u8], most: u64) -> Option<u64>
+    ensures found { IfSome result (λ n. (n ≤ most) × (text.now ≡ decimal n)) }
+    ensures none { IfNone result ((n : ℕ) → n ≤ most → text.now ≢ decimal n) }
+{
+    if text.len() > 20 {
+        return None;
+    }
+    let (last, front) = text.split_last()?;
+    let last = u64::from(digit(*last)?);
+    if front.is_empty() {
+        return if last <= most { Some(last) } else { None };
+    }
+    let tens = read_number(front, most / 10)?;
+    if tens == 0 || last > most - 10 * tens {
+        return None;
+    }
+    Some(10 * tens + last)
+}
+
+/// Appends the number in decimal. Where memory is wanting a part of it may stand there.
+pub fn push_number(out: &mut Vec<u8>, number: u64) -> Result<(), NoMemory>
+    ensures { OnOk result (out.new.items ≡ out.old.items ++ decimal number) }
+{
+    if number < 10 {
+        out.push(b'0' + number as u8)?;
+        return Ok(());
+    }
+    push_number(out, number / 10)?;
+    out.push(b'0' + (number % 10) as u8)?;
+    Ok(())
+}

@@ -1,0 +1,107 @@
+ghost use Rattle.std.specs.Prelude.{◌≡◌, ◌<◌, ◌^◌, ◌≤◌, ◌++◌, ℕ, OnOk, OnErr};
+ghost use Rattle.std.specs.Char.{digit_char};
+ghost use Rattle.ovn_base.specs.Address.{IsMac};
+ghost use Rattle.ovn_base.specs.AddressText.{SpellsMac, SpellsIp4, SpellsCidr, mac_text, ip4_text, cidr_text};
+
+use crate::address::{Cidr, Ip4, Mac};
+use crate::memory::NoMemory;
+use crate::number::push_number;
+
+// A hexadecimal digit in lower case.
+fn digit(value: u8) -> u8
+    requires { value < 16 }
+    ensures { result ≡ digit_char value }
+{
+    if value < 10 {
+        b'0' + value
+    } else {
+        b'a' + (value - 10)
+    }
+}
+
+fn text_of_mac(mac: Mac) -> [u8; 17]
+    ensures { result ≡ mac_text mac }
+{
+    let [a, b, c, d, e, f] = mac.0;
+    [
+        digit(a / 16),
+        digit(a % 16),
+        b':',
+        digit(b / 16),
+        digit(b % 16),
+        b':',
+        digit(c / 16),
+        digit(c % 16),
+        b':',
+        digit(d / 16),
+        digit(d % 16),
+        b':',
+        digit(e / 16),
+        digit(e % 16),
+        b':',
+        digit(f / 16),
+        digit(f % 16),
+    ]
+}
+
+/// Appends the Ethernet address as six pairs in lower case joined by `:`. Where memory is wanting nothing is appended.
+pub fn push_mac(out: &mut Vec<u8>, mac: Mac) -> Result<(), NoMemory>
+    ensures ok { OnOk result (out.new.items ≡ out.old.items ++ mac_text mac) }
+    ensures err { OnErr result (out.new.items ≡ out.old.items) }
+{
+    out.extend_from_slice(&text_of_mac(mac))?;
+    Ok(())
+}
+
+/// Appends the IPv4 address in dotted decimal. Where memory is wanting a part of it may stand there.
+pub fn push_ip4(out: &mut Vec<u8>, ip: Ip4) -> Result<(), NoMemory>
+    ensures { OnOk result (out.new.items ≡ out.old.items ++ ip4_text ip) }
+{
+    let [a, b, c, d] = ip.0.to_be_bytes();
+    push_number(out, u64::from(a))?;
+    out.push(b'.')?;
+    push_number(out, u64::from(b))?;
+    out.push(b'.')?;
+    push_number(out, u64::from(c))?;
+    out.push(b'.')?;
+    push_number(out, u64::from(d))?;
+    Ok(())
+}
+
+/// Appends the address, `/` and the length. Where memory is wanting a part of it may stand there.
+pub fn push_cidr(out: &mut Vec<u8>, cidr: Cidr) -> Result<(), NoMemory>
+    ensures { OnOk result (out.new.items ≡ out.old.items ++ cidr_text cidr) }
+{
+    push_ip4(out, cidr.addr)?;
+    out.push(b'/')?;
+    push_number(out, u64::from(cidr.len))?;
+    Ok(())
+}
+
+/// The printed text of an address spells it.
+pub fn printed_spells()
+    ensures mac { (mac : Mac) → IsMac mac → SpellsMac (mac_text mac) mac }
+    ensures ip4 { (ip : Ip4) → ip.0 < 2 ^ 32 → SpellsIp4 (ip4_text ip) ip }
+    ensures cidr { (cidr : Cidr) → cidr.addr.0 < 2 ^ 32 → cidr.len ≤ 32 → SpellsCidr (cidr_text cidr) cidr }
+{}
+
+#[cfg(test)]
+mod tests {
+    use super::*;
+    use std::test::Fail;
+
+    #[test]
+    fn prints_addresses(rt: HostRuntime) -> Result<(), Fail> {
+        let mut out = Vec::new(rt.alloc());
+        push_mac(&mut out, Mac([0x0a, 0, 0, 0, 1, 0xfe]))?;
+        assert_eq!(rt; out.as_slice(), b"0a:00:00:00:01:fe".as_slice());
+        let mut out = Vec::new(rt.alloc());
+        push_ip4(&mut out, Ip4(0xc0a8_0a01))?;
+        assert_eq!(rt; out.as_slice(), b"192.168.10.1".as_slice());
+        let mut out = Vec::new(rt.alloc());
+        let addr = Ip4(0x0a00_0000);
+        push_cidr(&mut out, Cidr { addr, len: 8 })?;
+        assert_eq!(rt; out.as_slice(), b"10.0.0.0/8".as_slice());
+        Ok(())
+    }
+}

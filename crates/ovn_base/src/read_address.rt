@@ -1,0 +1,170 @@
+ghost use Rattle.std.specs.Prelude.{◌≡◌, ◌≢◌, ◌<◌, ◌≤◌, ◌++◌, ℕ, List, ◌∷◌, IfSome, IfNone};
+ghost use Rattle.std.specs.Char.{digit_value};
+ghost use Rattle.std.specs.List.{All};
+ghost use Rattle.ovn_base.specs.AddressText.{SpellsPair, SpellsOctet, SpellsFirst, SpellsMac, SpellsIp4, SpellsCidr};
+
+use crate::address::{Cidr, Ip4, Mac};
+use crate::number::read_number;
+
+// The parts before and after the first place of the separator.
+fn cut(text: &[u8], separator: u8) -> Option<(&[u8], &[u8])>
+    ensures found { IfSome result (λ parts. (text.now ≡ parts.0.now ++ separator ∷ parts.1.now) × All (λ b. b ≢ separator) parts.0.now) }
+    ensures none { IfNone result (All (λ b. b ≢ separator) text.now) }
+{
+    for (index, byte) in text.iter().enumerate() {
+        if *byte == separator {
+            return Some((&text[..index], &text[index + 1..]));
+        }
+    }
+    None
+}
+
+fn hexadecimal_digit(byte: u8) -> Option<u8>
+    ensures found { IfSome result (λ d. (d ≡ digit_value byte) × (d < 16)) }
+    ensures none { IfNone result (16 ≤ digit_value byte) }
+{
+    match byte {
+        b'0'..=b'9' => Some(byte - b'0'),
+        b'a'..=b'f' => Some(byte - b'a' + 10),
+        b'A'..=b'F' => Some(byte - b'A' + 10),
+        _ => None,
+    }
+}
+
+fn read_pair(text: &[u8]) -> Option<u8>
+    ensures found { IfSome result (λ byte. SpellsPair text.now byte) }
+    ensures none { IfNone result ((byte : ℕ) → ¬ SpellsPair text.now byte) }
+{
+    match text {
+        [high, low] => Some(16 * hexadecimal_digit(*high)? + hexadecimal_digit(*low)?),
+        _ => None,
+    }
+}
+
+// The byte of the pair in front, and what comes after the ':' behind it.
+fn first_pair(text: &[u8]) -> Option<(u8, &[u8])>
+    ensures found { IfSome result (λ first. SpellsFirst SpellsPair 58 text.now first.0 first.1.now) }
+    ensures none { IfNone result ((byte : ℕ) (rest : List ℕ) → ¬ SpellsFirst SpellsPair 58 text.now byte rest) }
+{
+    let (pair, rest) = cut(text, b':')?;
+    Some((read_pair(pair)?, rest))
+}
+
+/// The Ethernet address that the text spells, as in `0a:00:00:00:00:fe`, in either case.
+pub fn read_mac(text: &[u8]) -> Option<Mac>
+    ensures found { IfSome result (λ mac. SpellsMac text.now mac) }
+    ensures none { IfNone result ((mac : Mac) → ¬ SpellsMac text.now mac) }
+{
+    let (a, rest) = first_pair(text)?;
+    let (b, rest) = first_pair(rest)?;
+    let (c, rest) = first_pair(rest)?;
+    let (d, rest) = first_pair(rest)?;
+    let (e, rest) = first_pair(rest)?;
+    let f = read_pair(rest)?;
+    Some(Mac([a, b, c, d, e, f]))
+}
+
+fn read_octet(text: &[u8]) -> Option<u8>
+    ensures found { IfSome result (λ octet. SpellsOctet text.now octet) }
+    ensures none { IfNone result ((octet : ℕ) → ¬ SpellsOctet text.now octet) }
+{
+    let octet = read_number(text, 255)?;
+    Some(octet as u8)
+}
+
+// The octet in front, and what comes after the '.' behind it.
+fn first_octet(text: &[u8]) -> Option<(u8, &[u8])>
+    ensures found { IfSome result (λ first. SpellsFirst SpellsOctet 46 text.now first.0 first.1.now) }
+    ensures none { IfNone result ((octet : ℕ) (rest : List ℕ) → ¬ SpellsFirst SpellsOctet 46 text.now octet rest) }
+{
+    let (octet, rest) = cut(text, b'.')?;
+    Some((read_octet(octet)?, rest))
+}
+
+/// The IPv4 address that the text spells, as in `10.0.0.1`, with no leading zeros.
+pub fn read_ip4(text: &[u8]) -> Option<Ip4>
+    ensures found { IfSome result (λ ip. SpellsIp4 text.now ip) }
+    ensures none { IfNone result ((ip : Ip4) → ¬ SpellsIp4 text.now ip) }
+{
+    let (a, rest) = first_octet(text)?;
+    let (b, rest) = first_octet(rest)?;
+    let (c, rest) = first_octet(rest)?;
+    let d = read_octet(rest)?;
+    Some(Ip4(u32::from_be_bytes([a, b, c, d])))
+}
+
+/// The IPv4 address with a length that the text spells, as in `10.0.0.0/8`; an address alone has the length 32.
+pub fn read_cidr(text: &[u8]) -> Option<Cidr>
+    ensures found { IfSome result (λ cidr. SpellsCidr text.now cidr) }
+    ensures none { IfNone result ((cidr : Cidr) → ¬ SpellsCidr text.now cidr) }
+{
+    match cut(text, b'/') {
+        None => Some(Cidr {
+            addr: read_ip4(text)?,
+            len: 32,
+        }),
+        Some((ip, len)) => Some(Cidr {
+            addr: read_ip4(ip)?,
+            len: read_number(len, 32)? as u8,
+        }),
+    }
+}
+
+/// A text spells at most one Ethernet address.
+pub fn one_mac()
+    ensures { (text : List ℕ) (a b : Mac) → SpellsMac text a → SpellsMac text b → a ≡ b }
+{}
+
+/// A text spells at most one IPv4 address.
+pub fn one_ip4()
+    ensures { (text : List ℕ) (a b : Ip4) → SpellsIp4 text a → SpellsIp4 text b → a ≡ b }
+{}
+
+/// A text spells at most one IPv4 address with a length.
+pub fn one_cidr()
+    ensures { (text : List ℕ) (a b : Cidr) → SpellsCidr text a → SpellsCidr text b → a ≡ b }
+{}
+
+#[cfg(test)]
+mod tests {
+    use super::*;
+
+    #[test]
+    fn reads_ethernet_addresses(rt: HostRuntime) {
+        let fe = Some(Mac([0x0a, 0, 0, 0, 0, 0xfe]));
+        let one_fe = Some(Mac([0x0a, 0, 0, 0, 1, 0xfe]));
+        assert_eq!(rt; read_mac(b"0a:00:00:00:00:fe"), fe);
+        assert_eq!(rt; read_mac(b"0A:00:00:00:01:fe"), one_fe);
+        assert_eq!(rt; read_mac(b"0a:00:00:00:00"), None);
+        assert_eq!(rt; read_mac(b"0a:00:00:00:00:g0"), None);
+        assert_eq!(rt; read_mac(b"0a:00:00:00:00:000"), None);
+        assert_eq!(rt; read_mac(b"0a:00:00:00:00:fe:"), None);
+        assert_eq!(rt; read_mac(b"0a-00-00-00-00-fe"), None);
+        assert_eq!(rt; read_mac(b""), None);
+    }
+
+    #[test]
+    fn reads_ip_addresses(rt: HostRuntime) {
+        assert_eq!(rt; read_ip4(b"10.0.0.1"), Some(Ip4(0x0a00_0001)));
+        assert_eq!(rt; read_ip4(b"0.0.0.0"), Some(Ip4(0)));
+        assert_eq!(rt; read_ip4(b"255.255.255.255"), Some(Ip4(0xffff_ffff)));
+        assert_eq!(rt; read_ip4(b"010.0.0.1"), None);
+        assert_eq!(rt; read_ip4(b"256.0.0.1"), None);
+        assert_eq!(rt; read_ip4(b"10.0.0"), None);
+        assert_eq!(rt; read_ip4(b"10.0.0.1.2"), None);
+        assert_eq!(rt; read_ip4(b"10.0.0."), None);
+        assert_eq!(rt; read_ip4(b"+1.0.0.1"), None);
+    }
+
+    #[test]
+    fn reads_addresses_with_lengths(rt: HostRuntime) {
+        let ten = Ip4(0x0a00_0000);
+        assert_eq!(rt; read_cidr(b"10.0.0.0/8"), Some(Cidr { addr: ten, len: 8 }));
+        assert_eq!(rt; read_cidr(b"10.0.0.0/0"), Some(Cidr { addr: ten, len: 0 }));
+        assert_eq!(rt; read_cidr(b"10.0.0.0"), Some(Cidr { addr: ten, len: 32 }));
+        assert_eq!(rt; read_cidr(b"10.0.0.0/33"), None);
+        assert_eq!(rt; read_cidr(b"10.0.0.0/08"), None);
+        assert_eq!(rt; read_cidr(b"10.0.0.0/"), None);
+        assert_eq!(rt; read_cidr(b"10.0.0.0/8/8"), None);
+    }
+}
