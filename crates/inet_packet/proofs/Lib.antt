@@ -1,0 +1,9 @@
+-- Lemmas.
+pub mod Lists
+pub mod Ip4
+pub mod Decoding
+pub mod Exactness
+pub mod OnePacket
+pub mod SumLaws
+pub mod RewriteLaws
+pub mod RewriteSteps

@@ -1,0 +1,10 @@
+use Rattle.std.proofs.Common.{arith}
+use Rattle.inet_packet.specs.Rewrites.{ip4_with_src}
+use Rattle.inet_packet.proofs.RewriteSteps.{whole_with, right_with, src_steps}
+use Rattle.inet_packet.proofs.packet.Packet.set_src.Goals as goal
+
+pub returns-clause-whole : goal.returns-clause-whole
+returns-clause-whole c = λ h. rw c.set_src.ensures (whole_with (ip4_with_src c.args.ip) c.args.self.now h (src_steps c.args.ip c.args.self.now (omega arith) h))
+
+pub returns-clause-right : goal.returns-clause-right
+returns-clause-right c = λ h r. rw c.set_src.ensures (right_with (ip4_with_src c.args.ip) c.args.self.now (src_steps c.args.ip c.args.self.now (omega arith) h) r)

@@ -1,0 +1,9 @@
+-- Definitions that contracts cite.
+pub mod Fields
+pub mod Fits
+pub mod Frame
+pub mod Sums
+pub mod Whole
+pub mod Reading
+pub mod Rewrites
+pub mod Transport
