@@ -1,0 +1,4 @@
+pub mod Layout
+pub mod Meaning
+pub mod Fields
+pub mod Answers
