@@ -1,0 +1,4 @@
+-- Lemmas.
+pub mod Best
+pub mod ChangeLaws
+pub mod Numbers

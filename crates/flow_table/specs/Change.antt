@@ -1,0 +1,19 @@
+-- How the flows of a chassis change.
+use Rattle.std.specs.Prelude.{◌⊎◌, ◌↔◌, List, [], ◌∷◌}
+use Rattle.ovn_base.specs.Among.{Among}
+use Rattle.ovn_base.specs.declared.delta.Delta.{Delta}
+use Rattle.flow_table.specs.declared.flow.Flow.{Flow}
+
+-- the list has each of its elements once
+abbrev pub EachOnce : {X : Type 0} → List X → Type 0
+EachOnce [] = Unit {0}
+EachOnce (x ∷ xs) = ¬ Among x xs × EachOnce xs
+
+-- what comes isn't there, unless it goes as well, and comes once
+pub record IsDeltaOf (flows : List Flow) (delta : Delta Flow) : Type 0 where
+  pub once : EachOnce delta.added
+  pub new : (f : Flow) → Among f delta.added → Among f flows → Among f delta.removed
+
+-- the new flows are the old ones without those that went, and those that came
+abbrev pub IsReplaced : List Flow → Delta Flow → List Flow → Type 0
+IsReplaced old delta new = (f : Flow) → Among f new ↔ (Among f delta.added ⊎ (Among f old × ¬ Among f delta.removed))

@@ -1,0 +1,55 @@
+//! Laws of `==` and of clones of flows, each on a function that does nothing: call it, and its clause is a fact of the
+//! call.
+ghost use Rattle.std.specs.Prelude.{◌≡◌, ◌↔◌, true, IfOk};
+ghost use Rattle.flow_table.specs.declared.flow.Cause.{Cause};
+ghost use Rattle.flow_table.specs.declared.flow.Flow.{Flow};
+ghost use Rattle.flow_table.specs.declared.flow.FlowOp.{FlowOp};
+
+use crate::flow::{Cause, Flow, FlowOp};
+use inet_packet::exact::exact_cube;
+use ovn_base::equality::equal_where_same;
+use ovn_base::memory::NoMemory;
+
+/// Causes are equal exactly where they are the same.
+pub fn exact_cause()
+    ensures { (a b : Cause) → (⟦<Cause as PartialEq>⟧.eq a b ≡ true) ↔ (a ≡ b) }
+{}
+
+/// A clone of a cause is that cause.
+pub fn exact_cause_clone()
+    ensures { (a b : Cause) → ⟦<Cause as Clone>⟧.is_clone a b → b ≡ a }
+{}
+
+/// Operations are equal exactly where they are the same.
+pub fn exact_op()
+    ensures { (a b : FlowOp) → (⟦<FlowOp as PartialEq>⟧.eq a b ≡ true) ↔ (a ≡ b) }
+{}
+
+/// A clone of an operation is that operation.
+pub fn exact_op_clone()
+    ensures { (a b : FlowOp) → ⟦<FlowOp as Clone>⟧.is_clone a b → b ≡ a }
+{}
+
+/// Flows are equal exactly where they are the same.
+pub fn exact_flow()
+    ensures { (a b : Flow) → (⟦<Flow as PartialEq>⟧.eq a b ≡ true) ↔ (a ≡ b) }
+{
+    exact_cube();
+    exact_op();
+    equal_where_same::<Flow>();
+}
+
+/// A clone of a flow is that flow.
+pub fn exact_flow_clone()
+    ensures { (a b : Flow) → ⟦<Flow as Clone>⟧.is_clone a b → b ≡ a }
+{}
+
+impl Flow {
+    /// An equal flow in memory of its own.
+    pub fn copy(&self) -> Result<Flow, NoMemory>
+        ensures { IfOk result (λ f. f ≡ self.now) }
+    {
+        exact_flow_clone();
+        Ok(self.clone()?)
+    }
+}

@@ -1,0 +1,41 @@
+ghost use Rattle.std.specs.Prelude.{◌≡◌, ◌≤◌, ℕ, List, IfSome, IfNone, OnOk, length, slice_get};
+ghost use Rattle.std.specs.Option.{option_copied};
+ghost use Rattle.flow_table.specs.declared.flow.Flow.{Flow};
+ghost use Rattle.flow_table.specs.Matching.{IsBest, NoneMatches};
+ghost use Rattle.flow_table.specs.Change.{EachOnce, IsDeltaOf, IsReplaced};
+
+use crate::flow::Flow;
+use inet_packet::packet::Packet;
+use inet_packet::regs::Regs;
+use ovn_base::delta::Delta;
+use ovn_base::memory::NoMemory;
+
+/// Holds flows, each once, and finds the one that a packet takes.
+pub trait Lookup {
+    /// The flows that are held.
+    ghost flows: { Self → List Flow };
+
+    /// How many flows can be added without memory.
+    ghost room: { Self → ℕ };
+
+    /// An unbeaten flow of the table that matches; `None` exactly where none matches. No memory is taken.
+    fn lookup(&self, table: u8, regs: &Regs, packet: &Packet) -> Option<&Flow>
+        ensures found { IfSome result (λ f. IsBest (flows self.now) table regs.now packet.now f.now) }
+        ensures none { IfNone result (NoneMatches (flows self.now) table regs.now packet.now) };
+
+    /// Makes room for what the delta adds. The flows that are held stay, also without memory.
+    fn prepare(&mut self, delta: &Delta<Flow>) -> Result<(), NoMemory>
+        ensures same { flows self.new ≡ flows self.old }
+        ensures room { OnOk result (length delta.now.added ≤ room self.new) };
+
+    /// Takes flows out and puts others in. No memory is taken.
+    fn replace(&mut self, delta: Delta<Flow>)
+        requires room { length delta.added ≤ room self.old }
+        requires delta { IsDeltaOf (flows self.old) delta }
+        ensures { IsReplaced (flows self.old) delta (flows self.new) };
+
+    /// Each held flow at exactly one index below their number; `None` past the last. No memory is taken.
+    fn flow(&self, index: usize) -> Option<&Flow>
+        ensures flow { option_copied result ≡ slice_get (flows self.now) index }
+        ensures once { EachOnce (flows self.now) };
+}
