@@ -1,0 +1,153 @@
+-- Which event a JSON value asks for.
+use Rattle.std.specs.Prelude.{◌≡◌, ◌≢◌, ◌≤◌, ◌+◌, ◌*◌, ◌%◌, ◌==◌, ℕ, List, [], ◌∷◌, length, codes, slice_index, Option, Some, None, Ok}
+use Rattle.std.specs.List.{AllZip, slice_split}
+use Rattle.std.specs.Str.{IsUtf8}
+use Rattle.serde_json.specs.Data.{Data, string, array, object, item, no_items, Members, no_members, put}
+use Rattle.serde_json.specs.Read.{read}
+use Rattle.hex.specs.Hex.{decode_of}
+use denote.Ref.{Bor}
+use Rattle.ovn_base.specs.NameText.{IsName}
+use Rattle.ovn_base.specs.AddressText.{SpellsMac, SpellsIp4}
+use Rattle.ovn_base.specs.declared.name.Name.{Name}
+use Rattle.ovn_base.specs.declared.address.Mac.{Mac}
+use Rattle.ovn_base.specs.declared.address.Ip4.{Ip4}
+use Rattle.nb_records.specs.declared.record.Switch.{Switch}
+use Rattle.nb_records.specs.declared.record.SwitchPort.{SwitchPort}
+use Rattle.nb_records.specs.declared.record.PortAddress.{PortAddress}
+use Rattle.nb_records.specs.declared.record.PortAddress.TheVariants.{Ether}
+use Rattle.nb_records.specs.declared.record.Record.{Record}
+use Rattle.nb_records.specs.declared.record.Record.TheVariants as kind
+use Rattle.nb_records.specs.declared.record.Op.TheVariants.{Add}
+use Rattle.edit_reader.specs.declared.event.Event.{Event}
+use Rattle.edit_reader.specs.declared.event.Event.TheVariants.{Edit, Bind, AddChassis, Packet, NotBuilt}
+
+-- the members with these names and values; an object keeps them in order of name
+abbrev pub members_with : List (List ℕ × Data) → Members
+members_with [] = no_members
+members_with (m ∷ ms) = put m.0 m.1 (members_with ms)
+
+-- the object that has these members, and no others
+abbrev pub object_with : List (List ℕ × Data) → Data
+object_with ms = object (members_with ms)
+
+-- the array that has this element alone
+abbrev pub array_of_one : Data → Data
+array_of_one d = array (item d no_items)
+
+-- the value is the text of the name
+pub record IsNamed (d : Data) (name : Name) : Type 0 where
+  pub text : d ≡ string name
+  pub is_name : IsName name
+
+-- the pieces that are left, cut at each space
+abbrev pub pieces_left : Option (Bor (List ℕ)) → List (List ℕ)
+pieces_left None = []
+pieces_left (Some rest) = slice_split (λ b. b == 32) rest.now
+
+-- the text, cut at each space, is an Ethernet address and then IPv4 addresses
+pub record SpellsEther (text : List ℕ) (mac : Mac) (ips : List Ip4) : Type 0 where
+  pub first : List ℕ
+  pub others : List (List ℕ)
+  pub pieces : slice_split (λ b. b == 32) text ≡ first ∷ others
+  pub spells_mac : SpellsMac first mac
+  pub spell_ips : AllZip SpellsIp4 others ips
+
+-- the text is that entry
+abbrev pub SpellsEntry : List ℕ → PortAddress → Type 0
+SpellsEntry text (Ether mac ips) = SpellsEther text mac ips
+
+-- {"add":"switch","name":N}: the switch, before its birth is known
+pub record AddsSwitch (d : Data) (switch : Switch) : Type 0 where
+  pub members : d ≡ object_with ((codes "add", string (codes "switch")) ∷ (codes "name", string switch.name) ∷ [])
+  pub is_name : IsName switch.name
+  pub unborn : switch.birth.0 ≡ 0
+
+-- {"add":"switch_port","name":N,"switch":S,"addresses":[A]}
+pub record HasPort (d : Data) (name switch : Name) (entry : List ℕ) : Type 0 where
+  pub members : d ≡ object_with ((codes "add", string (codes "switch_port")) ∷ (codes "name", string name) ∷ (codes "switch", string switch) ∷ (codes "addresses", array_of_one (string entry)) ∷ [])
+  pub is_name : IsName name
+  pub is_switch_name : IsName switch
+
+-- such an operation: the port, before its birth is known
+pub record AddsPort (d : Data) (port : SwitchPort) : Type 0 where
+  pub entry : List ℕ
+  pub address : PortAddress
+  pub has_port : HasPort d port.name port.switch entry
+  pub unborn : port.birth.0 ≡ 0
+  pub addresses : port.addresses ≡ address ∷ []
+  pub spells : SpellsEntry entry address
+
+-- the operation adds the record
+abbrev pub Adds : Data → Record → Type 0
+Adds d (kind.Switch switch) = AddsSwitch d switch
+Adds d (kind.SwitchPort port) = AddsPort d port
+
+-- 14 to 9,216 bytes from one unicast address to another, of a type other than IPv4, ARP and VLAN
+pub record IsPlainFrame (frame : List ℕ) : Type 0 where
+  pub long : 14 ≤ length frame
+  pub short : length frame ≤ 9216
+  pub to_one : slice_index frame 0 % 2 ≡ 0
+  pub from_one : slice_index frame 6 % 2 ≡ 0
+  pub not_ip4 : 256 * slice_index frame 12 + slice_index frame 13 ≢ 0x0800
+  pub not_arp : 256 * slice_index frame 12 + slice_index frame 13 ≢ 0x0806
+  pub not_vlan : 256 * slice_index frame 12 + slice_index frame 13 ≢ 0x8100
+
+-- {"edit":[OP]}
+abbrev pub HasOperation : Data → Data → Type 0
+HasOperation d op = d ≡ object_with ((codes "edit", array_of_one op) ∷ [])
+
+-- an edit of one operation, which adds the record
+pub record IsEdit (d : Data) (row : Record) : Type 0 where
+  pub op : Data
+  pub has_operation : HasOperation d op
+  pub adds : Adds op row
+
+-- {"chassis":{"add":C}}
+pub record IsChassis (d : Data) (name : Name) : Type 0 where
+  pub members : d ≡ object_with ((codes "chassis", object_with ((codes "add", string name) ∷ [])) ∷ [])
+  pub is_name : IsName name
+
+-- {"bind":{"port":P,"chassis":C}}
+pub record IsBind (d : Data) (port chassis : Name) : Type 0 where
+  pub members : d ≡ object_with ((codes "bind", object_with ((codes "port", string port) ∷ (codes "chassis", string chassis) ∷ [])) ∷ [])
+  pub is_port_name : IsName port
+  pub is_chassis_name : IsName chassis
+
+-- {"packet":{"port":P,"frame":HEX}}
+pub record HasPacket (d : Data) (port : Name) (digits : List ℕ) : Type 0 where
+  pub members : d ≡ object_with ((codes "packet", object_with ((codes "port", string port) ∷ (codes "frame", string digits) ∷ [])) ∷ [])
+  pub is_port_name : IsName port
+
+-- two hexadecimal digits in either case for each byte of such a frame
+pub record SpellsFrame (digits frame : List ℕ) : Type 0 where
+  pub bytes : decode_of digits ≡ Ok frame
+  pub plain : IsPlainFrame frame
+
+-- such a frame enters at the port
+pub record IsPacket (d : Data) (port : Name) (frame : List ℕ) : Type 0 where
+  pub digits : List ℕ
+  pub has_packet : HasPacket d port digits
+  pub spells : SpellsFrame digits frame
+
+-- the value is of a form that is built, and asks for the event
+pub data IsForm (d : Data) (event : Event) : Type 0 where
+  edits : (row : Record) → IsEdit d row → event ≡ Edit (Add row ∷ []) → IsForm d event
+  adds_chassis : (name : Name) → IsChassis d name → event ≡ AddChassis name → IsForm d event
+  binds : (port chassis : Name) → IsBind d port chassis → event ≡ Bind port chassis → IsForm d event
+  sends : (port : Name) (frame : List ℕ) → IsPacket d port frame → event ≡ Packet port frame → IsForm d event
+
+-- the event that a value asks for: NotBuilt where it is of no form
+pub data Reads (d : Data) (event : Event) : Type 0 where
+  is_form : IsForm d event → Reads d event
+  is_none : ((other : Event) → ¬ IsForm d other) → event ≡ NotBuilt → Reads d event
+
+-- the line is a text, and the JSON of the value
+pub record IsReading (line : List ℕ) (d : Data) : Type 0 where
+  pub is_text : IsUtf8 line
+  pub value : read line ≡ Some d
+
+-- the line is the JSON of a value that asks for the event
+pub record ReadsLine (line : List ℕ) (event : Event) : Type 0 where
+  pub value : Data
+  pub reading : IsReading line value
+  pub event_of : Reads value event
