@@ -1,0 +1,3 @@
+-- Lemmas.
+pub mod Going
+pub mod Ranges

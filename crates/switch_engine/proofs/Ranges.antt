@@ -1,0 +1,224 @@
+-- The numbers in the registers, and how far they are from the greatest.
+use Rattle.std.specs.Prelude.{◌≡◌, ◌<◌, ◌⊎◌, ℕ, zero, suc, ◌+◌, ◌-◌, ◌*◌, ◌^◌, ◌%◌, true, false, cond, List, [], ◌∷◌, bit_and, bit_or, refl}
+use Rattle.std.specs.List.{AllByRecursion}
+use Rattle.std.proofs.Math.Dec.{eqb as nat_eq}
+use Rattle.std.proofs.Common.{arith, sym, ap, ◌∙◌, subst, inl, inr}
+use Rattle.std.proofs.lemmas.Nat.{and_le_l, and_assoc, and_mask, or_lt}
+use Rattle.std.specs.Int.Bits.{or_add_and}
+use Rattle.std.proofs.Math.Nat.{mod-eq_of_lt}
+use Rattle.inet_packet.specs.Fits.{Fits, CubeFits}
+use Rattle.inet_packet.specs.declared.cube.Cube.{Cube}
+use Rattle.inet_packet.specs.declared.packet.Packet.{Packet}
+use Rattle.inet_packet.specs.declared.regs.Reg.{Reg}
+use Rattle.inet_packet.specs.declared.regs.Reg.TheVariants.{Dp, InPort, OutPort, Next, ZIn, ZOut, ZDnat, ZSnat, State, Verdict, Tier, Loopback, Tracked, Blocked, Own, Arrived}
+use Rattle.inet_packet.specs.declared.regs.Regs.{Regs}
+use Rattle.flow_table.specs.declared.flow.Flow.{Flow}
+use Rattle.flow_table.specs.declared.flow.FlowOp.{FlowOp}
+use Rattle.flow_table.specs.declared.flow.FlowOp.TheVariants.{Set, Go, Drop, Output}
+use Rattle.switch_engine.specs.declared.actions.End.TheVariants.{Goes}
+use Rattle.switch_engine.specs.Actions.{set_flag, set_reg, outcome}
+use Rattle.switch_engine.specs.Proper.{all_bits, asked, CanBeSet, Rises, Raises, IsProperFlow, rising, raising}
+
+-- each register holds a number that lies within it
+pub record IsInRange (regs : Regs) : Type 0 where
+  pub dp_within : regs.dp < 2 ^ 24
+  pub in_port_within : regs.in_port < 2 ^ 16
+  pub out_port_within : regs.out_port < 2 ^ 16
+  pub next_within : regs.next < 2 ^ 32
+  pub z_in_within : regs.z_in < 2 ^ 16
+  pub z_out_within : regs.z_out < 2 ^ 16
+  pub z_dnat_within : regs.z_dnat < 2 ^ 16
+  pub z_snat_within : regs.z_snat < 2 ^ 16
+  pub state_within : regs.state < 2 ^ 3
+  pub verdict_within : regs.verdict < 2 ^ 3
+  pub tier_within : regs.tier < 2 ^ 3
+  pub flags_within : regs.flags.0 < 2 ^ 8
+
+-- a flag that is set or cleared leaves eight flags
+flags_kept : (flag n flags : ℕ) → flag < 2 ^ 8 → flags < 2 ^ 8 → cond (nat_eq n 0) (bit_and flags (255 - flag)) (bit_or flags flag) < 2 ^ 8
+flags_kept flag n flags small fits = elim (nat_eq n 0) as (λ b. cond b (bit_and flags (255 - flag)) (bit_or flags flag) < 2 ^ 8) [
+  | true ↦ omega (arith, and_le_l flags (255 - flag))
+  | false ↦ or_lt 8 flags flag fits small
+]
+
+-- a register that is set as it can be holds what lies within it
+pub set_in_range : (reg : Reg) (n : ℕ) (regs : Regs) → CanBeSet reg n → IsInRange regs → IsInRange (set_reg reg n regs)
+set_in_range Dp n regs c r = record { dp_within = c.within; in_port_within = r.in_port_within; out_port_within = r.out_port_within; next_within = r.next_within; z_in_within = r.z_in_within; z_out_within = r.z_out_within; z_dnat_within = r.z_dnat_within; z_snat_within = r.z_snat_within; state_within = r.state_within; verdict_within = r.verdict_within; tier_within = r.tier_within; flags_within = r.flags_within }
+set_in_range InPort n regs c r = record { dp_within = r.dp_within; in_port_within = c.within; out_port_within = r.out_port_within; next_within = r.next_within; z_in_within = r.z_in_within; z_out_within = r.z_out_within; z_dnat_within = r.z_dnat_within; z_snat_within = r.z_snat_within; state_within = r.state_within; verdict_within = r.verdict_within; tier_within = r.tier_within; flags_within = r.flags_within }
+set_in_range OutPort n regs c r = record { dp_within = r.dp_within; in_port_within = r.in_port_within; out_port_within = c.within; next_within = r.next_within; z_in_within = r.z_in_within; z_out_within = r.z_out_within; z_dnat_within = r.z_dnat_within; z_snat_within = r.z_snat_within; state_within = r.state_within; verdict_within = r.verdict_within; tier_within = r.tier_within; flags_within = r.flags_within }
+set_in_range Next n regs c r = record { dp_within = r.dp_within; in_port_within = r.in_port_within; out_port_within = r.out_port_within; next_within = c.within; z_in_within = r.z_in_within; z_out_within = r.z_out_within; z_dnat_within = r.z_dnat_within; z_snat_within = r.z_snat_within; state_within = r.state_within; verdict_within = r.verdict_within; tier_within = r.tier_within; flags_within = r.flags_within }
+set_in_range ZIn n regs c r = record { dp_within = r.dp_within; in_port_within = r.in_port_within; out_port_within = r.out_port_within; next_within = r.next_within; z_in_within = c.within; z_out_within = r.z_out_within; z_dnat_within = r.z_dnat_within; z_snat_within = r.z_snat_within; state_within = r.state_within; verdict_within = r.verdict_within; tier_within = r.tier_within; flags_within = r.flags_within }
+set_in_range ZOut n regs c r = record { dp_within = r.dp_within; in_port_within = r.in_port_within; out_port_within = r.out_port_within; next_within = r.next_within; z_in_within = r.z_in_within; z_out_within = c.within; z_dnat_within = r.z_dnat_within; z_snat_within = r.z_snat_within; state_within = r.state_within; verdict_within = r.verdict_within; tier_within = r.tier_within; flags_within = r.flags_within }
+set_in_range ZDnat n regs c r = record { dp_within = r.dp_within; in_port_within = r.in_port_within; out_port_within = r.out_port_within; next_within = r.next_within; z_in_within = r.z_in_within; z_out_within = r.z_out_within; z_dnat_within = c.within; z_snat_within = r.z_snat_within; state_within = r.state_within; verdict_within = r.verdict_within; tier_within = r.tier_within; flags_within = r.flags_within }
+set_in_range ZSnat n regs c r = record { dp_within = r.dp_within; in_port_within = r.in_port_within; out_port_within = r.out_port_within; next_within = r.next_within; z_in_within = r.z_in_within; z_out_within = r.z_out_within; z_dnat_within = r.z_dnat_within; z_snat_within = c.within; state_within = r.state_within; verdict_within = r.verdict_within; tier_within = r.tier_within; flags_within = r.flags_within }
+set_in_range State n regs c r = record { dp_within = r.dp_within; in_port_within = r.in_port_within; out_port_within = r.out_port_within; next_within = r.next_within; z_in_within = r.z_in_within; z_out_within = r.z_out_within; z_dnat_within = r.z_dnat_within; z_snat_within = r.z_snat_within; state_within = c.within; verdict_within = r.verdict_within; tier_within = r.tier_within; flags_within = r.flags_within }
+set_in_range Verdict n regs c r = record { dp_within = r.dp_within; in_port_within = r.in_port_within; out_port_within = r.out_port_within; next_within = r.next_within; z_in_within = r.z_in_within; z_out_within = r.z_out_within; z_dnat_within = r.z_dnat_within; z_snat_within = r.z_snat_within; state_within = r.state_within; verdict_within = c.within; tier_within = r.tier_within; flags_within = r.flags_within }
+set_in_range Tier n regs c r = record { dp_within = r.dp_within; in_port_within = r.in_port_within; out_port_within = r.out_port_within; next_within = r.next_within; z_in_within = r.z_in_within; z_out_within = r.z_out_within; z_dnat_within = r.z_dnat_within; z_snat_within = r.z_snat_within; state_within = r.state_within; verdict_within = r.verdict_within; tier_within = c.within; flags_within = r.flags_within }
+set_in_range Loopback n regs c r = record { dp_within = r.dp_within; in_port_within = r.in_port_within; out_port_within = r.out_port_within; next_within = r.next_within; z_in_within = r.z_in_within; z_out_within = r.z_out_within; z_dnat_within = r.z_dnat_within; z_snat_within = r.z_snat_within; state_within = r.state_within; verdict_within = r.verdict_within; tier_within = r.tier_within; flags_within = flags_kept 1 n regs.flags.0 (omega arith) r.flags_within }
+set_in_range Tracked n regs c r = record { dp_within = r.dp_within; in_port_within = r.in_port_within; out_port_within = r.out_port_within; next_within = r.next_within; z_in_within = r.z_in_within; z_out_within = r.z_out_within; z_dnat_within = r.z_dnat_within; z_snat_within = r.z_snat_within; state_within = r.state_within; verdict_within = r.verdict_within; tier_within = r.tier_within; flags_within = flags_kept 2 n regs.flags.0 (omega arith) r.flags_within }
+set_in_range Blocked n regs c r = record { dp_within = r.dp_within; in_port_within = r.in_port_within; out_port_within = r.out_port_within; next_within = r.next_within; z_in_within = r.z_in_within; z_out_within = r.z_out_within; z_dnat_within = r.z_dnat_within; z_snat_within = r.z_snat_within; state_within = r.state_within; verdict_within = r.verdict_within; tier_within = r.tier_within; flags_within = flags_kept 4 n regs.flags.0 (omega arith) r.flags_within }
+set_in_range Own n regs c r = record { dp_within = r.dp_within; in_port_within = r.in_port_within; out_port_within = r.out_port_within; next_within = r.next_within; z_in_within = r.z_in_within; z_out_within = r.z_out_within; z_dnat_within = r.z_dnat_within; z_snat_within = r.z_snat_within; state_within = r.state_within; verdict_within = r.verdict_within; tier_within = r.tier_within; flags_within = flags_kept 8 n regs.flags.0 (omega arith) r.flags_within }
+set_in_range Arrived n regs c r = record { dp_within = r.dp_within; in_port_within = r.in_port_within; out_port_within = r.out_port_within; next_within = r.next_within; z_in_within = r.z_in_within; z_out_within = r.z_out_within; z_dnat_within = r.z_dnat_within; z_snat_within = r.z_snat_within; state_within = r.state_within; verdict_within = r.verdict_within; tier_within = r.tier_within; flags_within = flags_kept 16 n regs.flags.0 (omega arith) r.flags_within }
+
+-- so do actions that rise
+pub outcome_in_range : (table : ℕ) (ops : List FlowOp) (regs : Regs) → AllByRecursion (Rises table) ops → IsInRange regs → IsInRange (outcome ops regs).1
+outcome_in_range table [] regs h r = r
+outcome_in_range table (Set reg n ∷ ops) regs h r = outcome_in_range table ops (set_reg reg n regs) h.1 (set_in_range reg n regs h.0 r)
+outcome_in_range table (Go next ∷ ops) regs h r = r
+outcome_in_range table (Drop cause ∷ ops) regs h r = r
+outcome_in_range table (Output port ∷ ops) regs h r = r
+
+-- and they go on at later tables
+pub goes_later : (table : ℕ) (ops : List FlowOp) (regs : Regs) (next : ℕ) → AllByRecursion (Rises table) ops → (outcome ops regs).0 ≡ Goes next → table < next
+goes_later table [] regs next h e = cc
+goes_later table (Set reg n ∷ ops) regs next h e = goes_later table ops (set_reg reg n regs) next h.1 e
+goes_later table (Go other ∷ ops) regs next h e = let same : other ≡ next = cc in subst (λ t. table < t) same h.0
+goes_later table (Drop cause ∷ ops) regs next h e = cc
+goes_later table (Output port ∷ ops) regs next h e = cc
+
+-- the word in which the register stands
+abbrev pub word_of : Reg → Regs → ℕ
+word_of Dp regs = regs.dp
+word_of InPort regs = regs.in_port
+word_of OutPort regs = regs.out_port
+word_of Next regs = regs.next
+word_of ZIn regs = regs.z_in
+word_of ZOut regs = regs.z_out
+word_of ZDnat regs = regs.z_dnat
+word_of ZSnat regs = regs.z_snat
+word_of State regs = regs.state
+word_of Verdict regs = regs.verdict
+word_of Tier regs = regs.tier
+word_of Loopback regs = regs.flags.0
+word_of Tracked regs = regs.flags.0
+word_of Blocked regs = regs.flags.0
+word_of Own regs = regs.flags.0
+word_of Arrived regs = regs.flags.0
+
+-- the sum of all words
+abbrev pub total : Regs → ℕ
+total regs = regs.dp + regs.in_port + regs.out_port + regs.next + regs.z_in + regs.z_out + regs.z_dnat + regs.z_snat + regs.state + regs.verdict + regs.tier + regs.flags.0
+
+pub total_small : (regs : Regs) → IsInRange regs → total regs < 2 ^ 33
+total_small regs r = omega arith
+
+-- a cube that holds the packet holds the word of each register
+asked_fits : (reg : Reg) (cube : Cube) (regs : Regs) (packet : Packet) → CubeFits cube regs packet → Fits (asked reg cube) (word_of reg regs)
+asked_fits Dp cube regs packet h = h.place.dp_fits
+asked_fits InPort cube regs packet h = h.place.in_port_fits
+asked_fits OutPort cube regs packet h = h.place.out_port_fits
+asked_fits Next cube regs packet h = h.place.next_fits
+asked_fits ZIn cube regs packet h = h.zones.z_in_fits
+asked_fits ZOut cube regs packet h = h.zones.z_out_fits
+asked_fits ZDnat cube regs packet h = h.zones.z_dnat_fits
+asked_fits ZSnat cube regs packet h = h.zones.z_snat_fits
+asked_fits State cube regs packet h = h.state.state_fits
+asked_fits Verdict cube regs packet h = h.state.verdict_fits
+asked_fits Tier cube regs packet h = h.state.tier_fits
+asked_fits Loopback cube regs packet h = h.state.flags_fits
+asked_fits Tracked cube regs packet h = h.state.flags_fits
+asked_fits Blocked cube regs packet h = h.state.flags_fits
+asked_fits Own cube regs packet h = h.state.flags_fits
+asked_fits Arrived cube regs packet h = h.state.flags_fits
+
+-- where a mask has all bits of a register, the value has the word's bits there
+value_is : (word mask value bits : ℕ) → bit_and word mask ≡ value → bit_and mask bits ≡ bits → bit_and value bits ≡ bit_and word bits
+value_is word mask value bits fits whole = ap (λ v. bit_and v bits) (sym fits) ∙ and_assoc bits word mask ∙ ap (λ b. bit_and word b) whole
+
+-- a number with a word of its own
+number_rises : (k word n bits mask value : ℕ) → bits ≡ 2 ^ k - 1 → word < 2 ^ k → bit_and word mask ≡ value → bit_and mask bits ≡ bits → bit_and value bits < n * 1 → word < n
+number_rises k word n bits mask value is within fits whole greater =
+    let same : bit_and value bits ≡ word % 2 ^ k = value_is word mask value bits fits whole ∙ ap (λ b. bit_and word b) is ∙ and_mask word k in
+    let low : word % 2 ^ k ≡ word = mod-eq_of_lt within in
+    omega arith
+
+-- a flag
+flag_rises : (word n flag mask value : ℕ) → n < 2 → bit_and word mask ≡ value → bit_and mask flag ≡ flag → bit_and value flag < n * flag → word < cond (nat_eq n 0) (bit_and word (255 - flag)) (bit_or word flag)
+flag_rises word zero flag mask value small fits whole greater = absurd (omega arith)
+flag_rises word (suc zero) flag mask value small fits whole greater =
+    let same : bit_and value flag ≡ bit_and word flag = value_is word mask value flag fits whole in
+    let sum : bit_or word flag + bit_and word flag ≡ word + flag = or_add_and word flag in
+    omega arith
+flag_rises word (suc (suc n)) flag mask value small fits whole greater = absurd (omega arith)
+
+-- a flow that raises a register makes the sum greater
+pub total_rises : (reg : Reg) (n : ℕ) (flow : Flow) (regs : Regs) (packet : Packet) → Raises flow reg n → IsInRange regs → CubeFits flow.cube regs packet → total regs < total (set_reg reg n regs)
+total_rises Dp n flow regs packet h r fits =
+    let more : regs.dp < n = number_rises 24 regs.dp n (all_bits Dp) flow.cube.dp.mask flow.cube.dp.value refl r.dp_within fits.place.dp_fits h.whole h.greater in
+    omega arith
+total_rises InPort n flow regs packet h r fits =
+    let more : regs.in_port < n = number_rises 16 regs.in_port n (all_bits InPort) flow.cube.in_port.mask flow.cube.in_port.value refl r.in_port_within fits.place.in_port_fits h.whole h.greater in
+    omega arith
+total_rises OutPort n flow regs packet h r fits =
+    let more : regs.out_port < n = number_rises 16 regs.out_port n (all_bits OutPort) flow.cube.out_port.mask flow.cube.out_port.value refl r.out_port_within fits.place.out_port_fits h.whole h.greater in
+    omega arith
+total_rises Next n flow regs packet h r fits =
+    let more : regs.next < n = number_rises 32 regs.next n (all_bits Next) flow.cube.next.mask flow.cube.next.value refl r.next_within fits.place.next_fits h.whole h.greater in
+    omega arith
+total_rises ZIn n flow regs packet h r fits =
+    let more : regs.z_in < n = number_rises 16 regs.z_in n (all_bits ZIn) flow.cube.z_in.mask flow.cube.z_in.value refl r.z_in_within fits.zones.z_in_fits h.whole h.greater in
+    omega arith
+total_rises ZOut n flow regs packet h r fits =
+    let more : regs.z_out < n = number_rises 16 regs.z_out n (all_bits ZOut) flow.cube.z_out.mask flow.cube.z_out.value refl r.z_out_within fits.zones.z_out_fits h.whole h.greater in
+    omega arith
+total_rises ZDnat n flow regs packet h r fits =
+    let more : regs.z_dnat < n = number_rises 16 regs.z_dnat n (all_bits ZDnat) flow.cube.z_dnat.mask flow.cube.z_dnat.value refl r.z_dnat_within fits.zones.z_dnat_fits h.whole h.greater in
+    omega arith
+total_rises ZSnat n flow regs packet h r fits =
+    let more : regs.z_snat < n = number_rises 16 regs.z_snat n (all_bits ZSnat) flow.cube.z_snat.mask flow.cube.z_snat.value refl r.z_snat_within fits.zones.z_snat_fits h.whole h.greater in
+    omega arith
+total_rises State n flow regs packet h r fits =
+    let more : regs.state < n = number_rises 3 regs.state n (all_bits State) flow.cube.state.mask flow.cube.state.value refl r.state_within fits.state.state_fits h.whole h.greater in
+    omega arith
+total_rises Verdict n flow regs packet h r fits =
+    let more : regs.verdict < n = number_rises 3 regs.verdict n (all_bits Verdict) flow.cube.verdict.mask flow.cube.verdict.value refl r.verdict_within fits.state.verdict_fits h.whole h.greater in
+    omega arith
+total_rises Tier n flow regs packet h r fits =
+    let more : regs.tier < n = number_rises 3 regs.tier n (all_bits Tier) flow.cube.tier.mask flow.cube.tier.value refl r.tier_within fits.state.tier_fits h.whole h.greater in
+    omega arith
+total_rises Loopback n flow regs packet h r fits =
+    let more : regs.flags.0 < (set_flag 1 n regs.flags).0 = flag_rises regs.flags.0 n 1 flow.cube.flags.mask flow.cube.flags.value h.can.within fits.state.flags_fits h.whole h.greater in
+    omega arith
+total_rises Tracked n flow regs packet h r fits =
+    let more : regs.flags.0 < (set_flag 2 n regs.flags).0 = flag_rises regs.flags.0 n 2 flow.cube.flags.mask flow.cube.flags.value h.can.within fits.state.flags_fits h.whole h.greater in
+    omega arith
+total_rises Blocked n flow regs packet h r fits =
+    let more : regs.flags.0 < (set_flag 4 n regs.flags).0 = flag_rises regs.flags.0 n 4 flow.cube.flags.mask flow.cube.flags.value h.can.within fits.state.flags_fits h.whole h.greater in
+    omega arith
+total_rises Own n flow regs packet h r fits =
+    let more : regs.flags.0 < (set_flag 8 n regs.flags).0 = flag_rises regs.flags.0 n 8 flow.cube.flags.mask flow.cube.flags.value h.can.within fits.state.flags_fits h.whole h.greater in
+    omega arith
+total_rises Arrived n flow regs packet h r fits =
+    let more : regs.flags.0 < (set_flag 16 n regs.flags).0 = flag_rises regs.flags.0 n 16 flow.cube.flags.mask flow.cube.flags.value h.can.within fits.state.flags_fits h.whole h.greater in
+    omega arith
+
+less : (table next sum sum_after : ℕ) → (table < next) ⊎ ((next ≡ table) × (sum < sum_after)) → next < 256 → sum < 2 ^ 33 → sum_after < 2 ^ 33 → (256 - next) * 2 ^ 33 + (2 ^ 33 - sum_after) < (256 - table) * 2 ^ 33 + (2 ^ 33 - sum)
+less table next sum sum_after (inl later) small before after = omega arith
+less table next sum sum_after (inr same) small before after = let t = same.0 in let s = same.1 in omega arith
+
+-- how much is left above a table and the registers: a later table, or greater registers, leave less
+abbrev pub left : ℕ → Regs → ℕ
+left table regs = (256 - table) * 2 ^ 33 + (2 ^ 33 - total regs)
+
+-- a proper flow leaves numbers that lie within the registers
+pub proper_in_range : (flow : Flow) (regs : Regs) → IsProperFlow flow → IsInRange regs → IsInRange (outcome flow.ops regs).1
+proper_in_range flow regs (rising h) r = outcome_in_range flow.table flow.ops regs h r
+proper_in_range flow regs (raising reg n h) r =
+    subst (λ ops. IsInRange (outcome ops regs).1) (sym h.only) (set_in_range reg n regs h.can r)
+
+-- and where it goes on, it leaves less
+pub proper_leaves_less : (flow : Flow) (table : ℕ) (regs : Regs) (packet : Packet) (next : ℕ) → IsProperFlow flow → flow.table ≡ table → next < 256 → IsInRange regs → CubeFits flow.cube regs packet → (outcome flow.ops regs).0 ≡ Goes next → left next (outcome flow.ops regs).1 < left table regs
+proper_leaves_less flow table regs packet next (rising h) here small r fits goes =
+    let later : flow.table < next = goes_later flow.table flow.ops regs next h goes in
+    let before : total regs < 2 ^ 33 = total_small regs r in
+    let after : total (outcome flow.ops regs).1 < 2 ^ 33 = total_small _ (outcome_in_range flow.table flow.ops regs h r) in
+    less table next (total regs) (total (outcome flow.ops regs).1) (inl (omega arith)) small before after
+proper_leaves_less flow table regs packet next (raising reg n h) here small r fits goes =
+    let before : total regs < 2 ^ 33 = total_small regs r in
+    let more : total regs < total (set_reg reg n regs) = total_rises reg n flow regs packet h r fits in
+    let after : total (set_reg reg n regs) < 2 ^ 33 = total_small _ (set_in_range reg n regs h.can r) in
+    let goes_to : Goes flow.table ≡ Goes next = ap (λ ops. (outcome ops regs).0) (sym h.only) ∙ goes in
+    let same : flow.table ≡ next = cc in
+    let e : total (outcome flow.ops regs).1 ≡ total (set_reg reg n regs) = ap (λ ops. total (outcome ops regs).1) h.only in
+    let small_after : total (outcome flow.ops regs).1 < 2 ^ 33 = omega arith in
+    less table next (total regs) (total (outcome flow.ops regs).1) (inr (omega arith, omega arith)) small before small_after

@@ -1,0 +1,126 @@
+//! The flows that a packet matches on its way.
+ghost use Rattle.std.specs.Prelude.{◌≡◌, [], IfOk};
+ghost use Rattle.switch_engine.specs.Steps.{IsStep};
+
+use crate::effect::Effect;
+use flow_table::flow::Flow;
+use ovn_base::list::List;
+use ovn_base::memory::NoMemory;
+use ovn_base::name::Name;
+use std::alloc::Global;
+
+/// A flow that a packet matched, and the table in which it did.
+#[derive(PartialEq, Eq, Debug, Drop)]
+pub struct Step {
+    pub table: u8,
+    pub flow: Flow,
+}
+
+impl Step {
+    // The step that matched the flow in the table, with a copy of the flow.
+    pub(crate) fn of(alloc: Global, table: u8, flow: &Flow) -> Result<Self, NoMemory>
+        ensures { IfOk result (IsStep table flow.now) }
+    {
+        let flow = Flow {
+            table: flow.table,
+            priority: flow.priority,
+            rank: flow.rank,
+            cube: flow.cube,
+            ops: List::from_slice(alloc, flow.ops.as_slice())?,
+            cookie: flow.cookie,
+        };
+        Ok(Step { table, flow })
+    }
+
+    /// An equal step in memory of its own.
+    pub fn copy(&self) -> Result<Self, NoMemory>
+        ensures { IfOk result (λ s. s ≡ self.now) }
+    {
+        Ok(Step {
+            table: self.table,
+            flow: self.flow.copy()?,
+        })
+    }
+}
+
+// Equal steps in memory of their own.
+fn copy_steps(steps: &List<Step>) -> Result<List<Step>, NoMemory>
+    ensures { IfOk result (λ s. s ≡ steps.now) }
+{
+    let mut copy = List::new(steps.allocator());
+    'steps: for step in steps.as_slice() {
+        copy.push(step.copy()?)?;
+    }
+    Ok(copy)
+}
+
+/// What a walk begins with.
+#[derive(Clone, Copy, PartialEq, Eq, Debug)]
+pub enum Start {
+    /// A packet at the port.
+    Port(Name),
+}
+
+/// The flows that were matched on a chassis, from one entry.
+#[derive(PartialEq, Eq, Debug, Drop)]
+pub struct Walk {
+    pub chassis: Name,
+    pub start: Start,
+    pub steps: List<Step>,
+}
+
+impl Walk {
+    /// An equal walk in memory of its own.
+    pub fn copy(&self) -> Result<Self, NoMemory>
+        ensures { IfOk result (λ w. w ≡ self.now) }
+    {
+        Ok(Walk {
+            chassis: self.chassis,
+            start: self.start,
+            steps: copy_steps(&self.steps)?,
+        })
+    }
+}
+
+/// What packets came to.
+#[derive(PartialEq, Eq, Debug, Drop)]
+pub struct RunOut {
+    /// The effects, in the order in which they happened.
+    pub effects: List<Effect>,
+    /// The flows that were matched, in order.
+    pub walk: List<Step>,
+}
+
+impl RunOut {
+    /// Nothing yet.
+    pub fn new(alloc: Global) -> Self
+        ensures effects { result.effects ≡ [] }
+        ensures walk { result.walk ≡ [] }
+    {
+        RunOut {
+            effects: List::new(alloc),
+            walk: List::new(alloc),
+        }
+    }
+
+    /// Equal effects and steps in memory of their own.
+    pub fn copy(&self) -> Result<Self, NoMemory>
+        ensures { IfOk result (λ o. o ≡ self.now) }
+    {
+        Ok(RunOut {
+            effects: copy_effects(&self.effects)?,
+            walk: copy_steps(&self.walk)?,
+        })
+    }
+}
+
+// Equal effects in memory of their own.
+fn copy_effects(effects: &List<Effect>) -> Result<List<Effect>, NoMemory>
+    ensures { IfOk result (λ e. e ≡ effects.now) }
+{
+    let mut copy = List::new(effects.allocator());
+    'effects: for effect in effects.as_slice() {
+        copy.push(effect.copy()?)?;
+    }
+    Ok(copy)
+}
