@@ -1,0 +1,51 @@
+-- The lines of events, byte by byte.
+use Rattle.std.specs.Prelude.{ℕ, List, ◌++◌, codes, decimal, flat_map}
+use Rattle.hex.specs.Hex.{encode_lower}
+use Rattle.inet_packet.specs.Frame.{frame_of}
+use Rattle.flow_table.specs.declared.flow.Cause.{Cause}
+use Rattle.flow_table.specs.declared.flow.Cause.TheVariants.{UnknownAddress, Loopback, Unbound}
+use Rattle.edit_reader.specs.declared.event.ReadRefusal.TheVariants.{TooLong, BadJson}
+use Rattle.switch_engine.specs.declared.effect.NetEffect.{NetEffect}
+use Rattle.switch_engine.specs.declared.effect.NetEffect.TheVariants.{DatapathKey, PortKey, Out, Drop}
+use Rattle.event_lines.specs.declared.refusal.Refusal.{Refusal}
+use Rattle.event_lines.specs.declared.refusal.Refusal.TheVariants.{Read, NoSuch, NotBuilt}
+
+-- why a packet was dropped
+abbrev pub cause_name : Cause → List ℕ
+cause_name UnknownAddress = codes "unknown-address"
+cause_name Loopback = codes "loopback"
+cause_name Unbound = codes "unbound"
+
+-- what a line says of an effect
+abbrev pub words_of : NetEffect → List ℕ
+words_of (DatapathKey name key) = codes "key datapath " ++ (name ++ (codes " " ++ decimal key))
+words_of (PortKey name key) = codes "key port " ++ (name ++ (codes " " ++ decimal key))
+words_of (Out port packet) = codes "out " ++ (port ++ (codes " " ++ encode_lower (frame_of packet)))
+words_of (Drop datapath port cause) = codes "drop " ++ (datapath ++ (codes " " ++ (port ++ (codes " " ++ cause_name cause))))
+
+-- one line of the event of this number
+abbrev pub line_of : ℕ → List ℕ → List ℕ
+line_of number words = decimal number ++ (codes " " ++ (words ++ codes "\n"))
+
+-- the last line of an accepted event
+abbrev pub ok_line : ℕ → ℕ → List ℕ
+ok_line number walks = line_of number (codes "ok walks=" ++ decimal walks)
+
+-- the lines of an accepted event
+abbrev pub lines_of : ℕ → List NetEffect → ℕ → List ℕ
+lines_of number effects walks = flat_map (λ effect. line_of number (words_of effect)) effects ++ ok_line number walks
+
+-- the name of a refusal, and what it is about
+abbrev pub refusal_words : Refusal → List ℕ
+refusal_words (Read TooLong) = codes "TooLong"
+refusal_words (Read BadJson) = codes "BadJson"
+refusal_words (NoSuch name) = codes "NoSuch " ++ name
+refusal_words NotBuilt = codes "NotBuilt"
+
+-- the line of a refused event
+abbrev pub refused_line : ℕ → Refusal → List ℕ
+refused_line number refusal = line_of number (codes "refused " ++ refusal_words refusal)
+
+-- the last line of all
+abbrev pub end_line : ℕ → ℕ → ℕ → ℕ → List ℕ
+end_line events accepted refused waiting = codes "end events=" ++ (decimal events ++ (codes " accepted=" ++ (decimal accepted ++ (codes " refused=" ++ (decimal refused ++ (codes " waiting=" ++ (decimal waiting ++ codes "\n")))))))

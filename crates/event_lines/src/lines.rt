@@ -1,0 +1,160 @@
+//! The lines of events.
+ghost use Rattle.std.specs.Prelude.{◌≡◌, ◌++◌, codes, decimal, OnOk, OnErr};
+ghost use Rattle.event_lines.specs.Lines.{cause_name, words_of, line_of, ok_line, lines_of, refusal_words, refused_line, end_line};
+ghost use Rattle.event_lines.specs.Text.{StartsWith};
+
+use crate::put::{put, put_frame, put_number};
+use crate::refusal::Refusal;
+use edit_reader::event::ReadRefusal;
+use flow_table::flow::Cause;
+use ovn_base::memory::NoMemory;
+use ovn_base::name::Name;
+use switch_engine::effect::NetEffect;
+
+// What is counted, and the count.
+fn put_count(counted: &[u8], count: u64, out: &mut Vec<u8>) -> Result<(), NoMemory>
+    ensures ok { OnOk result (out.new.items ≡ out.old.items ++ (counted.now ++ decimal count)) }
+    ensures err { OnErr result (StartsWith out.new.items out.old.items) }
+{
+    put(counted, out)?;
+    put_number(count, out)
+}
+
+fn put_cause(cause: Cause, out: &mut Vec<u8>) -> Result<(), NoMemory>
+    ensures ok { OnOk result (out.new.items ≡ out.old.items ++ cause_name cause) }
+    ensures err { OnErr result (StartsWith out.new.items out.old.items) }
+{
+    match cause {
+        Cause::UnknownAddress => put(b"unknown-address", out),
+        Cause::Loopback => put(b"loopback", out),
+        Cause::Unbound => put(b"unbound", out),
+    }
+}
+
+// The kind, the name and the key.
+fn put_key(kind: &[u8], name: &Name, key: u64, out: &mut Vec<u8>) -> Result<(), NoMemory>
+    ensures ok { OnOk result (out.new.items ≡ out.old.items ++ (kind.now ++ (name.now ++ (codes " " ++ decimal key)))) }
+    ensures err { OnErr result (StartsWith out.new.items out.old.items) }
+{
+    put(kind, out)?;
+    put(name.text(), out)?;
+    put(b" ", out)?;
+    put_number(key, out)
+}
+
+fn put_words(effect: &NetEffect, out: &mut Vec<u8>) -> Result<(), NoMemory>
+    ensures ok { OnOk result (out.new.items ≡ out.old.items ++ words_of effect.now) }
+    ensures err { OnErr result (StartsWith out.new.items out.old.items) }
+{
+    match effect {
+        NetEffect::DatapathKey { name, key } => {
+            put_key(b"key datapath ", name, u64::from(*key), out)
+        }
+        NetEffect::PortKey { name, key } => put_key(b"key port ", name, u64::from(*key), out),
+        NetEffect::Out { port, packet } => {
+            put(b"out ", out)?;
+            put(port.text(), out)?;
+            put(b" ", out)?;
+            put_frame(packet, out)
+        }
+        NetEffect::Drop {
+            datapath,
+            port,
+            cause,
+        } => {
+            put(b"drop ", out)?;
+            put(datapath.text(), out)?;
+            put(b" ", out)?;
+            put(port.text(), out)?;
+            put(b" ", out)?;
+            put_cause(*cause, out)
+        }
+    }
+}
+
+/// Adds the line of an effect of the event of this number. Without memory the text keeps what it held, and may have a
+/// part of the line behind it.
+pub fn line(effect: &NetEffect, number: u64, out: &mut Vec<u8>) -> Result<(), NoMemory>
+    ensures ok { OnOk result (out.new.items ≡ out.old.items ++ line_of number (words_of effect.now)) }
+    ensures err { OnErr result (StartsWith out.new.items out.old.items) }
+{
+    put_number(number, out)?;
+    put(b" ", out)?;
+    put_words(effect, out)?;
+    put(b"\n", out)
+}
+
+// The last line of an accepted event.
+fn put_ok(walks: usize, number: u64, out: &mut Vec<u8>) -> Result<(), NoMemory>
+    ensures ok { OnOk result (out.new.items ≡ out.old.items ++ ok_line number walks) }
+    ensures err { OnErr result (StartsWith out.new.items out.old.items) }
+{
+    put_number(number, out)?;
+    put(b" ", out)?;
+    put_count(b"ok walks=", walks as u64, out)?;
+    put(b"\n", out)
+}
+
+/// Adds the lines of an accepted event: one for each effect, and the last with the number of flows that were matched.
+/// Without memory the text keeps what it held, and may have a part of the lines behind it.
+pub fn accepted(
+    effects: &[NetEffect],
+    walks: usize,
+    number: u64,
+    out: &mut Vec<u8>,
+) -> Result<(), NoMemory>
+    ensures ok { OnOk result (out.new.items ≡ out.old.items ++ lines_of number effects.now walks) }
+    ensures err { OnErr result (StartsWith out.new.items out.old.items) }
+{
+    'effects: for effect in effects {
+        line(effect, number, out)?;
+    }
+    put_ok(walks, number, out)
+}
+
+fn put_refusal(refusal: &Refusal, out: &mut Vec<u8>) -> Result<(), NoMemory>
+    ensures ok { OnOk result (out.new.items ≡ out.old.items ++ refusal_words refusal.now) }
+    ensures err { OnErr result (StartsWith out.new.items out.old.items) }
+{
+    match refusal {
+        Refusal::Read(ReadRefusal::TooLong) => put(b"TooLong", out),
+        Refusal::Read(ReadRefusal::BadJson) => put(b"BadJson", out),
+        Refusal::NoSuch(name) => {
+            put(b"NoSuch ", out)?;
+            put(name.text(), out)
+        }
+        Refusal::NotBuilt => put(b"NotBuilt", out),
+    }
+}
+
+/// Adds the line of a refused event of this number. Without memory the text keeps what it held, and may have a part of the
+/// line behind it.
+pub fn refused(refusal: &Refusal, number: u64, out: &mut Vec<u8>) -> Result<(), NoMemory>
+    ensures ok { OnOk result (out.new.items ≡ out.old.items ++ refused_line number refusal.now) }
+    ensures err { OnErr result (StartsWith out.new.items out.old.items) }
+{
+    put_number(number, out)?;
+    put(b" ", out)?;
+    put(b"refused ", out)?;
+    put_refusal(refusal, out)?;
+    put(b"\n", out)
+}
+
+/// Adds the last line of all: how many events there were, how many of them were accepted and refused, and how many
+/// frames wait. Without memory the text keeps what it held, and may have a part of the line behind it.
+pub fn end(
+    events: u64,
+    accepted: u64,
+    refused: u64,
+    waiting: usize,
+    out: &mut Vec<u8>,
+) -> Result<(), NoMemory>
+    ensures ok { OnOk result (out.new.items ≡ out.old.items ++ end_line events accepted refused waiting) }
+    ensures err { OnErr result (StartsWith out.new.items out.old.items) }
+{
+    put_count(b"end events=", events, out)?;
+    put_count(b" accepted=", accepted, out)?;
+    put_count(b" refused=", refused, out)?;
+    put_count(b" waiting=", waiting as u64, out)?;
+    put(b"\n", out)
+}

@@ -1,0 +1,46 @@
+//! Pieces of a text, put at its end.
+ghost use Rattle.std.specs.Prelude.{◌≡◌, ◌++◌, decimal, OnOk, OnErr};
+ghost use Rattle.hex.specs.Hex.{encode_lower};
+ghost use Rattle.inet_packet.specs.Frame.{frame_of};
+ghost use Rattle.event_lines.specs.Text.{StartsWith};
+
+use inet_packet::encode::encode;
+use inet_packet::packet::Packet;
+use itoa::Buffer;
+use ovn_base::memory::NoMemory;
+
+// The bytes.
+pub fn put(bytes: &[u8], out: &mut Vec<u8>) -> Result<(), NoMemory>
+    ensures ok { OnOk result (out.new.items ≡ out.old.items ++ bytes.now) }
+    ensures err { OnErr result (StartsWith out.new.items out.old.items) }
+{
+    out.extend_from_slice(bytes)?;
+    Ok(())
+}
+
+// The digits of the number, in base 10.
+pub fn put_number(number: u64, out: &mut Vec<u8>) -> Result<(), NoMemory>
+    ensures ok { OnOk result (out.new.items ≡ out.old.items ++ decimal number) }
+    ensures err { OnErr result (StartsWith out.new.items out.old.items) }
+{
+    put(Buffer::new().format(number).as_bytes(), out)
+}
+
+// The hexadecimal digits of the bytes, in lower case.
+fn put_hex(bytes: &[u8], out: &mut Vec<u8>) -> Result<(), NoMemory>
+    ensures ok { OnOk result (out.new.items ≡ out.old.items ++ encode_lower bytes.now) }
+    ensures err { OnErr result (StartsWith out.new.items out.old.items) }
+{
+    let text = hex::encode(*out.allocator(), bytes)?;
+    put(text.as_bytes(), out)
+}
+
+// The frame of the packet, in such digits.
+pub fn put_frame(packet: &Packet, out: &mut Vec<u8>) -> Result<(), NoMemory>
+    ensures ok { OnOk result (out.new.items ≡ out.old.items ++ encode_lower (frame_of packet.now)) }
+    ensures err { OnErr result (StartsWith out.new.items out.old.items) }
+{
+    let mut bytes = Vec::new(*out.allocator());
+    encode(packet, &mut bytes)?;
+    put_hex(&bytes, out)
+}
