@@ -1,0 +1,298 @@
+-- What stays true of the records, the keys, the bindings and the births, when a record comes, a port is bound, a chassis comes.
+use Rattle.std.specs.Prelude.{◌≡◌, ◌≢◌, ◌≤◌, ◌<◌, ◌^◌, ◌⊎◌, ℕ, List, [], ◌∷◌, Some, None, Option, IsSome, is_some, length, map, refl}
+use mathlib.Core.Path.{sym, ap, subst, ◌∙◌}
+use mathlib.Core.Logic.{inl, inr}
+use native.Mathlib.Omega.{arith}
+use Rattle.std.proofs.lemmas.Option.{none-some}
+use Rattle.ovn_base.specs.Among.{Among}
+use Rattle.ovn_base.specs.Address.{IsMac}
+use Rattle.ovn_base.specs.declared.address.Mac.{Mac}
+use Rattle.ovn_base.specs.declared.name.Name.{Name}
+use Rattle.ovn_base.proofs.AmongLaws.{among_cases, among_none}
+use Rattle.flow_table.specs.Change.{EachOnce}
+use Rattle.nb_records.specs.Network.{Network, at, put}
+use Rattle.nb_records.proofs.Puts.{put_there, put_other, put_cases, put_sorted, one_or_two}
+use Rattle.nb_records.specs.declared.record.PortAddress.{PortAddress}
+use Rattle.nb_records.specs.declared.record.Switch.{Switch}
+use Rattle.nb_records.specs.declared.record.SwitchPort.{SwitchPort}
+use Rattle.world_core.specs.declared.keys.DatapathKey.{DatapathKey}
+use Rattle.world_core.specs.declared.keys.PortKey.{PortKey}
+use Rattle.world_core.specs.State.{State, Keys, events_of}
+use Rattle.world_core.specs.Addresses.{mac_of, HasMac}
+use Rattle.world_core.specs.New.{AreNew}
+use Rattle.world_core.specs.Sound.{IsValid, HaveKeys, AreBound, AreBorn}
+use Rattle.world_core.proofs.Found.{some_of, is_some_of}
+
+-- what is there at a name stays there, whatever is put
+pub some_kept : {X : Type 0} (entries : List (Name × X)) (name : Name) (value : X) (q : Name) → IsSome (at entries q) → IsSome (at (put entries name value) q)
+some_kept entries name value q was = elim (one_or_two q name) [
+  | inl same ↦ is_some_of (at (put entries name value) q) value (ap (λ n. at (put entries name value) n) same ∙ put_there entries name value)
+  | inr other ↦ ap (λ o. is_some o) (put_other entries name value q other) ∙ was
+]
+
+-- and what was put
+pub some_put : {X : Type 0} (entries : List (Name × X)) (name : Name) (value : X) → IsSome (at (put entries name value) name)
+some_put entries name value = is_some_of (at (put entries name value) name) value (put_there entries name value)
+
+-- ---- a switch comes
+
+module _ (net : Network) (name : Name) (switch : Switch) where
+  pub switch_valid : IsValid net → at net.switches name ≡ None → switch.name ≡ name → IsValid (record net { switches = put net.switches name switch })
+  switch_valid valid absent named = record {
+    switches_sorted = put_sorted net.switches name switch valid.switches_sorted;
+    ports_sorted = valid.ports_sorted;
+    switch_names = λ a s found. elim (put_cases net.switches name switch a s found) [
+      | inl new ↦ ap (λ (w : Switch). w.name) new.1 ∙ named ∙ sym new.0
+      | inr old ↦ valid.switch_names a s old.1
+    ];
+    port_names = valid.port_names;
+    on_switch = λ q port found. some_kept net.switches name switch port.switch (valid.on_switch q port found);
+    macs = valid.macs;
+    once = valid.once;
+    apart = valid.apart;
+  }
+
+  -- with a key that no other has
+  pub switch_keys : (keys : Keys) (key : DatapathKey) → HaveKeys net keys → key.birth ≡ switch.birth → 1 ≤ key.key → key.key < 2 ^ 24
+      → ((a : Name) (k : DatapathKey) → at keys.datapaths a ≡ Some k → k.key ≢ key.key)
+      → HaveKeys (record net { switches = put net.switches name switch }) (record keys { datapaths = put keys.datapaths name key })
+  switch_keys keys key have born low high free = record {
+    datapaths_sorted = put_sorted keys.datapaths name key have.datapaths_sorted;
+    ports_sorted = have.ports_sorted;
+    datapath_has = λ a s found. elim (put_cases net.switches name switch a s found) [
+      | inl new ↦ (
+        key,
+        ap (λ n. at (put keys.datapaths name key) n) new.0 ∙ put_there keys.datapaths name key,
+        born ∙ sym (ap (λ (w : Switch). w.birth) new.1),
+      )
+      | inr old ↦ let own = have.datapath_has a s old.1 in (own.0, put_other keys.datapaths name key a old.0 ∙ own.1, own.2)
+    ];
+    datapath_of = λ a k has. elim (put_cases keys.datapaths name key a k has) [
+      | inl new ↦ subst (λ n. IsSome (at (put net.switches name switch) n)) (sym new.0) (some_put net.switches name switch)
+      | inr old ↦ some_kept net.switches name switch a (have.datapath_of a k old.1)
+    ];
+    datapath_fits = λ a k has. elim (put_cases keys.datapaths name key a k has) [
+      | inl new ↦ subst (λ (w : DatapathKey). (1 ≤ w.key) × (w.key < 2 ^ 24)) (sym new.1) (low, high)
+      | inr old ↦ have.datapath_fits a k old.1
+    ];
+    datapaths_apart = λ a b j k at_a at_b same. elim (put_cases keys.datapaths name key a j at_a) [
+      | inl new ↦ elim (put_cases keys.datapaths name key b k at_b) [
+        | inl also ↦ new.0 ∙ sym also.0
+        | inr old ↦ absurd (free b k old.1 (sym same ∙ ap (λ (w : DatapathKey). w.key) new.1))
+      ]
+      | inr old ↦ elim (put_cases keys.datapaths name key b k at_b) [
+        | inl new ↦ absurd (free a j old.1 (same ∙ ap (λ (w : DatapathKey). w.key) new.1))
+        | inr also ↦ have.datapaths_apart a b j k old.1 also.1 same
+      ]
+    ];
+    port_has = have.port_has;
+    port_of = have.port_of;
+    port_fits = have.port_fits;
+    ports_apart = have.ports_apart;
+  }
+
+-- ---- a port comes
+
+-- one entry
+pub new_entry : (net : Network) (port : SwitchPort) (entry : PortAddress) → port.addresses ≡ entry ∷ [] → IsMac (mac_of entry)
+    → ((q : Name) (other : SwitchPort) → at net.ports q ≡ Some other → other.switch ≡ port.switch → (mac : Mac) → HasMac other.addresses mac → ¬ HasMac port.addresses mac) → AreNew net port
+new_entry net port entry one mac apart = record {
+  macs = λ e m. elim (among_cases e entry [] (subst (λ l. Among e l) one m)) [ inl same ↦ subst (λ w. IsMac (mac_of w)) (sym same) mac | inr n ↦ absurd (among_none e n) ];
+  once = subst (λ l. EachOnce (map (λ w. mac_of w) l)) (sym one) (λ m. among_none (mac_of entry) m, tt);
+  apart = apart;
+}
+
+module _ (net : Network) (name : Name) (port : SwitchPort) where
+  pub port_valid : IsValid net → at net.ports name ≡ None → port.name ≡ name → IsSome (at net.switches port.switch) → AreNew net port → IsValid (record net { ports = put net.ports name port })
+  port_valid valid absent named on new = record {
+    switches_sorted = valid.switches_sorted;
+    ports_sorted = put_sorted net.ports name port valid.ports_sorted;
+    switch_names = valid.switch_names;
+    port_names = λ q p found. elim (put_cases net.ports name port q p found) [
+      | inl is ↦ ap (λ (w : SwitchPort). w.name) is.1 ∙ named ∙ sym is.0
+      | inr old ↦ valid.port_names q p old.1
+    ];
+    on_switch = λ q p found. elim (put_cases net.ports name port q p found) [
+      | inl is ↦ subst (λ (w : SwitchPort). IsSome (at net.switches w.switch)) (sym is.1) on
+      | inr old ↦ valid.on_switch q p old.1
+    ];
+    macs = λ q p entry found m. elim (put_cases net.ports name port q p found) [
+      | inl is ↦ new.macs entry (subst (λ (w : SwitchPort). Among entry w.addresses) is.1 m)
+      | inr old ↦ valid.macs q p entry old.1 m
+    ];
+    once = λ q p found. elim (put_cases net.ports name port q p found) [
+      | inl is ↦ subst (λ (w : SwitchPort). EachOnce (map (λ entry. mac_of entry) w.addresses)) (sym is.1) new.once
+      | inr old ↦ valid.once q p old.1
+    ];
+    apart = λ p q ours theirs mac at_p at_q same has also. elim (put_cases net.ports name port p ours at_p) [
+      | inl is ↦ elim (put_cases net.ports name port q theirs at_q) [
+        | inl too ↦ is.0 ∙ sym too.0
+        | inr old ↦
+            absurd (new.apart q theirs old.1 (sym same ∙ ap (λ (w : SwitchPort). w.switch) is.1) mac also (subst (λ (w : SwitchPort). HasMac w.addresses mac) is.1 has))
+      ]
+      | inr old ↦ elim (put_cases net.ports name port q theirs at_q) [
+        | inl is ↦ absurd (new.apart p ours old.1 (same ∙ ap (λ (w : SwitchPort). w.switch) is.1) mac has (subst (λ (w : SwitchPort). HasMac w.addresses mac) is.1 also))
+        | inr too ↦ valid.apart p q ours theirs mac old.1 too.1 same has also
+      ]
+    ];
+  }
+
+  -- with a key that no other of its switch has
+  pub port_keys : (keys : Keys) (key : PortKey) → HaveKeys net keys → key.birth ≡ port.birth → key.datapath ≡ port.switch → 1 ≤ key.key → key.key < 2 ^ 15
+      → ((q : Name) (k : PortKey) → at keys.ports q ≡ Some k → k.datapath ≡ key.datapath → k.key ≢ key.key)
+      → HaveKeys (record net { ports = put net.ports name port }) (record keys { ports = put keys.ports name key })
+  port_keys keys key have born on low high free = record {
+    datapaths_sorted = have.datapaths_sorted;
+    ports_sorted = put_sorted keys.ports name key have.ports_sorted;
+    datapath_has = have.datapath_has;
+    datapath_of = have.datapath_of;
+    datapath_fits = have.datapath_fits;
+    datapaths_apart = have.datapaths_apart;
+    port_has = λ q p found. elim (put_cases net.ports name port q p found) [
+      | inl is ↦ (
+        key,
+        ap (λ n. at (put keys.ports name key) n) is.0 ∙ put_there keys.ports name key,
+        born ∙ sym (ap (λ (w : SwitchPort). w.birth) is.1),
+        on ∙ sym (ap (λ (w : SwitchPort). w.switch) is.1),
+      )
+      | inr old ↦ let own = have.port_has q p old.1 in (own.0, put_other keys.ports name key q old.0 ∙ own.1, own.2, own.3)
+    ];
+    port_of = λ q k has. elim (put_cases keys.ports name key q k has) [
+      | inl is ↦ subst (λ n. IsSome (at (put net.ports name port) n)) (sym is.0) (some_put net.ports name port)
+      | inr old ↦ some_kept net.ports name port q (have.port_of q k old.1)
+    ];
+    port_fits = λ q k has. elim (put_cases keys.ports name key q k has) [
+      | inl is ↦ subst (λ (w : PortKey). (1 ≤ w.key) × (w.key < 2 ^ 15)) (sym is.1) (low, high)
+      | inr old ↦ have.port_fits q k old.1
+    ];
+    ports_apart = λ p q j k at_p at_q together same. elim (put_cases keys.ports name key p j at_p) [
+      | inl is ↦ elim (put_cases keys.ports name key q k at_q) [
+        | inl too ↦ is.0 ∙ sym too.0
+        | inr old ↦ absurd (free q k old.1 (sym together ∙ ap (λ (w : PortKey). w.datapath) is.1) (sym same ∙ ap (λ (w : PortKey). w.key) is.1))
+      ]
+      | inr old ↦ elim (put_cases keys.ports name key q k at_q) [
+        | inl is ↦ absurd (free p j old.1 (together ∙ ap (λ (w : PortKey). w.datapath) is.1) (same ∙ ap (λ (w : PortKey). w.key) is.1))
+        | inr too ↦ have.ports_apart p q j k old.1 too.1 together same
+      ]
+    ];
+  }
+
+-- ---- bindings
+
+module _ (m n : State) (zones : List (Name × ℕ)) where
+  -- bindings hold on to ports that stay, and to chassis that stay
+  pub bound_kept : AreBound m zones → n.bindings ≡ m.bindings → ((q : Name) → IsSome (at m.net.ports q) → IsSome (at n.net.ports q)) → ((c : Name) → Among c m.chassis → Among c n.chassis) → length n.chassis ≤ 1
+      → AreBound n zones
+  bound_kept bound same ports chassis one = record {
+    port_there = λ q c e. ports q (bound.port_there q c (before q (Some c) e));
+    chassis_there = λ q c e. chassis c (bound.chassis_there q c (before q (Some c) e));
+    one_chassis = one;
+    has_zone = λ q c e. bound.has_zone q c (before q (Some c) e);
+    zone_of = λ q z e. subst (λ l. IsSome (at l q)) (sym same) (bound.zone_of q z e);
+    zone_fits = bound.zone_fits;
+    zones_apart = bound.zones_apart;
+  }
+    where
+      before : (q : Name) (o : Option Name) → at n.bindings q ≡ o → at m.bindings q ≡ o
+      before q o e = ap (λ l. at l q) (sym same) ∙ e
+
+-- a port is bound to a chassis, and takes a zone that no other port has
+pub bound_fresh : (m n : State) (zones : List (Name × ℕ)) (p c : Name) (zone : ℕ) → AreBound m zones → n.net ≡ m.net → n.chassis ≡ m.chassis → n.bindings ≡ put m.bindings p c → IsSome (at m.net.ports p) → Among c m.chassis
+    → 1 ≤ zone → zone < 2 ^ 16 → ((q : Name) (z : ℕ) → q ≢ p → at zones q ≡ Some z → z ≢ zone) → AreBound n (put zones p zone)
+bound_fresh m n zones p c zone bound net chassis bindings port known low high free = record {
+  port_there = λ q d e. subst (λ w. IsSome (at w.ports q)) (sym net) (elim (bound_cases q d e) [
+    | inl is ↦ subst (λ a. IsSome (at m.net.ports a)) (sym is.0) port
+    | inr old ↦ bound.port_there q d old.1
+  ]);
+  chassis_there = λ q d e. subst (λ l. Among d l) (sym chassis) (elim (bound_cases q d e) [
+    | inl is ↦ subst (λ a. Among a m.chassis) (sym is.1) known
+    | inr old ↦ bound.chassis_there q d old.1
+  ]);
+  one_chassis = subst (λ l. length l ≤ 1) (sym chassis) bound.one_chassis;
+  has_zone = λ q d e. elim (bound_cases q d e) [
+    | inl is ↦ subst (λ a. IsSome (at (put zones p zone) a)) (sym is.0) (some_put zones p zone)
+    | inr old ↦ some_kept zones p zone q (bound.has_zone q d old.1)
+  ];
+  zone_of = λ q z e. subst (λ l. IsSome (at l q)) (sym bindings) (elim (put_cases zones p zone q z e) [
+    | inl is ↦ subst (λ a. IsSome (at (put m.bindings p c) a)) (sym is.0) (some_put m.bindings p c)
+    | inr old ↦ some_kept m.bindings p c q (bound.zone_of q z old.1)
+  ]);
+  zone_fits = λ q z e. elim (put_cases zones p zone q z e) [
+    | inl is ↦ subst (λ w. (1 ≤ w) × (w < 2 ^ 16)) (sym is.1) (low, high)
+    | inr old ↦ bound.zone_fits q z old.1
+  ];
+  zones_apart = λ a b z at_a at_b. elim (put_cases zones p zone a z at_a) [
+    | inl is ↦ elim (put_cases zones p zone b z at_b) [
+      | inl too ↦ is.0 ∙ sym too.0
+      | inr old ↦ absurd (free b z old.0 old.1 is.1)
+    ]
+    | inr old ↦ elim (put_cases zones p zone b z at_b) [
+      | inl is ↦ absurd (free a z old.0 old.1 is.1)
+      | inr too ↦ bound.zones_apart a b z old.1 too.1
+    ]
+  ];
+}
+  where
+    bound_cases : (q d : Name) → at n.bindings q ≡ Some d → ((q ≡ p) × (d ≡ c)) ⊎ ((q ≢ p) × (at m.bindings q ≡ Some d))
+    bound_cases q d e = put_cases m.bindings p c q d (ap (λ l. at l q) (sym bindings) ∙ e)
+
+-- a port that is bound is bound anew, and keeps its zone
+pub bound_again : (m n : State) (zones : List (Name × ℕ)) (p c : Name) → AreBound m zones → n.net ≡ m.net → n.chassis ≡ m.chassis → n.bindings ≡ put m.bindings p c → IsSome (at m.bindings p) → Among c m.chassis → AreBound n zones
+bound_again m n zones p c bound net chassis bindings was known =
+    let old = some_of (at m.bindings p) was in
+    record {
+      port_there = λ q d e. subst (λ w. IsSome (at w.ports q)) (sym net) (elim (bound_cases q d e) [
+        | inl is ↦ subst (λ a. IsSome (at m.net.ports a)) (sym is.0) (bound.port_there p old.0 old.1)
+        | inr rest ↦ bound.port_there q d rest.1
+      ]);
+      chassis_there = λ q d e. subst (λ l. Among d l) (sym chassis) (elim (bound_cases q d e) [
+        | inl is ↦ subst (λ a. Among a m.chassis) (sym is.1) known
+        | inr rest ↦ bound.chassis_there q d rest.1
+      ]);
+      one_chassis = subst (λ l. length l ≤ 1) (sym chassis) bound.one_chassis;
+      has_zone = λ q d e. elim (bound_cases q d e) [
+        | inl is ↦ subst (λ a. IsSome (at zones a)) (sym is.0) (bound.has_zone p old.0 old.1)
+        | inr rest ↦ bound.has_zone q d rest.1
+      ];
+      zone_of = λ q z e. subst (λ l. IsSome (at l q)) (sym bindings) (some_kept m.bindings p c q (bound.zone_of q z e));
+      zone_fits = bound.zone_fits;
+      zones_apart = bound.zones_apart;
+    }
+  where
+    bound_cases : (q d : Name) → at n.bindings q ≡ Some d → ((q ≡ p) × (d ≡ c)) ⊎ ((q ≢ p) × (at m.bindings q ≡ Some d))
+    bound_cases q d e = put_cases m.bindings p c q d (ap (λ l. at l q) (sym bindings) ∙ e)
+
+-- a port that isn't bound has no zone
+pub no_zone : (m : State) (zones : List (Name × ℕ)) (p : Name) → AreBound m zones → at m.bindings p ≡ None → at zones p ≡ None
+no_zone m zones p bound free = by (at zones p) refl
+  where
+    by : (o : Option ℕ) → at zones p ≡ o → at zones p ≡ None
+    by None e = e
+    by (Some z) e = let s = some_of (at m.bindings p) (bound.zone_of p z e) in absurd (none-some s.0 (sym free ∙ s.1))
+
+-- ---- births
+
+module _ (m n : State) (born : AreBorn m) (later : events_of m ≤ events_of n) where
+  pub born_kept : n.net ≡ m.net → AreBorn n
+  born_kept net = record {
+    switches = λ a s e. let old : s.birth.0 ≤ events_of m = born.switches a s (ap (λ (w : Network). at w.switches a) (sym net) ∙ e) in omega (arith, old, later);
+    ports = λ q p e. let old : p.birth.0 ≤ events_of m = born.ports q p (ap (λ (w : Network). at w.ports q) (sym net) ∙ e) in omega (arith, old, later);
+  }
+
+  pub born_switch : (name : Name) (switch : Switch) → n.net ≡ record m.net { switches = put m.net.switches name switch } → switch.birth.0 ≤ events_of n → AreBorn n
+  born_switch name switch net in_time = record {
+    switches = λ a s e. elim (put_cases m.net.switches name switch a s (ap (λ (w : Network). at w.switches a) (sym net) ∙ e)) [
+      | inl is ↦ subst (λ (w : Switch). w.birth.0 ≤ events_of n) (sym is.1) in_time
+      | inr rest ↦ let old : s.birth.0 ≤ events_of m = born.switches a s rest.1 in omega (arith, old, later)
+    ];
+    ports = λ q p e. let old : p.birth.0 ≤ events_of m = born.ports q p (ap (λ (w : Network). at w.ports q) (sym net) ∙ e) in omega (arith, old, later);
+  }
+
+  pub born_port : (name : Name) (port : SwitchPort) → n.net ≡ record m.net { ports = put m.net.ports name port } → port.birth.0 ≤ events_of n → AreBorn n
+  born_port name port net in_time = record {
+    switches = λ a s e. let old : s.birth.0 ≤ events_of m = born.switches a s (ap (λ (w : Network). at w.switches a) (sym net) ∙ e) in omega (arith, old, later);
+    ports = λ q p e. elim (put_cases m.net.ports name port q p (ap (λ (w : Network). at w.ports q) (sym net) ∙ e)) [
+      | inl is ↦ subst (λ (w : SwitchPort). w.birth.0 ≤ events_of n) (sym is.1) in_time
+      | inr rest ↦ let old : p.birth.0 ≤ events_of m = born.ports q p rest.1 in omega (arith, old, later)
+    ];
+  }

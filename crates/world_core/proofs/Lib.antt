@@ -1,0 +1,23 @@
+-- Lemmas.
+pub mod Found
+pub mod OnceLaws
+pub mod Once
+pub mod Compiled
+pub mod Kept
+pub mod Counts
+pub mod Recompiling
+pub mod ByTable
+pub mod RowFits
+pub mod ProperTables
+pub mod Coming
+pub mod FreeKeys
+pub mod Unheld
+pub mod Adding
+pub mod WalkSteps
+pub mod Walks
+pub mod Names
+pub mod Law
+pub mod Finishing
+pub mod Refusals
+pub mod AddingPorts
+pub mod Binding

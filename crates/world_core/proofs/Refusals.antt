@@ -1,0 +1,52 @@
+-- What holds where an event isn't refused.
+use Rattle.std.specs.Prelude.{◌≡◌, ℕ, Bool, true, false, List, [], ◌∷◌, Some, None, Option, is_some, cond, refl}
+use Rattle.std.proofs.Common.{sym, subst}
+use Rattle.std.specs.Prelude.{◌||◌}
+use Rattle.std.specs.List.{list_any}
+use Rattle.ovn_base.specs.Among.{Among}
+use Rattle.ovn_base.proofs.NameLemmas.{same_bytes}
+use Rattle.ovn_base.specs.declared.name.Name.{Name}
+use Rattle.nb_records.specs.Network.{Network, at}
+use Rattle.nb_records.specs.declared.record.Record.TheVariants as record_of
+use Rattle.nb_records.specs.declared.record.SwitchPort.{SwitchPort}
+use Rattle.edit_reader.specs.declared.event.Event.TheVariants as event_of
+use Rattle.event_lines.specs.declared.refusal.Refusal.{Refusal}
+use Rattle.world_core.specs.Admitted.{IsAdmittedRecord}
+use Rattle.world_core.specs.New.{AreNew}
+use Rattle.world_core.specs.Refusing.{refusal, refusal_of_record, is_chassis}
+use Rattle.world_core.specs.State.{State, same_name}
+use Rattle.world_core.specs.Unbuilt.{is_unbuilt_port}
+use Rattle.world_core.proofs.Kept.{new_entry}
+use Rattle.world_core.proofs.Unheld.{built, IsBuilt}
+
+both : (a b : Bool) (x y : Refusal) → cond a (cond b None (Some x)) (Some y) ≡ None → b ≡ true
+both true true x y h = refl
+both true false x y h = cc
+both false b x y h = cc
+
+none_first : (a : Bool) (x : Refusal) (rest : Option Refusal) → cond a (Some x) rest ≡ None → a ≡ false
+none_first true x rest h = cc
+none_first false x rest h = refl
+
+-- a packet's port is bound
+pub is_bound : (m : State) (p : Name) (frame : List ℕ) → refusal m (event_of.Packet p frame) ≡ None → is_some (at m.bindings p) ≡ true
+is_bound m p frame h = both (is_some (at m.net.ports p)) (is_some (at m.bindings p)) _ _ h
+
+-- the chassis of a binding is there
+pub is_known : (m : State) (p chassis : Name) → refusal m (event_of.Bind p chassis) ≡ None → is_chassis m chassis ≡ true
+is_known m p chassis h = both (is_some (at m.net.ports p)) (is_chassis m chassis) _ _ h
+
+pub among_chassis : (names : List Name) (chassis : Name) → list_any (λ c. same_name c chassis) names ≡ true → Among chassis names
+among_chassis [] chassis h = cc
+among_chassis (c ∷ names) chassis h =
+    elim (same_name c chassis) as (λ b. same_name c chassis ≡ b → (b || list_any (λ d. same_name d chassis) names) ≡ true → Among chassis (c ∷ names)) [
+      | true ↦ λ same all. subst (λ d. Among chassis (d ∷ names)) (sym (same_bytes c chassis same)) Among.here
+      | false ↦ λ other rest. Among.there (among_chassis names chassis rest)
+    ] refl h
+
+-- an added port is built, and its addresses are new
+pub is_built : (net : Network) (port : SwitchPort) → refusal_of_record net (record_of.SwitchPort port) ≡ None → IsBuilt net port
+is_built net port h = built net port (none_first (is_unbuilt_port net port) _ _ h)
+
+pub is_new : (net : Network) (port : SwitchPort) → refusal_of_record net (record_of.SwitchPort port) ≡ None → IsAdmittedRecord (record_of.SwitchPort port) → AreNew net port
+is_new net port h admitted = new_entry net port admitted.0 admitted.1 admitted.2 (is_built net port h).apart

@@ -1,0 +1,65 @@
+-- What follows for a port that isn't refused.
+use Rattle.std.specs.Prelude.{◌≡◌, ◌<◌, ◌||◌, ◌&&◌, Bool, true, false, Option, Some, None, is_some, nat_le, length, refl}
+use mathlib.Core.Path.{sym, ap, ◌∙◌}
+use Rattle.std.proofs.lemmas.Bool.{false≢true, or_parts, leb-false}
+use Rattle.ovn_base.specs.SameName.{bytes_decides}
+use Rattle.ovn_base.specs.declared.address.Mac.{Mac}
+use Rattle.ovn_base.specs.declared.name.Name.{Name}
+use Rattle.ovn_base.proofs.AmongLaws.{among_any}
+use Rattle.nb_records.specs.Network.{Network, at}
+use Rattle.nb_records.proofs.Puts.{at_among}
+use Rattle.nb_records.specs.declared.record.PortAddress.{PortAddress}
+use Rattle.nb_records.specs.declared.record.PortAddress.TheVariants.{Ether}
+use Rattle.nb_records.specs.declared.record.SwitchPort.{SwitchPort}
+use Rattle.world_core.specs.State.{same_name}
+use Rattle.world_core.specs.Addresses.{mac_of, HasMac}
+use Rattle.world_core.specs.Unbuilt.{clash, clashes, share, has_common, has_no_entry, is_held, is_unbuilt_port}
+
+-- entries with one Ethernet address clash
+one_mac : (a b : PortAddress) → mac_of a ≡ mac_of b → clash a b ≡ true
+one_mac (Ether mac ips) (Ether other others) same = ap (λ (t : Bool). t || has_common ips others) ((bytes_decides mac.0 other.0).1 (ap (λ (m : Mac). m.0) same))
+
+-- where no port of the switch has one of the addresses, none has one of the Ethernet addresses
+pub not_held : (net : Network) (port : SwitchPort) → is_held net port ≡ false → (q : Name) (other : SwitchPort) → at net.ports q ≡ Some other → other.switch ≡ port.switch
+    → (mac : Mac) → HasMac other.addresses mac → ¬ HasMac port.addresses mac
+unfolding is_held
+not_held net port free q other found on mac theirs ours =
+    let entries : clash theirs.entry ours.entry ≡ true = one_mac theirs.entry ours.entry (theirs.has ∙ sym ours.has) in
+    let one : clashes theirs.entry port.addresses ≡ true = among_any (λ entry. clash theirs.entry entry) ours.entry port.addresses ours.among entries in
+    let some : share other.addresses port.addresses ≡ true = among_any (λ entry. clashes entry port.addresses) theirs.entry other.addresses theirs.among one in
+    let same : same_name other.switch port.switch ≡ true = (bytes_decides other.switch port.switch).1 on in
+    let both : (same_name other.switch port.switch && share other.addresses port.addresses) ≡ true = ap (λ (t : Bool). t && share other.addresses port.addresses) same ∙ some in
+    let held : is_held net port ≡ true =
+    among_any (λ (e : Name × SwitchPort). same_name e.1.switch port.switch && share e.1.addresses port.addresses) (q, other) net.ports (at_among net.ports q other found) both in
+    false≢true (sym free ∙ held)
+
+-- a name that a look-up doesn't find
+pub not_there : {X : Type 0} (o : Option X) → is_some o ≡ false → o ≡ None
+not_there None h = refl
+not_there (Some x) h = absurd (false≢true (sym h))
+
+-- a port that is built
+pub record IsBuilt (net : Network) (port : SwitchPort) : Type 0 where
+  pub absent : at net.ports port.name ≡ None
+  pub few : length net.ports < 10000
+  pub entries : has_no_entry port.addresses ≡ false
+  pub apart : (q : Name) (other : SwitchPort) → at net.ports q ≡ Some other → other.switch ≡ port.switch → (mac : Mac) → HasMac other.addresses mac → ¬ HasMac port.addresses mac
+
+pub built : (net : Network) (port : SwitchPort) → is_unbuilt_port net port ≡ false → IsBuilt net port
+unfolding is_unbuilt_port
+built net port h =
+    let a = or_parts (is_some (at net.ports port.name) || nat_le 10000 (length net.ports) || has_no_entry port.addresses) (is_held net port) h in
+    let b = or_parts (is_some (at net.ports port.name) || nat_le 10000 (length net.ports)) (has_no_entry port.addresses) a.0 in
+    let c = or_parts (is_some (at net.ports port.name)) (nat_le 10000 (length net.ports)) b.0 in
+    record {
+      absent = not_there (at net.ports port.name) c.0;
+      few = leb-false 10000 (length net.ports) c.1;
+      entries = b.1;
+      apart = not_held net port a.1;
+    }
+
+-- a switch whose name is new, where the limit on switches isn't reached
+pub built_switch : (net : Network) (name : Name) → (is_some (at net.switches name) || nat_le 1024 (length net.switches)) ≡ false → (at net.switches name ≡ None) × (length net.switches < 1024)
+built_switch net name h =
+    let p = or_parts (is_some (at net.switches name)) (nat_le 1024 (length net.switches)) h in
+    (not_there (at net.switches name) p.0, leb-false 1024 (length net.switches) p.1)

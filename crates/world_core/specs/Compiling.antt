@@ -1,0 +1,13 @@
+-- What the compiler is given, as the definitions see it.
+use Rattle.world_core.specs.declared.compile.Maps as maps
+use Rattle.world_core.specs.Stages.{Basis}
+
+-- the maps, as the lists of their entries
+abbrev pub basis_of : maps.Maps → Basis
+basis_of m = record {
+  chassis = m.chassis;
+  net = m.records.now;
+  bindings = m.bindings.now.entries;
+  keys = record { datapaths = m.datapath_keys.now.entries; ports = m.port_keys.now.entries };
+  zones = m.zones.now.entries;
+}

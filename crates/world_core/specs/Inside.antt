@@ -1,0 +1,37 @@
+-- How a world is kept: its view, and what holds of its keys and zones.
+use Rattle.std.specs.Prelude.{◌≡◌, ◌≤◌, ℕ, List, [], ◌∷◌, Some, None, Option, unwrap_or, length, true}
+use Rattle.ovn_base.specs.declared.name.Name.{Name}
+use Rattle.nb_records.specs.Network.{at}
+use Rattle.world_core.specs.declared.keys.DatapathKey.{DatapathKey}
+use Rattle.world_core.specs.declared.keys.PortKey.{PortKey}
+use Rattle.world_core.specs.declared.world.World.TheInside.{Inside}
+use Rattle.world_core.specs.Seen.{Seen, IsSound}
+
+-- the chassis, if there is one
+abbrev pub those_of : Option Name → List Name
+those_of None = []
+those_of (Some chassis) = chassis ∷ []
+
+abbrev pub seen_of : Inside → Seen
+seen_of w = record {
+  state = record {
+    net = w.records;
+    chassis = those_of w.chassis;
+    bindings = w.bindings.entries;
+    keys = record { datapaths = w.datapath_keys.entries; ports = w.port_keys.entries };
+    accepted = w.accepted;
+    refused = w.refused;
+  };
+  zones = w.zones.entries;
+  flows = w.tables.flows;
+  walks = w.walks;
+  whole = w.whole;
+}
+
+-- keys and zones are given out in order, so that the next number is free; and a world that was not left half done is sound
+pub record IsKept (w : Inside) : Type 0 where
+  pub datapaths : (a : Name) (k : DatapathKey) → at w.datapath_keys.entries a ≡ Some k → k.key ≤ length w.datapath_keys.entries
+  pub ports : (q : Name) (k : PortKey) → at w.port_keys.entries q ≡ Some k → k.key ≤ unwrap_or (at w.last_port_keys.entries k.datapath) 0
+  pub last : (a : Name) (n : ℕ) → at w.last_port_keys.entries a ≡ Some n → n ≤ length w.records.ports
+  pub zones : (q : Name) (z : ℕ) → at w.zones.entries q ≡ Some z → z ≤ length w.zones.entries
+  pub sound : w.whole ≡ true → IsSound (seen_of w)

@@ -1,0 +1,24 @@
+-- Definitions that contracts cite.
+pub mod State
+pub mod Addresses
+pub mod New
+pub mod Rows
+pub mod Stages
+pub mod Tables
+pub mod Compiling
+pub mod Sound
+pub mod Unbuilt
+pub mod Visit
+pub mod Naming
+pub mod WalkLaw
+pub mod Editing
+pub mod Seen
+pub mod Inside
+pub mod Holding
+pub mod Parts
+pub mod Admitted
+pub mod Refusing
+pub mod Step
+pub mod Outcome
+pub mod Numbers
+pub mod Zones

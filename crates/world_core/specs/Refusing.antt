@@ -1,0 +1,45 @@
+-- When an event is refused, and why: the first cause that holds.
+use Rattle.std.specs.Prelude.{◌||◌, Bool, List, [], ◌∷◌, Some, None, Option, if◌then◌else◌, is_some, nat_le, nat_lt, length}
+use Rattle.std.specs.List.{list_any}
+use Rattle.ovn_base.specs.declared.name.Name.{Name}
+use Rattle.nb_records.specs.Network.{Network, at}
+use Rattle.nb_records.specs.declared.record.Op.{Op}
+use Rattle.nb_records.specs.declared.record.Op.TheVariants.{Add}
+use Rattle.nb_records.specs.declared.record.Record.{Record}
+use Rattle.nb_records.specs.declared.record.Record.TheVariants as record_of
+use Rattle.edit_reader.specs.declared.event.Event.{Event}
+use Rattle.edit_reader.specs.declared.event.Event.TheVariants.{Edit, Bind, AddChassis, Packet, Unread, NotBuilt}
+use Rattle.event_lines.specs.declared.refusal.Refusal.{Refusal}
+use Rattle.event_lines.specs.declared.refusal.Refusal.TheVariants as why
+use Rattle.world_core.specs.State.{State, same_name}
+use Rattle.world_core.specs.Unbuilt.{is_unbuilt_port}
+
+-- why an added record is refused
+abbrev pub refusal_of_record : Network → Record → Option Refusal
+refusal_of_record net (record_of.Switch switch) = if is_some (at net.switches switch.name) || nat_le 1024 (length net.switches) then Some why.NotBuilt else None
+refusal_of_record net (record_of.SwitchPort port) =
+    if is_unbuilt_port net port then Some why.NotBuilt else (if is_some (at net.switches port.switch) then None else Some (why.NoSuch port.switch))
+
+abbrev pub refusal_of_op : Network → Op → Option Refusal
+refusal_of_op net (Add record') = refusal_of_record net record'
+
+-- an edit has one operation
+abbrev pub refusal_of_edit : Network → List Op → Option Refusal
+refusal_of_edit net [] = Some why.NotBuilt
+refusal_of_edit net (op ∷ []) = refusal_of_op net op
+refusal_of_edit net (op ∷ next ∷ ops) = Some why.NotBuilt
+
+-- the chassis is there
+abbrev pub is_chassis : State → Name → Bool
+is_chassis m chassis = list_any (λ c. same_name c chassis) m.chassis
+
+-- why the event is refused, if it is: the port comes before the chassis, and a port that isn't there before one that isn't bound
+abbrev pub refusal : State → Event → Option Refusal
+refusal m (Edit ops) = refusal_of_edit m.net ops
+refusal m (Bind port chassis) =
+    if is_some (at m.net.ports port) then (if is_chassis m chassis then None else Some (why.NoSuch chassis)) else Some (why.NoSuch port)
+refusal m (AddChassis chassis) = if nat_lt 0 (length m.chassis) then Some why.NotBuilt else None
+refusal m (Packet port frame) =
+    if is_some (at m.net.ports port) then (if is_some (at m.bindings port) then None else Some why.NotBuilt) else Some (why.NoSuch port)
+refusal m (Unread fault) = Some (why.Read fault)
+refusal m NotBuilt = Some why.NotBuilt

@@ -1,0 +1,109 @@
+-- The rows of each stage, as sets: a constructor for each kind of row.
+use Rattle.std.specs.Prelude.{◌≡◌, ℕ, List, Some}
+use Rattle.ovn_base.specs.Among.{Among}
+use Rattle.ovn_base.specs.declared.name.Name.{Name}
+use Rattle.flow_table.specs.declared.flow.Flow.{Flow}
+use Rattle.nb_records.specs.Network.{Network, at}
+use Rattle.nb_records.specs.declared.record.PortAddress.{PortAddress}
+use Rattle.nb_records.specs.declared.record.Switch.{Switch}
+use Rattle.nb_records.specs.declared.record.SwitchPort.{SwitchPort}
+use Rattle.world_core.specs.declared.keys.DatapathKey.{DatapathKey}
+use Rattle.world_core.specs.declared.keys.PortKey.{PortKey}
+use Rattle.world_core.specs.State.{Keys}
+use Rattle.world_core.specs.Addresses.{mac_of}
+use Rattle.world_core.specs.Rows.{entry_row, pass_row, address_row, unknown_row, stay_row, home_row, return_row, leave_row, output_row}
+
+-- what the flows of a chassis follow from: its name, the records, the chassis of each bound port, the keys, and the numbers of the zones
+pub record Basis : Type 0 where
+  pub chassis : Name
+  pub net : Network
+  pub bindings : List (Name × Name)
+  pub keys : Keys
+  pub zones : List (Name × ℕ)
+
+-- a is a switch, and dp its key
+pub record IsDatapath (b : Basis) (a : Name) (dp : ℕ) : Type 0 where
+  pub switch : Switch
+  pub there : at b.net.switches a ≡ Some switch
+  pub live : DatapathKey
+  pub has : at b.keys.datapaths a ≡ Some live
+  pub number : live.key ≡ dp
+
+-- q is the port, key is its key, and dp that of its switch
+pub record IsPort (b : Basis) (q : Name) (port : SwitchPort) (dp key : ℕ) : Type 0 where
+  pub there : at b.net.ports q ≡ Some port
+  pub on : IsDatapath b port.switch dp
+  pub live : PortKey
+  pub has : at b.keys.ports q ≡ Some live
+  pub number : live.key ≡ key
+
+-- the port is bound to this chassis, where it has the zone
+pub record IsHere (b : Basis) (q : Name) (zone : ℕ) : Type 0 where
+  pub bound : at b.bindings q ≡ Some b.chassis
+  pub zoned : at b.zones q ≡ Some zone
+
+-- table 0: entry
+pub data EntryRow (b : Basis) (f : Flow) : Type 0 where
+  entry : (q : Name) (port : SwitchPort) (dp key zone : ℕ) → IsPort b q port dp key → IsHere b q zone → f ≡ entry_row q dp key zone → EntryRow b f
+
+-- table 8: s_admit
+pub data AdmitRow (b : Basis) (f : Flow) : Type 0 where
+  s_admit_base : (a : Name) (dp : ℕ) → IsDatapath b a dp → f ≡ pass_row dp 8 9 → AdmitRow b f
+
+-- table 9: s_port_sec
+pub data PortSecRow (b : Basis) (f : Flow) : Type 0 where
+  s_port_sec_base : (a : Name) (dp : ℕ) → IsDatapath b a dp → f ≡ pass_row dp 9 10 → PortSecRow b f
+
+-- table 10: s_track
+pub data TrackRow (b : Basis) (f : Flow) : Type 0 where
+  s_track_base : (a : Name) (dp : ℕ) → IsDatapath b a dp → f ≡ pass_row dp 10 11 → TrackRow b f
+
+-- table 11: s_acl_in
+pub data AclInRow (b : Basis) (f : Flow) : Type 0 where
+  s_acl_in_base : (a : Name) (dp : ℕ) → IsDatapath b a dp → f ≡ pass_row dp 11 12 → AclInRow b f
+
+-- table 12: s_state_in
+pub data StateInRow (b : Basis) (f : Flow) : Type 0 where
+  s_state_in_base : (a : Name) (dp : ℕ) → IsDatapath b a dp → f ≡ pass_row dp 12 13 → StateInRow b f
+
+-- table 13: s_arp
+pub data ArpRow (b : Basis) (f : Flow) : Type 0 where
+  s_arp_base : (a : Name) (dp : ℕ) → IsDatapath b a dp → f ≡ pass_row dp 13 14 → ArpRow b f
+
+-- table 14: s_lookup
+pub data LookupRow (b : Basis) (f : Flow) : Type 0 where
+  address : (q : Name) (port : SwitchPort) (dp key : ℕ) (entry : PortAddress) → IsPort b q port dp key → Among entry port.addresses → f ≡ address_row dp (mac_of entry) key → LookupRow b f
+  unknown : (a : Name) (dp : ℕ) → IsDatapath b a dp → f ≡ unknown_row dp → LookupRow b f
+
+-- table 32: other chassis
+pub data RemoteRow (b : Basis) (f : Flow) : Type 0 where
+  stay : f ≡ stay_row → RemoteRow b f
+
+-- table 33: home
+pub data HomeRow (b : Basis) (f : Flow) : Type 0 where
+  home : (q : Name) (port : SwitchPort) (dp key zone : ℕ) → IsPort b q port dp key → IsHere b q zone → f ≡ home_row dp key zone → HomeRow b f
+
+-- table 34: no way back
+pub data ReturnRow (b : Basis) (f : Flow) : Type 0 where
+  back : (q : Name) (port : SwitchPort) (dp key : ℕ) → IsPort b q port dp key → f ≡ return_row dp key → ReturnRow b f
+  leave : f ≡ leave_row → ReturnRow b f
+
+-- table 40: s_track_out
+pub data TrackOutRow (b : Basis) (f : Flow) : Type 0 where
+  s_track_out_base : (a : Name) (dp : ℕ) → IsDatapath b a dp → f ≡ pass_row dp 40 41 → TrackOutRow b f
+
+-- table 41: s_acl_out
+pub data AclOutRow (b : Basis) (f : Flow) : Type 0 where
+  s_acl_out_base : (a : Name) (dp : ℕ) → IsDatapath b a dp → f ≡ pass_row dp 41 42 → AclOutRow b f
+
+-- table 42: s_state_out
+pub data StateOutRow (b : Basis) (f : Flow) : Type 0 where
+  s_state_out_base : (a : Name) (dp : ℕ) → IsDatapath b a dp → f ≡ pass_row dp 42 43 → StateOutRow b f
+
+-- table 43: s_sec_out
+pub data SecOutRow (b : Basis) (f : Flow) : Type 0 where
+  s_sec_out_base : (a : Name) (dp : ℕ) → IsDatapath b a dp → f ≡ pass_row dp 43 64 → SecOutRow b f
+
+-- table 64: output
+pub data OutputRow (b : Basis) (f : Flow) : Type 0 where
+  output : (q : Name) (port : SwitchPort) (dp key : ℕ) → IsPort b q port dp key → f ≡ output_row dp q key → OutputRow b f

@@ -1,0 +1,10 @@
+//! The network as a whole: its events taken through records, keys and tables, and its packets through the tables.
+#![tactic(auto)]
+
+mod compile;
+pub mod keys;
+pub mod laws;
+mod naming;
+mod refusing;
+mod rows;
+pub mod world;

@@ -1,0 +1,246 @@
+//! The state of the network and of its chassis, and its steps.
+ghost use Rattle.std.specs.Prelude.{◌-◌, min, ◌++◌, ◌↔◌, IsTrue, OnErr, slice_get, ◌≡◌, ◌+◌, ◌<◌, ◌^◌, [], ◌∷◌, None, Some, false, IfOk, OnOk, length};
+ghost use Rattle.ovn_base.specs.declared.name.Name.{Name};
+ghost use Rattle.flow_table.specs.Change.{EachOnce};
+ghost use Rattle.nb_records.specs.Network.{at, put};
+ghost use Rattle.nb_records.specs.declared.record.Op.TheVariants.{Add};
+ghost use Rattle.nb_records.specs.declared.record.Record.TheVariants as record_of;
+ghost use Rattle.world_core.specs.Editing.{Edits, counted, with_name};
+ghost use Rattle.world_core.specs.Seen.{IsConsistent, IsSound};
+ghost use Rattle.world_core.specs.Sound.{IsValid, HaveKeys, AreCompiled};
+ghost use Rattle.world_core.specs.State.{events_of};
+ghost use Rattle.std.specs.Option.{option_copied};
+ghost use Rattle.event_lines.specs.Lines.{refused_line};
+ghost use Rattle.event_lines.specs.Text.{StartsWith};
+ghost use Rattle.world_core.specs.Admitted.{IsAdmitted};
+ghost use Rattle.world_core.specs.Outcome.{Outcome};
+ghost use Rattle.world_core.specs.Parts.{IsRecompiled, IsTaken, Leaves, flow_at, new_world};
+
+use crate::compile::Maps;
+use crate::keys::{DatapathKey, PortKey};
+use edit_reader::event::Event;
+use event_lines::lines::{accepted, refused};
+use event_lines::refusal::{Refusal, StepFault};
+use flow_table::flow::Flow;
+use flow_table::lookup::Lookup;
+use flow_table::tables::Tables;
+use nb_records::record::{Record, Switch, SwitchPort};
+use nb_records::records::Records;
+use ovn_base::address::Birth;
+use ovn_base::list::List;
+use ovn_base::memory::NoMemory;
+use ovn_base::name::Name;
+use ovn_base::steps::Steps;
+use std::alloc::Global;
+use std::collections::BTreeMap;
+use std::marker::Model;
+use switch_engine::effect::NetEffect;
+use switch_engine::walk::Walk;
+
+mod edits;
+mod homes;
+mod packets;
+mod steps;
+
+/// The network, its chassis, and the flows that they hold.
+#[derive(Drop)]
+pub struct World {
+    records: Records,
+    chassis: Option<Name>,
+    bindings: BTreeMap<Name, Name>,
+    datapath_keys: BTreeMap<Name, DatapathKey>,
+    port_keys: BTreeMap<Name, PortKey>,
+    // The greatest port key of each datapath that has a port.
+    last_port_keys: BTreeMap<Name, u16>,
+    zones: BTreeMap<Name, u16>,
+    tables: Tables,
+    walks: List<Walk>,
+    accepted: u64,
+    refused: u64,
+    whole: bool,
+}
+
+// What an accepted event did: its effects in names, and the walks of its packet.
+#[derive(Drop)]
+struct Done {
+    effects: List<NetEffect>,
+    walks: List<Walk>,
+    // How many flows were matched in all.
+    matched: usize,
+}
+
+impl Model for World {
+    ghost use Rattle.world_core.specs.Seen.{Seen};
+
+    ghost Value = { Seen };
+
+    ghost use Rattle.world_core.specs.Inside.{seen_of, IsKept};
+
+    ghost view = { seen_of };
+
+    ghost invariant = { IsKept };
+}
+
+impl World {
+    /// The empty world: no record, no chassis, no event.
+    pub fn new(alloc: Global) -> Result<World, NoMemory>
+        ensures empty { IfOk result (λ w. w ≡ new_world) }
+        ensures sound { IfOk result IsSound }
+    {
+        Ok(World {
+            records: Records::new(alloc)?,
+            chassis: None,
+            bindings: BTreeMap::new(alloc),
+            datapath_keys: BTreeMap::new(alloc),
+            port_keys: BTreeMap::new(alloc),
+            last_port_keys: BTreeMap::new(alloc),
+            zones: BTreeMap::new(alloc),
+            tables: Tables::new(alloc)?,
+            walks: List::new(alloc),
+            accepted: 0,
+            refused: 0,
+            whole: true,
+        })
+    }
+
+    /// How many events there were, accepted or refused.
+    pub fn events(&self) -> u64
+        ensures { result ≡ min (events_of self.now.state) (2 ^ 64 - 1) }
+    {
+        self.accepted.saturating_add(self.refused)
+    }
+
+    // Compiles the flows anew.
+    fn recompile(&mut self, alloc: Global) -> Result<(), NoMemory>
+        requires valid { IsValid self.old.state.net }
+        requires keys { HaveKeys self.old.state.net self.old.state.keys }
+        requires taken { self.old.whole ≡ false }
+        ensures { OnOk result (IsRecompiled self.old self.new) }
+    {
+        if let Some(chassis) = self.chassis {
+            let maps = Maps {
+                chassis,
+                records: &self.records,
+                bindings: &self.bindings,
+                datapath_keys: &self.datapath_keys,
+                port_keys: &self.port_keys,
+                zones: &self.zones,
+            };
+            self.tables = maps.tables(alloc)?;
+        }
+        Ok(())
+    }
+
+    /// Whether the world may take events: no event was left half done for want of memory.
+    pub fn is_sound(&self) -> bool
+        ensures { IsTrue result ↔ IsSound self.now }
+    {
+        self.whole
+    }
+
+    /// How many frames wait: none, until frames go between chassis.
+    pub fn waiting(&self) -> usize
+        ensures { result ≡ 0 }
+    {
+        0
+    }
+
+    /// The chassis of this index, in order of name; `None` past the last.
+    pub fn chassis(&self, index: usize) -> Option<&Name>
+        ensures { option_copied result ≡ slice_get self.now.state.chassis index }
+    {
+        if index == 0 {
+            return self.chassis.as_ref();
+        }
+        None
+    }
+
+    /// Each flow that the chassis holds at exactly one index below their number; `None` past the last, and where no such
+    /// chassis is there.
+    pub fn chassis_flow(&self, chassis: &Name, index: usize) -> Option<&Flow>
+        ensures flow { option_copied result ≡ flow_at self.now chassis.now index }
+        ensures once { EachOnce self.now.flows }
+    {
+        let flow = self.tables.flow(index);
+        match self.chassis {
+            Some(there) if there == *chassis => flow,
+            _ => None,
+        }
+    }
+
+    /// The flows that the packet of the last event matched; none where it was refused.
+    pub fn walks(&self) -> &[Walk]
+        ensures { result.now ≡ self.now.walks }
+    {
+        self.walks.as_slice()
+    }
+
+    // Refuses an event, which counts.
+    fn refuse(&mut self, why: &Refusal, text: &mut Vec<u8>) -> Result<(), NoMemory>
+        requires taken { IsTaken self.old }
+        requires room { events_of self.old.state < 2 ^ 42 }
+        ensures kept { OnOk result (self.new ≡ record self.old { state = record self.old.state { refused = self.old.state.refused + 1 }; walks = [] }) }
+        ensures text { OnOk result (text.new.items ≡ text.old.items ++ refused_line (events_of self.old.state + 1) why.now) }
+        ensures taken { OnOk result (IsTaken self.new) }
+        ensures front { OnErr result (StartsWith text.new.items text.old.items) }
+    {
+        refused(why, self.accepted + self.refused + 1, text)?;
+        self.refused += 1;
+        self.walks.clear();
+        Ok(())
+    }
+
+    /// Takes one event, and adds its whole text: the lines of what it did, or of why it is refused. After want of memory the
+    /// world isn't sound, and the text keeps what it held.
+    pub fn step<L>(
+        &mut self,
+        event: &Event,
+        text: &mut Vec<u8>,
+        _steps: &mut Steps<L>,
+    ) -> Result<(), StepFault>
+        requires sound { IsSound self.old }
+        requires room { events_of self.old.state < 2 ^ 42 }
+        requires admitted { IsAdmitted event.now }
+        ensures outcome { Outcome result self.old event.now text.old.items text.new.items self.new }
+        ensures steps { _steps.new ≡ _steps.old }
+    {
+        self.whole = false;
+        match self.take(event, text) {
+            Ok(()) => {
+                self.whole = true;
+                Ok(())
+            }
+            Err(StepFault::Refused(why)) => {
+                self.whole = true;
+                Err(StepFault::Refused(why))
+            }
+            Err(StepFault::Memory) => {
+                self.whole = false;
+                Err(StepFault::Memory)
+            }
+        }
+    }
+
+    // Takes an event while the world is marked as being changed.
+    fn take(&mut self, event: &Event, text: &mut Vec<u8>) -> Result<(), StepFault>
+        requires taken { IsTaken self.old }
+        requires room { events_of self.old.state < 2 ^ 42 }
+        requires admitted { IsAdmitted event.now }
+        ensures { Leaves result self.old event.now text.old.items text.new.items self.new }
+    {
+        let alloc = self.walks.allocator();
+        let number = self.accepted + self.refused + 1;
+        match self.refusal(event)? {
+            Some(why) => {
+                self.refuse(&why, text)?;
+                Err(StepFault::Refused(why))
+            }
+            None => {
+                let done = self.accept(alloc, event)?;
+                accepted(done.effects.as_slice(), done.matched, number, text)?;
+                self.walks = done.walks;
+                Ok(())
+            }
+        }
+    }
+}
