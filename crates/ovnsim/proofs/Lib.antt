@@ -1,0 +1,5 @@
+-- Lemmas.
+pub mod Admits
+pub mod Running
+pub mod Taken
+pub mod Stopped

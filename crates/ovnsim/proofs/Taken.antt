@@ -1,0 +1,71 @@
+-- What one event leaves.
+use Rattle.std.proofs.Common.{◌≡◌, ◌+◌, ◌++◌, ℕ, Bool, true, false, List, [], refl, sym, ap, ◌∙◌, subst, take, drop, take-append-drop, arith, Option, Result, Ok, Err, IsErrAnd}
+use Rattle.std.specs.Io.KnownBytes.{append_known}
+use Rattle.edit_reader.specs.declared.event.Event.{Event}
+use Rattle.edit_reader.specs.declared.event.Event.TheVariants.{Edit, Bind, AddChassis, Packet, Unread, NotBuilt}
+use Rattle.event_lines.specs.declared.refusal.Refusal.{Refusal}
+use Rattle.switch_engine.specs.declared.effect.NetEffect.{NetEffect}
+use Rattle.world_core.specs.Outcome.{IsAccepted, IsRefused}
+use Rattle.world_core.specs.Seen.{Seen, IsSound}
+use Rattle.world_core.specs.State.{State, events_of}
+use Rattle.world_core.specs.Step.{Step}
+use Rattle.ovnsim.specs.Runs.{Takes, accepts, refuses}
+use Rattle.ovnsim.specs.Taking.{TakesWith, WasCut}
+
+-- a step counts one event that was accepted
+step_counts : (m : State) (event : Event) (effects : List NetEffect) (after : State) → Step m event effects after → (after.accepted ≡ m.accepted + 1) × (after.refused ≡ m.refused)
+step_counts m (Edit ops) effects after h = (ap (λ (s : State). s.accepted) h.state, ap (λ (s : State). s.refused) h.state)
+step_counts m (Bind port chassis) effects after h = (ap (λ (s : State). s.accepted) h.1, ap (λ (s : State). s.refused) h.1)
+step_counts m (AddChassis chassis) effects after h = (ap (λ (s : State). s.accepted) h.1, ap (λ (s : State). s.refused) h.1)
+step_counts m (Packet port frame) effects after h = (ap (λ (s : State). s.accepted) h.state, ap (λ (s : State). s.refused) h.state)
+step_counts m (Unread fault) effects after h = absurd h
+step_counts m NotBuilt effects after h = absurd h
+
+-- an accepted event, where the text was empty
+pub takes_accepted : (old : Seen) (event : Event) (before text : List ℕ) (new : Seen) → before ≡ [] → IsAccepted old event before text new × IsSound new → TakesWith true old event text new
+takes_accepted old event before text new empty h =
+    let counts = step_counts old.state event h.0.effects new.state h.0.step in
+    record {
+      takes = accepts (subst (λ b. IsAccepted old event b text new) empty h.0);
+      sound = h.1;
+      accepted = counts.0;
+      refused = omega (arith, counts.1);
+    }
+
+-- a refused event, where the text was empty
+pub takes_refused : (old : Seen) (event : Event) (why : Refusal) (before text : List ℕ) (new : Seen) → before ≡ [] → IsRefused old event why before text new × IsSound new → TakesWith false old event text new
+takes_refused old event why before text new empty h =
+    let accepted : new.state.accepted ≡ old.state.accepted = ap (λ (w : Seen). w.state.accepted) h.0.kept in
+    record {
+      takes = refuses why (subst (λ b. IsRefused old event why b text new) empty h.0);
+      sound = h.1;
+      accepted = omega (arith, accepted);
+      refused = ap (λ (w : Seen). w.state.refused) h.0.kept;
+    }
+
+-- some first bytes of a piece went out
+pub was_cut : (before after : Option (List ℕ)) (piece whole : List ℕ) → piece ≡ whole → (n : ℕ) × (after ≡ append_known before (take n piece)) → WasCut before after whole
+was_cut before after piece whole same h = subst (WasCut before after) same (take h.0 piece, drop h.0 piece, sym (take-append-drop h.0 piece), h.1)
+
+-- the whole piece went out
+pub was_given : (before after : Option (List ℕ)) (piece whole : List ℕ) → piece ≡ whole → after ≡ append_known before piece → after ≡ append_known before whole
+was_given before after piece whole same h = h ∙ ap (append_known before) same
+
+-- one event more
+pub one_more_event : (ok : Bool) (old : Seen) (event : Event) (text : List ℕ) (new : Seen) → TakesWith ok old event text new → events_of new.state ≡ events_of old.state + 1
+one_more_event true old event text new h =
+    let a = h.accepted in
+    let r = h.refused in omega arith
+one_more_event false old event text new h =
+    let a = h.accepted in
+    let r = h.refused in omega arith
+
+-- the error of an answer
+abbrev err_of : {T E : Type 0} → E → Result T E → E
+err_of d (Ok x) = d
+err_of d (Err y) = y
+
+-- an error that is passed on is the one of the call
+pub passed_on : {T U E : Type 0} (call : Result T E) (result : Result U E) (y x : E) → call ≡ Err y → IsErrAnd result (λ e. e ≡ y) → result ≡ Err x → call ≡ Err x
+passed_on call (Ok u) y x c h e = absurd h
+passed_on call (Err z) y x c h e = c ∙ ap Err (sym h ∙ ap (err_of z) e)

@@ -1,0 +1,24 @@
+use Rattle.std.proofs.Common.{◌≡◌, ◌-◌, ◌≤◌, ◌^◌, false}
+use Rattle.ovn_base.specs.Reading.{unread}
+use Rattle.ovn_base.specs.Told.{WhereTold}
+use Rattle.world_core.specs.Seen.{IsSound}
+use Rattle.world_core.specs.State.{events_of}
+use Rattle.ovnsim.proofs.Running.{Ran}
+use Rattle.ovnsim.proofs.Stopped.{IsWithin}
+use Rattle.ovnsim.proofs.run.run_lines.Given as goal
+
+abbrev pub invariant-lines : goal.invariant-lines
+invariant-lines g l = record {
+  ran : WhereTold (g.S.Source.left l.fn.source) (unread l.buf (g.S.Source.left l.source)) (Ran l.buf l.world (g.K.Sink.gone l.fn.sink) (g.K.Sink.gone l.sink));
+  within : IsWithin l.buf;
+  unbroken : l.buf.faulted ≡ false;
+  sound : IsSound l.world;
+  events : events_of l.world.state ≤ l.buf.given;
+  accepted : l.counts.accepted ≡ l.world.state.accepted;
+  refused : l.counts.refused ≡ l.world.state.refused;
+  reads : g.S.Source.faults l.fn.source ≤ g.S.Source.faults l.source;
+  writes : g.K.Sink.faults l.fn.sink ≤ g.K.Sink.faults l.sink;
+}
+
+abbrev pub decreases-lines : goal.decreases-lines
+decreases-lines g l = 2 ^ 40 - l.buf.given

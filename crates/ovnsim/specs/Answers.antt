@@ -1,0 +1,96 @@
+-- What is written for an input, and the status.
+use Rattle.std.specs.Prelude.{◌≡◌, ◌≤◌, ◌<◌, ◌++◌, ◌-◌, ◌^◌, ℕ, Bool, List, [], ◌∷◌, length, Option, nat_lt, if◌then◌else◌}
+use Rattle.std.specs.Io.KnownBytes.{append_known}
+use Rattle.ovn_base.specs.Lines.{lines_within}
+use Rattle.event_lines.specs.Lines.{end_line}
+use Rattle.world_core.specs.Seen.{Seen}
+use Rattle.world_core.specs.State.{events_of}
+use Rattle.ovnsim.specs.Runs.{RunsLines}
+
+-- the lines of an input: of 2^40 bytes or more, those that end within the first 2^40
+abbrev pub lines_in : List ℕ → List (List ℕ)
+lines_in input = lines_within (2 ^ 40) input
+
+-- the last line, for the world that the events left
+abbrev pub end_of : Seen → List ℕ
+end_of last = end_line (events_of last.state) last.state.accepted last.state.refused 0
+
+-- an event was refused
+abbrev pub is_refusing : Seen → Bool
+is_refusing last = nat_lt 0 last.state.refused
+
+-- the last line, where the input has an end
+abbrev pub end_within : List ℕ → Seen → List ℕ
+end_within input last = if nat_lt (length input) (2 ^ 40) then end_of last else []
+
+-- what comes after the texts where these lines are left: the last line where none is
+abbrev pub then_last : List (List ℕ) → List ℕ → Seen → List ℕ
+then_last [] input last = end_within input last
+then_last (line ∷ lines) input last = []
+
+-- how a run ends that nothing stops
+abbrev pub status_of : List ℕ → Seen → ℕ
+status_of input last = if nat_lt (length input) (2 ^ 40) then (if is_refusing last then 3 else 0) else 8
+
+-- the answer to an input: the texts of its events in a run from the empty world, and then the last line
+pub record Answers (status : ℕ) (before after : Option (List ℕ)) (input : List ℕ) : Type 0 where
+  pub text : List ℕ
+  pub last : Seen
+  pub run : RunsLines (lines_in input) text last
+  pub gone : after ≡ append_known before (text ++ end_within input last)
+  pub status_is : status ≡ status_of input last
+
+-- the sink gained the whole texts of the events of some first lines
+pub record GainsEvents (before after : Option (List ℕ)) (input : List ℕ) : Type 0 where
+  pub done : List (List ℕ)
+  pub rest : List (List ℕ)
+  pub text : List ℕ
+  pub last : Seen
+  pub all : lines_in input ≡ done ++ rest
+  pub run : RunsLines done text last
+  pub gone : after ≡ append_known before text
+
+-- The sink gained some first bytes: of the texts of the events of some first lines, or, where these are all and the
+-- input has an end, of these texts and the last line.
+pub record GainsFront (before after : Option (List ℕ)) (input : List ℕ) : Type 0 where
+  pub done : List (List ℕ)
+  pub rest : List (List ℕ)
+  pub text : List ℕ
+  pub last : Seen
+  pub all : lines_in input ≡ done ++ rest
+  pub run : RunsLines done text last
+  pub front : List ℕ
+  pub more : List ℕ
+  pub cut : text ++ then_last rest input last ≡ front ++ more
+  pub gone : after ≡ append_known before front
+
+-- the sink gained the texts of the events whose line ended within the bytes that were taken; `left` were not
+pub record GainsRead (before after : Option (List ℕ)) (input left : List ℕ) : Type 0 where
+  pub text : List ℕ
+  pub last : Seen
+  pub run : RunsLines (lines_within (length input - length left) input) text last
+  pub gone : after ≡ append_known before text
+
+-- the input has no end within the limit, and the sink gained the texts of its events
+pub record GainsToLimit (before after : Option (List ℕ)) (input : List ℕ) : Type 0 where
+  pub long : 2 ^ 40 ≤ length input
+  pub text : List ℕ
+  pub last : Seen
+  pub run : RunsLines (lines_in input) text last
+  pub gone : after ≡ append_known before text
+
+-- the input ended, and the sink gained the texts of its events and the last line
+pub record GainsWhole (refused : Bool) (before after : Option (List ℕ)) (input : List ℕ) : Type 0 where
+  pub short : length input < 2 ^ 40
+  pub text : List ℕ
+  pub last : Seen
+  pub run : RunsLines (lines_in input) text last
+  pub refused_is : refused ≡ is_refusing last
+  pub gone : after ≡ append_known before (text ++ end_of last)
+
+-- the input ended, and the sink gained the texts of its events, which left this world
+pub record GainsTexts (before after : Option (List ℕ)) (last : Seen) (input : List ℕ) : Type 0 where
+  pub short : length input < 2 ^ 40
+  pub text : List ℕ
+  pub run : RunsLines (lines_in input) text last
+  pub gone : after ≡ append_known before text

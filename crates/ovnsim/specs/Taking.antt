@@ -1,0 +1,31 @@
+-- What one event leaves.
+use Rattle.std.specs.Prelude.{◌≡◌, ◌+◌, ◌++◌, ℕ, Bool, true, false, List, Option, cond}
+use Rattle.std.specs.Io.KnownBytes.{append_known}
+use Rattle.edit_reader.specs.declared.event.Event.{Event}
+use Rattle.world_core.specs.Seen.{Seen, IsSound}
+use Rattle.ovnsim.specs.Runs.{Takes}
+
+-- the event was taken, with its text, and it is counted
+pub record TakesWith (is_accepted : Bool) (old : Seen) (event : Event) (text : List ℕ) (new : Seen) : Type 0 where
+  pub takes : Takes old event text new
+  pub sound : IsSound new
+  pub accepted : new.state.accepted ≡ old.state.accepted + cond is_accepted 1 0
+  pub refused : new.state.refused ≡ old.state.refused + cond is_accepted 0 1
+
+-- the sink gained some first bytes of the piece
+abbrev pub WasCut : Option (List ℕ) → Option (List ℕ) → List ℕ → Type 0
+WasCut before after piece = (front : List ℕ) × (more : List ℕ) × (piece ≡ front ++ more) × (after ≡ append_known before front)
+
+-- the event was taken, and the sink gained its text
+pub record GainsText (is_accepted : Bool) (old : Seen) (event : Event) (before after : Option (List ℕ)) (new : Seen) : Type 0 where
+  pub text : List ℕ
+  pub taken : TakesWith is_accepted old event text new
+  pub gone : after ≡ append_known before text
+
+-- the event was taken, and the sink gained some first bytes of its text
+pub record GainsCut (old : Seen) (event : Event) (before after : Option (List ℕ)) : Type 0 where
+  pub is_accepted : Bool
+  pub new : Seen
+  pub text : List ℕ
+  pub taken : TakesWith is_accepted old event text new
+  pub cut : WasCut before after text

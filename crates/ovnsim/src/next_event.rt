@@ -1,0 +1,84 @@
+//! The events of a source, one after another.
+ghost use Rattle.ovn_base.specs.Causes.{Rose};
+ghost use Rattle.ovn_base.specs.Reading.{Stops, taken, unread};
+ghost use Rattle.ovn_base.specs.Told.{WhereTold};
+ghost use Rattle.std.specs.List.{AllPass};
+ghost use Rattle.std.specs.Prelude.{◌≡◌, ◌≢◌, ◌<◌, ◌≤◌, ◌↔◌, ◌^◌, false, true, Err, IfOk, IsTrue, length};
+ghost use Rattle.ovnsim.specs.Events.{AskedBy, GivesNext, is_blank};
+ghost use Rattle.ovnsim.specs.Next.{IsAdmittedNext};
+
+use crate::run::Stop;
+use edit_reader::event::{Event, ReadError, ReadRefusal};
+use edit_reader::read::read_event;
+use ovn_base::line_buf::{LINE_LIMIT, LineBuf};
+use ovn_base::memory::NoMemory;
+use ovn_base::next_line::{Line, LineFault, next_line};
+use ovn_base::source::Source;
+use std::alloc::Global;
+
+/// What comes next in the input.
+#[derive(Debug, Drop)]
+pub enum Next {
+    /// An event, or a line that was not read.
+    Found(Event),
+    /// A line of blanks, which is no event.
+    Blank,
+    /// The end.
+    End,
+}
+
+/// Whether a line is one of spaces, tabs and carriage returns alone.
+fn is_blank_line(line: &[u8]) -> bool
+    ensures { IsTrue result ↔ AllPass is_blank line.now }
+{
+    line.iter()
+        .all(|byte| matches!(*byte, b' ' | b'\t' | b'\r'))
+}
+
+/// What a line of at most 1,048,576 bytes is.
+fn next_of(alloc: Global, line: &[u8]) -> Result<Next, NoMemory>
+    requires { length line.now ≤ LINE_LIMIT }
+    ensures asked { IfOk result (AskedBy line.now) }
+    ensures admitted { IfOk result IsAdmittedNext }
+{
+    if is_blank_line(line) {
+        return Ok(Next::Blank);
+    }
+    match read_event(alloc, line) {
+        Ok(event) => Ok(Next::Found(event)),
+        Err(ReadError::Refused(refusal)) => Ok(Next::Found(Event::Unread(refusal))),
+        Err(ReadError::Memory) => Err(NoMemory),
+    }
+}
+
+/// What the next line of the source is.
+///
+/// # Errors
+///
+/// `ReadFault` only where the source failed, `InputTooLong` where 2^40 bytes were taken without an end, and `Memory`.
+pub fn next_event<S: Source>(alloc: Global, source: &mut S, buf: &mut LineBuf) -> Result<Next, Stop>
+    requires { buf.old.faulted ≡ false }
+    ensures next { IfOk result (λ next. WhereTold
+        (unread buf.old (S.left source.old)) (unread buf.new (S.left source.new))
+        (GivesNext next buf.old buf.new)) }
+    ensures admitted { IfOk result IsAdmittedNext }
+    ensures progress { IfOk result (λ next. next ≢ Next.End → buf.old.given < buf.new.given) }
+    ensures sound { IfOk result (λ _. buf.new.faulted ≡ false) }
+    ensures read_fault { result ≡ Err Stop.ReadFault → Rose (S.faults source.old) (S.faults source.new) }
+    ensures stopped { result ≡ Err Stop.ReadFault → (buf.old.ended ≡ false)
+        × WhereTold (unread buf.old (S.left source.old)) (S.left source.new) (Stops buf.old buf.new) }
+    ensures too_long { result ≡ Err Stop.InputTooLong → (taken buf.new ≡ 2 ^ 40) × (buf.old.ended ≡ false)
+        × WhereTold (unread buf.old (S.left source.old)) (S.left source.new) (Stops buf.old buf.new) }
+    ensures no_write { result ≢ Err Stop.WriteFault }
+    ensures limit { taken buf.new ≤ 2 ^ 40 }
+    ensures below { buf.new.ended ≡ true → taken buf.new < 2 ^ 40 }
+    ensures faults { S.faults source.old ≤ S.faults source.new }
+{
+    match next_line(source, buf) {
+        Ok(Line::Text) => Ok(next_of(alloc, buf.text())?),
+        Ok(Line::TooLong) => Ok(Next::Found(Event::Unread(ReadRefusal::TooLong))),
+        Ok(Line::End) => Ok(Next::End),
+        Err(LineFault::ReadFault) => Err(Stop::ReadFault),
+        Err(LineFault::InputTooLong) => Err(Stop::InputTooLong),
+    }
+}
