@@ -4,12 +4,12 @@ ghost use Rattle.std.specs.Prelude.{◌≡◌, IfOk};
 use crate::list::List;
 use crate::memory::NoMemory;
 
-/// What came and what went between two states of a set of values.
+/// What comes into a set of values and what goes out of it.
 #[derive(Debug, Clone, PartialEq, Eq, Hash, Drop)]
 pub struct Delta<F> {
-    /// The values that are there now and were not before.
+    /// The values that come. They are there afterwards, also those that go.
     pub added: List<F>,
-    /// The values that were there before and are not now.
+    /// The values that go, unless they come too.
     pub removed: List<F>,
 }
 

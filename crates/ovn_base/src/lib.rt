@@ -13,6 +13,7 @@ pub mod memory_source;
 pub mod name;
 pub mod next_line;
 pub mod number;
+pub mod ports;
 pub mod print_address;
 pub mod read_address;
 pub mod sink;

@@ -1,4 +1,4 @@
-ghost use Rattle.std.specs.Prelude.{◌≡◌, ◌≢◌, ◌+◌, ◌++◌, ◌<◌, ◌≤◌, ℕ, IfSome, IfNone, OnOk};
+ghost use Rattle.std.specs.Prelude.{◌≡◌, ◌≢◌, ◌+◌, ◌++◌, ◌<◌, ◌≤◌, ℕ, IfSome, IfNone, List, OnOk, OnErr};
 ghost use Rattle.std.specs.Fmt.{decimal};
 
 use crate::memory::NoMemory;
@@ -35,7 +35,8 @@ pub fn read_number(text: &[u8], most: u64) -> Option<u64>
 
 /// Appends the number in decimal. Where memory is wanting a part of it may stand there.
 pub fn push_number(out: &mut Vec<u8>, number: u64) -> Result<(), NoMemory>
-    ensures { OnOk result (out.new.items ≡ out.old.items ++ decimal number) }
+    ensures ok { OnOk result (out.new.items ≡ out.old.items ++ decimal number) }
+    ensures err { OnErr result ((part : List ℕ) × (out.new.items ≡ out.old.items ++ part)) }
 {
     if number < 10 {
         out.push(b'0' + number as u8)?;

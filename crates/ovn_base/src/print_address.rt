@@ -1,4 +1,4 @@
-ghost use Rattle.std.specs.Prelude.{◌≡◌, ◌<◌, ◌^◌, ◌≤◌, ◌++◌, ℕ, OnOk, OnErr};
+ghost use Rattle.std.specs.Prelude.{◌≡◌, ◌<◌, ◌^◌, ◌≤◌, ◌++◌, ℕ, List, OnOk, OnErr};
 ghost use Rattle.std.specs.Char.{digit_char};
 ghost use Rattle.ovn_base.specs.Address.{IsMac};
 ghost use Rattle.ovn_base.specs.AddressText.{SpellsMac, SpellsIp4, SpellsCidr, mac_text, ip4_text, cidr_text};
@@ -55,7 +55,8 @@ pub fn push_mac(out: &mut Vec<u8>, mac: Mac) -> Result<(), NoMemory>
 
 /// Appends the IPv4 address in dotted decimal. Where memory is wanting a part of it may stand there.
 pub fn push_ip4(out: &mut Vec<u8>, ip: Ip4) -> Result<(), NoMemory>
-    ensures { OnOk result (out.new.items ≡ out.old.items ++ ip4_text ip) }
+    ensures ok { OnOk result (out.new.items ≡ out.old.items ++ ip4_text ip) }
+    ensures err { OnErr result ((part : List ℕ) × (out.new.items ≡ out.old.items ++ part)) }
 {
     let [a, b, c, d] = ip.0.to_be_bytes();
     push_number(out, u64::from(a))?;
@@ -70,7 +71,8 @@ pub fn push_ip4(out: &mut Vec<u8>, ip: Ip4) -> Result<(), NoMemory>
 
 /// Appends the address, `/` and the length. Where memory is wanting a part of it may stand there.
 pub fn push_cidr(out: &mut Vec<u8>, cidr: Cidr) -> Result<(), NoMemory>
-    ensures { OnOk result (out.new.items ≡ out.old.items ++ cidr_text cidr) }
+    ensures ok { OnOk result (out.new.items ≡ out.old.items ++ cidr_text cidr) }
+    ensures err { OnErr result ((part : List ℕ) × (out.new.items ≡ out.old.items ++ part)) }
 {
     push_ip4(out, cidr.addr)?;
     out.push(b'/')?;
