@@ -1,6 +1,6 @@
 -- Tests that answer for sameness: from the elements to the lists, and from the parts to the whole.
 use Rattle.std.specs.Prelude.{◌≡◌, ℕ, Bool, true, ◌&&◌, List, [], ◌∷◌, Decides, nat_eq, refl}
-use mathlib.Core.Path.{ap, subst, ◌∙◌}
+use mathlib.Core.Path.{ap, subst}
 use Rattle.std.proofs.lemmas.Bool.{false≢true}
 use Rattle.std.proofs.lemmas.Bool.Decides.{same_from_decides, Decides-eqb}
 use base.Stored.{Coded}

@@ -1,5 +1,5 @@
 -- Ethernet addresses and their numbers.
-use Rattle.std.specs.Prelude.{◌≡◌, ◌<◌, ◌≤◌, ◌+◌, ◌-◌, ◌*◌, ◌^◌, ◌%◌, ℕ, List, [], ◌∷◌, length, drop, bit_and}
+use Rattle.std.specs.Prelude.{◌≡◌, ◌<◌, ◌-◌, ◌^◌, ◌%◌, ℕ, List, [], ◌∷◌, length, drop, bit_and}
 use Rattle.std.specs.Int.{from_be_bytes, to_be_bytes, byte_at}
 use Rattle.std.specs.List.{All}
 use mir.Syntax.{w64}
