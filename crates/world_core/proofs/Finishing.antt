@@ -1,5 +1,6 @@
 -- What an accepted event leaves: the state after it, compiled anew, or counted.
 use Rattle.std.specs.Prelude.{◌≡◌, ◌<◌, ◌+◌, ◌^◌, ℕ, true, false, List, [], Some, length, refl}
+use Rattle.std.specs.List.{AllZip}
 use Rattle.std.proofs.Common.{arith, sym, ap, subst, ◌∙◌, ◌++◌, drop, take-append-drop}
 use Rattle.ovn_base.specs.declared.name.Name.{Name}
 use Rattle.nb_records.specs.Network.{at}
@@ -11,13 +12,14 @@ use Rattle.switch_engine.specs.declared.effect.NetEffect.{NetEffect}
 use Rattle.switch_engine.specs.declared.walk.Walk.{Walk}
 use Rattle.switch_engine.specs.Proper.{IsProper}
 use Rattle.world_core.specs.Editing.{counted}
-use Rattle.world_core.specs.Outcome.{IsSent, matched, IsAccepted, IsRefused}
-use Rattle.world_core.specs.Parts.{IsTaken, IsDone}
+use Rattle.world_core.specs.Naming.{IsNamed}
+use Rattle.world_core.specs.Outcome.{matched, IsAccepted, IsRefused}
+use Rattle.world_core.specs.Parts.{IsTaken, IsDone, IsShown}
 use Rattle.world_core.specs.Seen.{Seen, IsSound}
 use Rattle.world_core.specs.State.{events_of}
-use Rattle.world_core.specs.Visit.{Visit}
 use Rattle.world_core.proofs.Kept.{bound_kept, born_kept}
 use Rattle.world_core.proofs.Law.{law}
+use Rattle.world_core.proofs.Names.{shown_only}
 use Rattle.world_core.proofs.ProperTables as tables
 
 -- the flows of a sound world are proper where some port is bound
@@ -25,21 +27,35 @@ pub proper_flows : (w : Seen) (p c : Name) → IsTaken w → at w.state.bindings
 proper_flows w p c taken home =
     tables.proper w.state w.zones w.flows c taken.consistent.keys taken.consistent.bound (taken.compiled.exact c (taken.consistent.bound.chassis_there p c home))
 
-pub packet_done : (old new : Seen) (p : Name) (frame : List ℕ) (effects : List NetEffect) (walks : List Walk) → IsTaken old → events_of old.state < 2 ^ 42 → IsSent old.state old.flows p frame effects walks
+pub packet_done : (old new : Seen) (p : Name) (frame : List ℕ) (effects : List NetEffect) (walks : List Walk) → IsTaken old → events_of old.state < 2 ^ 42 → IsShown old.state old.flows p frame effects walks
     → (count : ℕ) → count ≡ matched walks → new ≡ record old { state = counted old.state } → IsDone old (event_of.Packet p frame) effects walks count new
 packet_done old new p frame effects walks taken room sent count counts is =
     let m = old.state in
     let now = taken.consistent in
+    let seen =
+    law m old.zones old.flows sent.chassis now.valid now.keys now.bound (taken.compiled.exact sent.chassis (now.bound.chassis_there p sent.chassis sent.home)) p sent.home sent.packet sent.whole.dst sent.steps sent.ends sent.walked in
+    let named : AllZip (IsNamed m.keys) sent.ends effects =
+    subst (λ es. AllZip (IsNamed m.keys) sent.ends es) (shown_only m.net m.keys now.keys sent.ends seen.names seen.named ∙ sym sent.effects_are) seen.named in
     record {
       step = record {
         packet = sent.packet;
         whole = sent.whole;
         frame_is = sent.frame_is;
-        visit = subst (λ es. Visit m p sent.packet es) (sym sent.effects_are)
-            (law m old.zones old.flows sent.chassis now.valid now.keys now.bound (taken.compiled.exact sent.chassis (now.bound.chassis_there p sent.chassis sent.home)) p sent.home sent.packet sent.whole.dst sent.steps sent.ends sent.walked);
+        visit = seen.visit effects named;
         state = ap (λ (w : Seen). w.state) is;
       };
-      walked = sent;
+      walked = record {
+        packet = sent.packet;
+        whole = sent.whole;
+        frame_is = sent.frame_is;
+        chassis = sent.chassis;
+        home = sent.home;
+        steps = sent.steps;
+        ends = sent.ends;
+        walked = sent.walked;
+        named = named;
+        walks_are = sent.walks_are;
+      };
       counts = counts;
       zones = ap (λ (w : Seen). w.zones) is;
       now = subst (λ (w : Seen). IsTaken w) (sym is) (record {

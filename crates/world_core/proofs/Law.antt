@@ -1,5 +1,6 @@
 -- What the tables do with a packet is what the logical network says.
-use Rattle.std.specs.Prelude.{◌≡◌, ℕ, true, false, List, [], ◌∷◌, map, is_some, if◌then◌else◌, refl}
+use Rattle.std.specs.Prelude.{◌≡◌, ℕ, Bool, true, false, List, [], ◌∷◌, map, is_some, if◌then◌else◌, refl}
+use Rattle.std.specs.List.{AllZip}
 use Rattle.std.proofs.Common.{sym, ap, ◌∙◌, subst, inl, inr}
 use Rattle.std.proofs.Math.Dec.{eqb as nat_eq}
 use Rattle.std.proofs.lemmas.Bool.{cases_Bool, false≢true}
@@ -18,14 +19,15 @@ use Rattle.switch_engine.specs.declared.effect.NetEffect.TheVariants as net
 use Rattle.nb_records.specs.Network.{at}
 use Rattle.nb_records.specs.declared.record.SwitchPort.{SwitchPort}
 use Rattle.world_core.specs.declared.keys.PortKey.{PortKey}
-use Rattle.world_core.specs.Naming.{datapath_named, port_named, named}
+use Rattle.world_core.specs.Naming.{IsNamed}
+use Rattle.world_core.specs.Shown.{shown}
 use Rattle.world_core.specs.State.{State, same_name}
 use Rattle.world_core.specs.Sound.{IsValid, HaveKeys, AreExactly, basis_at}
 use Rattle.world_core.specs.Stages.{Basis, IsPort}
 use Rattle.world_core.specs.Tables.{TableFlow}
 use Rattle.world_core.specs.Visit.{HasTarget, ends_at, to_port, to_none, Visit}
 use Rattle.world_core.specs.WalkLaw.{WalkLaw}
-use Rattle.world_core.proofs.Names.{datapath_name, port_name}
+use Rattle.world_core.proofs.Names.{shown_only, datapath_has, port_has}
 use Rattle.world_core.proofs.WalkSteps as steps
 use Rattle.world_core.proofs.Walks.{Ends, way_out, sent_to, walk_0}
 
@@ -34,13 +36,22 @@ module _ (m : State) (zones : List (Name × ℕ)) (flows : List Flow) (c : Name)
   b = basis_at m zones c
 
   abbrev in_names : List Effect → List NetEffect
-  in_names ends = map (λ e. named m.keys e) ends
+  in_names ends = map (λ e. shown m.keys e) ends
+
+  -- the effects have the names that are shown
+  abbrev HaveNames : List Effect → Type 0
+  HaveNames ends = AllZip (IsNamed m.keys) ends (in_names ends)
 
   -- a drop in names
+  drop_is : (q : Name) (port : SwitchPort) (dp key : ℕ) (cause : Cause) → IsPort b q port dp key → AllZip (IsNamed m.keys) (effect.Drop dp key cause ∷ []) (net.Drop port.switch q cause ∷ [])
+  drop_is q port dp key cause of = (IsNamed.drop (datapath_has m zones flows c valid keys exact port.switch dp of.on) (port_has m zones flows c valid keys exact q port dp key of), tt)
+
   drop_named : (q : Name) (port : SwitchPort) (dp key : ℕ) (cause : Cause) → IsPort b q port dp key → in_names (effect.Drop dp key cause ∷ []) ≡ net.Drop port.switch q cause ∷ []
-  drop_named q port dp key cause of =
-      let switch : datapath_named m.keys dp ≡ port.switch = datapath_name m zones flows c valid keys exact port.switch dp of.on in
-      ap (λ n. net.Drop n (port_named m.keys n key) cause ∷ []) switch ∙ ap (λ n. net.Drop port.switch n cause ∷ []) (port_name m zones flows c valid keys exact q port dp key of)
+  drop_named q port dp key cause of = sym (shown_only m.net m.keys keys (effect.Drop dp key cause ∷ []) (net.Drop port.switch q cause ∷ []) (drop_is q port dp key cause of))
+
+  drop_has : (q : Name) (port : SwitchPort) (dp key : ℕ) (cause : Cause) → IsPort b q port dp key → HaveNames (effect.Drop dp key cause ∷ [])
+  drop_has q port dp key cause of =
+      subst (λ ns. AllZip (IsNamed m.keys) (effect.Drop dp key cause ∷ []) ns) (sym (drop_named q port dp key cause of)) (drop_is q port dp key cause of)
 
   -- the key of a port is one
   one_key : (p : Name) (port other : SwitchPort) (dp d key k : ℕ) → IsPort b p port dp key → IsPort b p other d k → key ≡ k
@@ -82,6 +93,20 @@ module _ (m : State) (zones : List (Name × ℕ)) (flows : List Flow) (c : Name)
             ∙ ap (λ w. if w then (if same_name q p then net.Drop ours.switch q Loopback ∷ [] else net.Out q packet ∷ []) else net.Drop ours.switch q Unbound ∷ []) (sym free)
       ]
 
+      way_has : HaveNames (way_out dp entered q key packet)
+      way_has = elim (nat_eq entered key) as (λ w. HaveNames (if w then effect.Drop dp key Loopback ∷ [] else effect.Out q packet ∷ [])) [
+        | true ↦ drop_has q port dp key Loopback of
+        | false ↦ (IsNamed.out, tt)
+      ]
+
+      sent_has : (bound : Bool) → HaveNames (sent_to dp entered q key packet bound)
+      sent_has true = way_has
+      sent_has false = drop_has q port dp key Unbound of
+
+    have_names : (ends : List Effect) → Ends m b ours.switch dp entered packet ends → HaveNames ends
+    have_names ends (Ends.to_target q port key target of is) = subst HaveNames (sym is) (sent_has q port key of target.on_switch (is_some (at m.bindings q)))
+    have_names ends (Ends.to_nobody nobody is) = subst HaveNames (sym is) (drop_has p ours dp entered UnknownAddress from)
+
     visit : (ends : List Effect) → Ends m b ours.switch dp entered packet ends → Visit m p packet (in_names ends)
     visit ends (Ends.to_target q port key target of is) = record {
       port = ours;
@@ -102,4 +127,8 @@ module _ (m : State) (zones : List (Name × ℕ)) (flows : List Flow) (c : Name)
 pub law : WalkLaw
 law m zones flows c valid keys bound exact p home packet is_mac path ends walk =
     let w = walk_0 m zones flows c valid keys bound exact (bound.chassis_there p c home) p home packet is_mac _ refl refl path ends walk in
-    visit m zones flows c valid keys exact p w.0 w.1 w.2 w.3 packet ends w.4
+    record {
+      names = map (λ e. shown m.keys e) ends;
+      named = have_names m zones flows c valid keys exact p w.0 w.1 w.2 w.3 packet ends w.4;
+      visit = λ effects named. subst (λ es. Visit m p packet es) (sym (shown_only m.net m.keys keys ends effects named)) (visit m zones flows c valid keys exact p w.0 w.1 w.2 w.3 packet ends w.4);
+    }

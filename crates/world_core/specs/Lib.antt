@@ -10,6 +10,7 @@ pub mod Sound
 pub mod Unbuilt
 pub mod Visit
 pub mod Naming
+pub mod Shown
 pub mod WalkLaw
 pub mod Editing
 pub mod Seen

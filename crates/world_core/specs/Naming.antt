@@ -1,28 +1,31 @@
 -- The names of numbers: an effect of the tables, said in names.
-use Rattle.std.specs.Prelude.{◌&&◌, ℕ, Some, None, Option, codes}
-use Rattle.std.specs.List.{find}
-use Rattle.std.proofs.Math.Dec.{eqb as nat_eq}
+use Rattle.std.specs.Prelude.{◌≡◌, ℕ, Some}
 use Rattle.ovn_base.specs.declared.name.Name.{Name}
+use Rattle.inet_packet.specs.declared.packet.Packet.{Packet}
+use Rattle.flow_table.specs.declared.flow.Cause.{Cause}
+use Rattle.nb_records.specs.Network.{at}
 use Rattle.switch_engine.specs.declared.effect.Effect.{Effect}
 use Rattle.switch_engine.specs.declared.effect.Effect.TheVariants as effect
 use Rattle.switch_engine.specs.declared.effect.NetEffect.{NetEffect}
 use Rattle.switch_engine.specs.declared.effect.NetEffect.TheVariants as net
-use Rattle.world_core.specs.State.{Keys, same_name}
+use Rattle.world_core.specs.declared.keys.DatapathKey.{DatapathKey}
+use Rattle.world_core.specs.declared.keys.PortKey.{PortKey}
+use Rattle.world_core.specs.State.{Keys}
 
--- the name of an entry that was found, and `-` where none was
-abbrev pub name_or_dash : {X : Type 0} → Option (Name × X) → Name
-name_or_dash None = codes "-"
-name_or_dash (Some entry) = entry.0
+-- the datapath of this name has the key
+pub record HasDatapathKey (keys : Keys) (a : Name) (key : ℕ) : Type 0 where
+  pub live : DatapathKey
+  pub has : at keys.datapaths a ≡ Some live
+  pub number : live.key ≡ key
 
--- the name of the datapath that has the key
-abbrev pub datapath_named : Keys → ℕ → Name
-datapath_named keys key = name_or_dash (find (λ e. nat_eq e.1.key key) keys.datapaths)
+-- the port of this name has the key on the datapath
+pub record HasPortKey (keys : Keys) (a q : Name) (key : ℕ) : Type 0 where
+  pub live : PortKey
+  pub has : at keys.ports q ≡ Some live
+  pub on : live.datapath ≡ a
+  pub number : live.key ≡ key
 
--- the name of the port of the datapath that has the key
-abbrev pub port_named : Keys → Name → ℕ → Name
-port_named keys datapath key = name_or_dash (find (λ e. same_name e.1.datapath datapath && nat_eq e.1.key key) keys.ports)
-
--- the effect in names
-abbrev pub named : Keys → Effect → NetEffect
-named keys (effect.Out port packet) = net.Out port packet
-named keys (effect.Drop vni port cause) = net.Drop (datapath_named keys vni) (port_named keys (datapath_named keys vni) port) cause
+-- the effect in names is that of the tables: its names have the numbers
+pub data IsNamed (keys : Keys) : Effect → NetEffect → Type 0 where
+  out : {port : Name} {packet : Packet} → IsNamed keys (effect.Out port packet) (net.Out port packet)
+  drop : {vni key : ℕ} {cause : Cause} {a q : Name} → HasDatapathKey keys a vni → HasPortKey keys a q key → IsNamed keys (effect.Drop vni key cause) (net.Drop a q cause)

@@ -1,5 +1,6 @@
 -- What a world does with an event.
-use Rattle.std.specs.Prelude.{◌≡◌, ◌++◌, ◌+◌, ℕ, List, [], ◌∷◌, Some, None, Ok, Err, Result, map, sum_by, length}
+use Rattle.std.specs.Prelude.{◌≡◌, ◌++◌, ◌+◌, ℕ, List, [], ◌∷◌, Some, None, Ok, Err, Result, sum_by, length}
+use Rattle.std.specs.List.{AllZip}
 use Rattle.ovn_base.specs.declared.name.Name.{Name}
 use Rattle.inet_packet.specs.declared.packet.Packet as inet
 use Rattle.inet_packet.specs.Frame.{frame_of}
@@ -19,7 +20,7 @@ use Rattle.event_lines.specs.declared.refusal.Refusal.{Refusal}
 use Rattle.event_lines.specs.declared.refusal.StepFault.{StepFault}
 use Rattle.event_lines.specs.declared.refusal.StepFault.TheVariants.{Refused, Memory}
 use Rattle.event_lines.specs.Lines.{lines_of, refused_line}
-use Rattle.world_core.specs.Naming.{named}
+use Rattle.world_core.specs.Naming.{IsNamed}
 use Rattle.world_core.specs.Refusing.{refusal}
 use Rattle.world_core.specs.Seen.{Seen, IsSound}
 use Rattle.world_core.specs.State.{State, events_of}
@@ -36,7 +37,7 @@ pub record IsSent (m : State) (flows : List Flow) (p : Name) (frame : List ℕ) 
   pub steps : List Step
   pub ends : List Effect
   pub walked : IsWalk flows 0 (start_regs (Vif p)) packet steps ends
-  pub effects_are : effects ≡ map (λ effect. named m.keys effect) ends
+  pub named : AllZip (IsNamed m.keys) ends effects
   pub walks_are : walks ≡ record { chassis = chassis; start = Port p; steps = steps } ∷ []
 
 -- the walks of an accepted event and the effects that they had: a packet has one walk, and nothing else has any

@@ -1,18 +1,28 @@
 -- What the parts of a step need and leave.
-use Rattle.std.specs.Prelude.{◌≡◌, ℕ, List, [], Option, None, true, false, slice_get, if◌then◌else◌, Ok, Err, Result}
+use Rattle.std.specs.Prelude.{◌≡◌, ℕ, List, [], ◌∷◌, Option, Some, None, true, false, slice_get, map, if◌then◌else◌, Ok, Err, Result}
 use Rattle.ovn_base.specs.declared.name.Name.{Name}
+use Rattle.inet_packet.specs.declared.packet.Packet as inet
+use Rattle.inet_packet.specs.Frame.{frame_of}
+use Rattle.inet_packet.specs.Whole.{IsWhole}
 use Rattle.flow_table.specs.declared.flow.Flow.{Flow}
+use Rattle.nb_records.specs.Network.{at}
 use Rattle.edit_reader.specs.declared.event.Event.{Event}
 use Rattle.event_lines.specs.declared.refusal.StepFault.{StepFault}
 use Rattle.event_lines.specs.declared.refusal.StepFault.TheVariants.{Refused, Memory}
 use Rattle.event_lines.specs.Text.{StartsWith}
+use Rattle.switch_engine.specs.declared.effect.Effect.{Effect}
+use Rattle.switch_engine.specs.declared.effect.Entry.TheVariants.{Vif}
 use Rattle.switch_engine.specs.declared.effect.NetEffect.{NetEffect}
+use Rattle.switch_engine.specs.declared.walk.Start.TheVariants.{Port}
+use Rattle.switch_engine.specs.declared.walk.Step.{Step}
 use Rattle.switch_engine.specs.declared.walk.Walk.{Walk}
+use Rattle.switch_engine.specs.Walk.{IsWalk, start_regs}
 use Rattle.world_core.specs.Outcome.{HasWalks, matched, IsAccepted, IsRefused}
 use Rattle.world_core.specs.Refusing.{is_chassis}
 use Rattle.world_core.specs.Seen.{Seen, IsConsistent}
 use Rattle.world_core.specs.Sound.{AreCompiled}
-use Rattle.world_core.specs.State.{empty}
+use Rattle.world_core.specs.Shown.{shown}
+use Rattle.world_core.specs.State.{State, empty}
 use Rattle.world_core.specs.Step as net
 use Rattle.world_core.specs.Zones.{zones_after}
 
@@ -38,6 +48,19 @@ pub record IsDone (old : Seen) (event : Event) (effects : List NetEffect) (walks
   pub counts : count ≡ matched walks
   pub zones : new.zones ≡ zones_after old.zones event
   pub now : IsTaken new
+
+-- the packet of the frame went through the tables of the chassis to which its port is bound, and its effects are shown with names
+pub record IsShown (m : State) (flows : List Flow) (p : Name) (frame : List ℕ) (effects : List NetEffect) (walks : List Walk) : Type 0 where
+  pub packet : inet.Packet
+  pub whole : IsWhole packet
+  pub frame_is : frame_of packet ≡ frame
+  pub chassis : Name
+  pub home : at m.bindings p ≡ Some chassis
+  pub steps : List Step
+  pub ends : List Effect
+  pub walked : IsWalk flows 0 (start_regs (Vif p)) packet steps ends
+  pub effects_are : effects ≡ map (λ effect. shown m.keys effect) ends
+  pub walks_are : walks ≡ record { chassis = chassis; start = Port p; steps = steps } ∷ []
 
 -- the flow of this index that the chassis holds, where it is there
 abbrev pub flow_at : Seen → Name → ℕ → Option Flow

@@ -1,6 +1,6 @@
 //! The names of numbers: what the tables did, said in names.
 ghost use Rattle.std.specs.Prelude.{◌≡◌, ◌++◌, IfOk, codes, map};
-ghost use Rattle.world_core.specs.Naming.{datapath_named, port_named, named};
+ghost use Rattle.world_core.specs.Shown.{datapath_named, port_named, shown};
 ghost use Rattle.world_core.specs.Numbers.{keys_in};
 
 use crate::keys::{DatapathKey, PortKey};
@@ -55,7 +55,7 @@ impl Numbers<'_> {
 
     // The effect in names.
     fn named(&self, effect: Effect) -> NetEffect
-        ensures { result ≡ named (keys_in self.now) effect }
+        ensures { result ≡ shown (keys_in self.now) effect }
     {
         match effect {
             Effect::Out { port, packet } => NetEffect::Out { port, packet },
@@ -76,7 +76,7 @@ impl Numbers<'_> {
         alloc: Global,
         effects: List<Effect>,
     ) -> Result<List<NetEffect>, NoMemory>
-        ensures { IfOk result (λ nets. nets ≡ map (λ effect. named (keys_in self.now) effect) effects) }
+        ensures { IfOk result (λ nets. nets ≡ map (λ effect. shown (keys_in self.now) effect) effects) }
     {
         let mut nets = List::new(alloc);
         'effects: for effect in effects {

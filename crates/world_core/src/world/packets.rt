@@ -5,7 +5,8 @@ ghost use Rattle.inet_packet.specs.Frame.{frame_of};
 ghost use Rattle.inet_packet.specs.Whole.{IsWhole};
 ghost use Rattle.edit_reader.specs.Reads.{IsPlainFrame};
 ghost use Rattle.switch_engine.specs.Proper.{IsProper};
-ghost use Rattle.world_core.specs.Outcome.{IsSent, matched};
+ghost use Rattle.world_core.specs.Outcome.{matched};
+ghost use Rattle.world_core.specs.Parts.{IsShown};
 
 use crate::naming::Numbers;
 use crate::world::{Done, World};
@@ -42,7 +43,7 @@ impl World {
         requires proper { IsProper self.now.flows }
         requires home { IsSome (at self.now.state.bindings port) }
         requires frame { IsPlainFrame frame.now }
-        ensures sent { IfOk result (λ done. IsSent self.now.state self.now.flows port frame.now done.effects done.walks) }
+        ensures sent { IfOk result (λ done. IsShown self.now.state self.now.flows port frame.now done.effects done.walks) }
         ensures counted { IfOk result (λ done. done.matched ≡ matched done.walks) }
     {
         let Some(chassis) = self.bindings.get(&port) else {
