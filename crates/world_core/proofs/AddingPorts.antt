@@ -85,4 +85,4 @@ module _ (m n : State) (p : SwitchPort) (key : ℕ) (free : IsFreePortKey m.keys
   consistent_port zones old absent few on new room =
       subst (λ w. IsConsistent w zones) (sym is)
       (port_comes m zones (record p { birth = record { 0 = events_of m + 1 } }) (record { datapath = p.switch; birth = record { 0 = events_of m + 1 }; key = key }) old absent few on
-      (record { macs = new.macs; once = new.once; apart = new.apart }) room refl refl refl free)
+      (record { macs = new.macs; stations = new.stations; once = new.once; apart = new.apart; ips_apart = new.ips_apart }) room refl refl refl free)

@@ -6,6 +6,7 @@ use native.Mathlib.Omega.{arith}
 use Rattle.std.proofs.lemmas.Option.{none-some}
 use Rattle.ovn_base.specs.Among.{Among}
 use Rattle.ovn_base.specs.Address.{IsMac}
+use Rattle.ovn_base.specs.declared.address.Ip4.{Ip4}
 use Rattle.ovn_base.specs.declared.address.Mac.{Mac}
 use Rattle.ovn_base.specs.declared.name.Name.{Name}
 use Rattle.ovn_base.proofs.AmongLaws.{among_cases, among_none}
@@ -18,7 +19,7 @@ use Rattle.nb_records.specs.declared.record.SwitchPort.{SwitchPort}
 use Rattle.world_core.specs.declared.keys.DatapathKey.{DatapathKey}
 use Rattle.world_core.specs.declared.keys.PortKey.{PortKey}
 use Rattle.world_core.specs.State.{State, Keys, events_of}
-use Rattle.world_core.specs.Addresses.{mac_of, HasMac}
+use Rattle.world_core.specs.Addresses.{mac_of, HasMac, HasIp, IsOfStation}
 use Rattle.world_core.specs.New.{AreNew}
 use Rattle.world_core.specs.Sound.{IsValid, HaveKeys, AreBound, AreBorn}
 use Rattle.world_core.proofs.Found.{some_of, is_some_of}
@@ -48,8 +49,10 @@ module _ (net : Network) (name : Name) (switch : Switch) where
     port_names = valid.port_names;
     on_switch = λ q port found. some_kept net.switches name switch port.switch (valid.on_switch q port found);
     macs = valid.macs;
+    stations = valid.stations;
     once = valid.once;
     apart = valid.apart;
+    ips_apart = valid.ips_apart;
   }
 
   -- with a key that no other has
@@ -95,11 +98,15 @@ module _ (net : Network) (name : Name) (switch : Switch) where
 
 -- one entry
 pub new_entry : (net : Network) (port : SwitchPort) (entry : PortAddress) → port.addresses ≡ entry ∷ [] → IsMac (mac_of entry)
-    → ((q : Name) (other : SwitchPort) → at net.ports q ≡ Some other → other.switch ≡ port.switch → (mac : Mac) → HasMac other.addresses mac → ¬ HasMac port.addresses mac) → AreNew net port
-new_entry net port entry one mac apart = record {
+    → ((other : PortAddress) → Among other port.addresses → IsOfStation (mac_of other))
+    → ((q : Name) (other : SwitchPort) → at net.ports q ≡ Some other → other.switch ≡ port.switch → (mac : Mac) → HasMac other.addresses mac → ¬ HasMac port.addresses mac)
+    → ((q : Name) (other : SwitchPort) → at net.ports q ≡ Some other → other.switch ≡ port.switch → (ip : Ip4) → HasIp other.addresses ip → ¬ HasIp port.addresses ip) → AreNew net port
+new_entry net port entry one mac stations apart ips_apart = record {
   macs = λ e m. elim (among_cases e entry [] (subst (λ l. Among e l) one m)) [ inl same ↦ subst (λ w. IsMac (mac_of w)) (sym same) mac | inr n ↦ absurd (among_none e n) ];
   once = subst (λ l. EachOnce (map (λ w. mac_of w) l)) (sym one) (λ m. among_none (mac_of entry) m, tt);
+  stations = stations;
   apart = apart;
+  ips_apart = ips_apart;
 }
 
 module _ (net : Network) (name : Name) (port : SwitchPort) where
@@ -120,6 +127,10 @@ module _ (net : Network) (name : Name) (port : SwitchPort) where
       | inl is ↦ new.macs entry (subst (λ (w : SwitchPort). Among entry w.addresses) is.1 m)
       | inr old ↦ valid.macs q p entry old.1 m
     ];
+    stations = λ q p entry found m. elim (put_cases net.ports name port q p found) [
+      | inl is ↦ new.stations entry (subst (λ (w : SwitchPort). Among entry w.addresses) is.1 m)
+      | inr old ↦ valid.stations q p entry old.1 m
+    ];
     once = λ q p found. elim (put_cases net.ports name port q p found) [
       | inl is ↦ subst (λ (w : SwitchPort). EachOnce (map (λ entry. mac_of entry) w.addresses)) (sym is.1) new.once
       | inr old ↦ valid.once q p old.1
@@ -133,6 +144,17 @@ module _ (net : Network) (name : Name) (port : SwitchPort) where
       | inr old ↦ elim (put_cases net.ports name port q theirs at_q) [
         | inl is ↦ absurd (new.apart p ours old.1 (same ∙ ap (λ (w : SwitchPort). w.switch) is.1) mac has (subst (λ (w : SwitchPort). HasMac w.addresses mac) is.1 also))
         | inr too ↦ valid.apart p q ours theirs mac old.1 too.1 same has also
+      ]
+    ];
+    ips_apart = λ p q ours theirs ip at_p at_q same has also. elim (put_cases net.ports name port p ours at_p) [
+      | inl is ↦ elim (put_cases net.ports name port q theirs at_q) [
+        | inl too ↦ is.0 ∙ sym too.0
+        | inr old ↦
+            absurd (new.ips_apart q theirs old.1 (sym same ∙ ap (λ (w : SwitchPort). w.switch) is.1) ip also (subst (λ (w : SwitchPort). HasIp w.addresses ip) is.1 has))
+      ]
+      | inr old ↦ elim (put_cases net.ports name port q theirs at_q) [
+        | inl is ↦ absurd (new.ips_apart p ours old.1 (same ∙ ap (λ (w : SwitchPort). w.switch) is.1) ip has (subst (λ (w : SwitchPort). HasIp w.addresses ip) is.1 also))
+        | inr too ↦ valid.ips_apart p q ours theirs ip old.1 too.1 same has also
       ]
     ];
   }

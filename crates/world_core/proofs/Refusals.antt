@@ -17,7 +17,7 @@ use Rattle.world_core.specs.Refusing.{refusal, refusal_of_record, is_chassis}
 use Rattle.world_core.specs.State.{State, same_name}
 use Rattle.world_core.specs.Unbuilt.{is_unbuilt_port}
 use Rattle.world_core.proofs.Kept.{new_entry}
-use Rattle.world_core.proofs.Unheld.{built, IsBuilt}
+use Rattle.world_core.proofs.Unheld.{built, IsBuilt, all_of_stations}
 
 both : (a b : Bool) (x y : Refusal) → cond a (cond b None (Some x)) (Some y) ≡ None → b ≡ true
 both true true x y h = refl
@@ -49,4 +49,6 @@ pub is_built : (net : Network) (port : SwitchPort) → refusal_of_record net (re
 is_built net port h = built net port (none_first (is_unbuilt_port net port) _ _ h)
 
 pub is_new : (net : Network) (port : SwitchPort) → refusal_of_record net (record_of.SwitchPort port) ≡ None → IsAdmittedRecord (record_of.SwitchPort port) → AreNew net port
-is_new net port h admitted = new_entry net port admitted.0 admitted.1 admitted.2 (is_built net port h).apart
+is_new net port h admitted =
+    let is = is_built net port h in
+    new_entry net port admitted.0 admitted.1 admitted.2 (all_of_stations port.addresses is.entries) is.apart is.ips_apart

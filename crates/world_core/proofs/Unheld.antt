@@ -1,8 +1,14 @@
 -- What follows for a port that isn't refused.
-use Rattle.std.specs.Prelude.{◌≡◌, ◌<◌, ◌||◌, ◌&&◌, Bool, true, false, Option, Some, None, is_some, nat_le, length, refl}
+use Rattle.std.specs.Prelude.{◌≡◌, ◌<◌, ◌||◌, ◌&&◌, Bool, true, false, List, [], ◌∷◌, Option, Some, None, is_some, nat_le, length, refl}
 use mathlib.Core.Path.{sym, ap, ◌∙◌}
-use Rattle.std.proofs.lemmas.Bool.{false≢true, or_parts, leb-false}
+use mathlib.Core.Logic.{inl, inr}
+use Rattle.std.proofs.Math.Dec.{eqb as nat_eq}
+use Rattle.std.proofs.lemmas.Bool.{cases_Bool, false≢true, or_parts, or_right, leb-false}
+use Rattle.std.proofs.lemmas.Bool.Decides.{Decides-eqb}
+use Rattle.ovn_base.specs.Among.{Among}
+use Rattle.ovn_base.specs.Address.{is_multicast_mac}
 use Rattle.ovn_base.specs.SameName.{bytes_decides}
+use Rattle.ovn_base.specs.declared.address.Ip4.{Ip4}
 use Rattle.ovn_base.specs.declared.address.Mac.{Mac}
 use Rattle.ovn_base.specs.declared.name.Name.{Name}
 use Rattle.ovn_base.proofs.AmongLaws.{among_any}
@@ -12,8 +18,8 @@ use Rattle.nb_records.specs.declared.record.PortAddress.{PortAddress}
 use Rattle.nb_records.specs.declared.record.PortAddress.TheVariants.{Ether}
 use Rattle.nb_records.specs.declared.record.SwitchPort.{SwitchPort}
 use Rattle.world_core.specs.State.{same_name}
-use Rattle.world_core.specs.Addresses.{mac_of, HasMac}
-use Rattle.world_core.specs.Unbuilt.{clash, clashes, share, has_common, has_no_entry, is_held, is_unbuilt_port}
+use Rattle.world_core.specs.Addresses.{mac_of, ips_of, HasMac, HasIp, IsOfStation}
+use Rattle.world_core.specs.Unbuilt.{same_mac, is_zero_mac, is_among, repeats, is_no_entry, clash, clashes, share, has_common, has_no_entry, is_held, is_unbuilt_port}
 
 -- entries with one Ethernet address clash
 one_mac : (a b : PortAddress) → mac_of a ≡ mac_of b → clash a b ≡ true
@@ -33,6 +39,43 @@ not_held net port free q other found on mac theirs ours =
     among_any (λ (e : Name × SwitchPort). same_name e.1.switch port.switch && share e.1.addresses port.addresses) (q, other) net.ports (at_among net.ports q other found) both in
     false≢true (sym free ∙ held)
 
+-- entries with one IP clash
+one_ip : (a b : PortAddress) (ip : Ip4) → Among ip (ips_of a) → Among ip (ips_of b) → clash a b ≡ true
+one_ip (Ether mac ips) (Ether other others) ip ours theirs =
+    let here : is_among others ip ≡ true = among_any (λ (other : Ip4). nat_eq other.0 ip.0) ip others theirs ((Decides-eqb ip.0 ip.0).1 refl) in
+    or_right (same_mac mac other) (has_common ips others) (among_any (λ one. is_among others one) ip ips ours here)
+
+-- nor one of the IPs
+pub ip_not_held : (net : Network) (port : SwitchPort) → is_held net port ≡ false → (q : Name) (other : SwitchPort) → at net.ports q ≡ Some other → other.switch ≡ port.switch
+    → (ip : Ip4) → HasIp other.addresses ip → ¬ HasIp port.addresses ip
+unfolding is_held
+ip_not_held net port free q other found on ip theirs ours =
+    let entries : clash theirs.entry ours.entry ≡ true = one_ip theirs.entry ours.entry ip theirs.has ours.has in
+    let one : clashes theirs.entry port.addresses ≡ true = among_any (λ entry. clash theirs.entry entry) ours.entry port.addresses ours.among entries in
+    let some : share other.addresses port.addresses ≡ true = among_any (λ entry. clashes entry port.addresses) theirs.entry other.addresses theirs.among one in
+    let same : same_name other.switch port.switch ≡ true = (bytes_decides other.switch port.switch).1 on in
+    let both : (same_name other.switch port.switch && share other.addresses port.addresses) ≡ true = ap (λ (t : Bool). t && share other.addresses port.addresses) same ∙ some in
+    let held : is_held net port ≡ true =
+    among_any (λ (e : Name × SwitchPort). same_name e.1.switch port.switch && share e.1.addresses port.addresses) (q, other) net.ports (at_among net.ports q other found) both in
+    false≢true (sym free ∙ held)
+
+-- an entry that a port can have has the address of a station
+of_station : (entry : PortAddress) → is_no_entry entry ≡ false → IsOfStation (mac_of entry)
+of_station (Ether mac ips) h =
+    let parts = or_parts (is_zero_mac mac || is_multicast_mac mac) (repeats ips) h in
+    let addresses = or_parts (is_zero_mac mac) (is_multicast_mac mac) parts.0 in
+    record {
+      no_group = addresses.1;
+      not_zero = λ zero. false≢true (sym addresses.0 ∙ (bytes_decides mac.0 (0 ∷ 0 ∷ 0 ∷ 0 ∷ 0 ∷ 0 ∷ [])).1 zero);
+    }
+
+-- so have all
+pub all_of_stations : (addresses : List PortAddress) → has_no_entry addresses ≡ false → (entry : PortAddress) → Among entry addresses → IsOfStation (mac_of entry)
+all_of_stations addresses h entry m = elim (cases_Bool (is_no_entry entry)) [
+  | inl none ↦ absurd (false≢true (sym h ∙ among_any (λ address. is_no_entry address) entry addresses m none))
+  | inr some ↦ of_station entry some
+]
+
 -- a name that a look-up doesn't find
 pub not_there : {X : Type 0} (o : Option X) → is_some o ≡ false → o ≡ None
 not_there None h = refl
@@ -44,6 +87,7 @@ pub record IsBuilt (net : Network) (port : SwitchPort) : Type 0 where
   pub few : length net.ports < 10000
   pub entries : has_no_entry port.addresses ≡ false
   pub apart : (q : Name) (other : SwitchPort) → at net.ports q ≡ Some other → other.switch ≡ port.switch → (mac : Mac) → HasMac other.addresses mac → ¬ HasMac port.addresses mac
+  pub ips_apart : (q : Name) (other : SwitchPort) → at net.ports q ≡ Some other → other.switch ≡ port.switch → (ip : Ip4) → HasIp other.addresses ip → ¬ HasIp port.addresses ip
 
 pub built : (net : Network) (port : SwitchPort) → is_unbuilt_port net port ≡ false → IsBuilt net port
 unfolding is_unbuilt_port
@@ -56,6 +100,7 @@ built net port h =
       few = leb-false 10000 (length net.ports) c.1;
       entries = b.1;
       apart = not_held net port a.1;
+      ips_apart = ip_not_held net port a.1;
     }
 
 -- a switch whose name is new, where the limit on switches isn't reached

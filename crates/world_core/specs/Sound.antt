@@ -6,6 +6,7 @@ use Rattle.std.specs.Ordering.{nat_cmp}
 use Rattle.std.specs.Cmp.Lexicographic.{slice_cmp}
 use Rattle.ovn_base.specs.Among.{Among}
 use Rattle.ovn_base.specs.Address.{IsMac}
+use Rattle.ovn_base.specs.declared.address.Ip4.{Ip4}
 use Rattle.ovn_base.specs.declared.address.Mac.{Mac}
 use Rattle.ovn_base.specs.declared.name.Name.{Name}
 use Rattle.flow_table.specs.Change.{EachOnce}
@@ -16,7 +17,7 @@ use Rattle.nb_records.specs.declared.record.Switch.{Switch}
 use Rattle.nb_records.specs.declared.record.SwitchPort.{SwitchPort}
 use Rattle.world_core.specs.declared.keys.DatapathKey.{DatapathKey}
 use Rattle.world_core.specs.declared.keys.PortKey.{PortKey}
-use Rattle.world_core.specs.Addresses.{mac_of, HasMac}
+use Rattle.world_core.specs.Addresses.{mac_of, HasMac, HasIp, IsOfStation}
 use Rattle.world_core.specs.State.{State, Keys, events_of}
 use Rattle.world_core.specs.Stages.{Basis}
 use Rattle.world_core.specs.Tables.{TableFlow}
@@ -32,12 +33,15 @@ pub record IsValid (net : Network) : Type 0 where
   pub switch_names : (a : Name) (switch : Switch) → at net.switches a ≡ Some switch → switch.name ≡ a
   pub port_names : (q : Name) (port : SwitchPort) → at net.ports q ≡ Some port → port.name ≡ q
   pub on_switch : (q : Name) (port : SwitchPort) → at net.ports q ≡ Some port → IsSome (at net.switches port.switch)
-  -- each entry has an Ethernet address, and no other entry of the port has it
+  -- each entry has the Ethernet address of a station, and no other entry of the port has it
   pub macs : (q : Name) (port : SwitchPort) (entry : PortAddress) → at net.ports q ≡ Some port → Among entry port.addresses → IsMac (mac_of entry)
+  pub stations : (q : Name) (port : SwitchPort) (entry : PortAddress) → at net.ports q ≡ Some port → Among entry port.addresses → IsOfStation (mac_of entry)
   pub once : (q : Name) (port : SwitchPort) → at net.ports q ≡ Some port → EachOnce (map (λ entry. mac_of entry) port.addresses)
-  -- no two ports of a switch have one Ethernet address
+  -- no two ports of a switch have one Ethernet address, or one IP
   pub apart : (p q : Name) (ours theirs : SwitchPort) (mac : Mac) → at net.ports p ≡ Some ours → at net.ports q ≡ Some theirs → ours.switch ≡ theirs.switch
       → HasMac ours.addresses mac → HasMac theirs.addresses mac → p ≡ q
+  pub ips_apart : (p q : Name) (ours theirs : SwitchPort) (ip : Ip4) → at net.ports p ≡ Some ours → at net.ports q ≡ Some theirs → ours.switch ≡ theirs.switch
+      → HasIp ours.addresses ip → HasIp theirs.addresses ip → p ≡ q
 
 -- the records are within the limits: 1,024 switches and 10,000 ports
 pub record IsWithin (net : Network) : Type 0 where
