@@ -15,7 +15,7 @@ use Rattle.world_core.specs.Editing.{IsFreeDatapathKey, IsFreePortKey, counted}
 use Rattle.world_core.specs.New.{AreNew}
 use Rattle.world_core.specs.Seen.{IsConsistent}
 use Rattle.world_core.specs.State.{State, events_of}
-use Rattle.world_core.proofs.Kept.{switch_valid, switch_keys, port_valid, port_keys, some_kept, bound_kept, bound_fresh, bound_again, born_kept, born_switch, born_port}
+use Rattle.world_core.proofs.Kept.{switch_valid, switch_keys, port_valid, port_keys, some_kept, bound_kept, bound_fresh, born_kept, born_switch, born_port}
 
 -- one entry more at the most
 pub few_put : {X : Type 0} (entries : List (Name × X)) (name : Name) (value : X) → length (put entries name value) ≤ length entries + 1
@@ -79,21 +79,6 @@ port_bound m zones p c zone old there known room low high free = record {
   within = old.within;
   keys = old.keys;
   bound = bound_fresh m n zones p c zone old.bound refl refl refl there known low high free;
-  born = born_kept m n old.born (omega arith) refl;
-  few = omega (arith, room);
-}
-  where
-    n : State
-    n = record (counted m) { bindings = put m.bindings p c }
-
--- a port that is bound keeps its zone
-pub port_bound_again : (m : State) (zones : List (Name × ℕ)) (p c : Name) → IsConsistent m zones → IsSome (at m.bindings p) → Among c m.chassis → events_of m < 2 ^ 42
-    → IsConsistent (record (counted m) { bindings = put m.bindings p c }) zones
-port_bound_again m zones p c old was known room = record {
-  valid = old.valid;
-  within = old.within;
-  keys = old.keys;
-  bound = bound_again m n zones p c old.bound refl refl refl was known;
   born = born_kept m n old.born (omega arith) refl;
   few = omega (arith, room);
 }

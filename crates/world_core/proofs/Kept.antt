@@ -258,32 +258,6 @@ bound_fresh m n zones p c zone bound net chassis bindings port known low high fr
     bound_cases : (q d : Name) → at n.bindings q ≡ Some d → ((q ≡ p) × (d ≡ c)) ⊎ ((q ≢ p) × (at m.bindings q ≡ Some d))
     bound_cases q d e = put_cases m.bindings p c q d (ap (λ l. at l q) (sym bindings) ∙ e)
 
--- a port that is bound is bound anew, and keeps its zone
-pub bound_again : (m n : State) (zones : List (Name × ℕ)) (p c : Name) → AreBound m zones → n.net ≡ m.net → n.chassis ≡ m.chassis → n.bindings ≡ put m.bindings p c → IsSome (at m.bindings p) → Among c m.chassis → AreBound n zones
-bound_again m n zones p c bound net chassis bindings was known =
-    let old = some_of (at m.bindings p) was in
-    record {
-      port_there = λ q d e. subst (λ w. IsSome (at w.ports q)) (sym net) (elim (bound_cases q d e) [
-        | inl is ↦ subst (λ a. IsSome (at m.net.ports a)) (sym is.0) (bound.port_there p old.0 old.1)
-        | inr rest ↦ bound.port_there q d rest.1
-      ]);
-      chassis_there = λ q d e. subst (λ l. Among d l) (sym chassis) (elim (bound_cases q d e) [
-        | inl is ↦ subst (λ a. Among a m.chassis) (sym is.1) known
-        | inr rest ↦ bound.chassis_there q d rest.1
-      ]);
-      one_chassis = subst (λ l. length l ≤ 1) (sym chassis) bound.one_chassis;
-      has_zone = λ q d e. elim (bound_cases q d e) [
-        | inl is ↦ subst (λ a. IsSome (at zones a)) (sym is.0) (bound.has_zone p old.0 old.1)
-        | inr rest ↦ bound.has_zone q d rest.1
-      ];
-      zone_of = λ q z e. subst (λ l. IsSome (at l q)) (sym bindings) (some_kept m.bindings p c q (bound.zone_of q z e));
-      zone_fits = bound.zone_fits;
-      zones_apart = bound.zones_apart;
-    }
-  where
-    bound_cases : (q d : Name) → at n.bindings q ≡ Some d → ((q ≡ p) × (d ≡ c)) ⊎ ((q ≢ p) × (at m.bindings q ≡ Some d))
-    bound_cases q d e = put_cases m.bindings p c q d (ap (λ l. at l q) (sym bindings) ∙ e)
-
 -- a port that isn't bound has no zone
 pub no_zone : (m : State) (zones : List (Name × ℕ)) (p : Name) → AreBound m zones → at m.bindings p ≡ None → at zones p ≡ None
 no_zone m zones p bound free = by (at zones p) refl
