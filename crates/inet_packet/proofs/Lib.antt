@@ -7,3 +7,4 @@ pub mod OnePacket
 pub mod SumLaws
 pub mod RewriteLaws
 pub mod RewriteSteps
+pub mod Samples

@@ -1,9 +1,11 @@
-//! Equal values are the same, and copies are equal.
+//! Laws of `==` and of clones of packets and cubes, each on a function that does nothing: call it, and its clause is a
+//! fact of the call. And copies, which are equal.
 ghost use Rattle.std.specs.Prelude.{◌≡◌, ◌↔◌, true, IfOk};
 
 use crate::cube::{Bits, Cube};
 use crate::packet::{Arp, Body, Ip4Packet, Packet, Part};
 use crate::regs::{At, Reg, RegFlags};
+use ovn_base::equality::equal_where_same;
 use ovn_base::memory::NoMemory;
 
 impl Packet {
@@ -54,32 +56,33 @@ impl Ip4Packet {
     }
 }
 
-/// Equal entries are the same.
+/// Entries are equal exactly where they are the same.
 pub fn exact_at()
     ensures { (a b : At) → (⟦<At as PartialEq>⟧.eq a b ≡ true) ↔ (a ≡ b) }
 {}
 
-/// Equal flags are the same.
+/// Flags are equal exactly where they are the same.
 pub fn exact_reg_flags()
     ensures { (a b : RegFlags) → (⟦<RegFlags as PartialEq>⟧.eq a b ≡ true) ↔ (a ≡ b) }
 {}
 
-/// Equal registers are the same.
+/// Registers are equal exactly where they are the same.
 pub fn exact_reg()
     ensures { (a b : Reg) → (⟦<Reg as PartialEq>⟧.eq a b ≡ true) ↔ (a ≡ b) }
 {}
 
-/// Equal values with their masks are the same.
+/// Values with their masks are equal exactly where they are the same.
 pub fn exact_bits()
     ensures { (a b : Bits) → (⟦<Bits as PartialEq>⟧.eq a b ≡ true) ↔ (a ≡ b) }
 {}
 
-/// Equal cubes are the same.
+/// Cubes are equal exactly where they are the same.
 pub fn exact_cube()
-    ensures { (a b : Cube) → ⟦<Cube as PartialEq>⟧.eq a b ≡ true → a ≡ b }
+    ensures { (a b : Cube) → (⟦<Cube as PartialEq>⟧.eq a b ≡ true) ↔ (a ≡ b) }
 {
     exact_at();
     exact_bits();
+    equal_where_same::<Cube>();
 }
 
 /// A clone of a cube is the cube.
@@ -87,34 +90,37 @@ pub fn exact_cube_clone()
     ensures { (a b : Cube) → ⟦<Cube as Clone>⟧.is_clone a b → b ≡ a }
 {}
 
-/// Equal fields of ARP packets are the same.
+/// Fields of ARP packets are equal exactly where they are the same.
 pub fn exact_arp()
     ensures { (a b : Arp) → (⟦<Arp as PartialEq>⟧.eq a b ≡ true) ↔ (a ≡ b) }
 {}
 
-/// Equal transport headers are the same.
+/// Transport headers are equal exactly where they are the same.
 pub fn exact_part()
     ensures { (a b : Part) → (⟦<Part as PartialEq>⟧.eq a b ≡ true) ↔ (a ≡ b) }
 {}
 
-/// Equal IPv4 packets are the same.
+/// IPv4 packets are equal exactly where they are the same.
 pub fn exact_ip4_packet()
-    ensures { (a b : Ip4Packet) → ⟦<Ip4Packet as PartialEq>⟧.eq a b ≡ true → a ≡ b }
+    ensures { (a b : Ip4Packet) → (⟦<Ip4Packet as PartialEq>⟧.eq a b ≡ true) ↔ (a ≡ b) }
 {
     exact_part();
+    equal_where_same::<Ip4Packet>();
 }
 
-/// Equal bodies are the same.
+/// Bodies are equal exactly where they are the same.
 pub fn exact_body()
-    ensures { (a b : Body) → ⟦<Body as PartialEq>⟧.eq a b ≡ true → a ≡ b }
+    ensures { (a b : Body) → (⟦<Body as PartialEq>⟧.eq a b ≡ true) ↔ (a ≡ b) }
 {
     exact_arp();
     exact_ip4_packet();
+    equal_where_same::<Body>();
 }
 
-/// Equal packets are the same.
+/// Packets are equal exactly where they are the same.
 pub fn exact_packet()
-    ensures { (a b : Packet) → ⟦<Packet as PartialEq>⟧.eq a b ≡ true → a ≡ b }
+    ensures { (a b : Packet) → (⟦<Packet as PartialEq>⟧.eq a b ≡ true) ↔ (a ≡ b) }
 {
     exact_body();
+    equal_where_same::<Packet>();
 }

@@ -1,4 +1,4 @@
-ghost use Rattle.std.specs.Prelude.{ℕ, IsTrue};
+ghost use Rattle.std.specs.Prelude.{◌<◌, IsTrue};
 ghost use Rattle.inet_packet.specs.Rewrites.{CanSetPorts};
 
 use crate::decode::decode;
@@ -9,37 +9,66 @@ use ovn_base::address::{Ip4, Mac};
 use std::alloc::Global;
 use std::test::*;
 
-// A UDP packet from 10.0.0.1 to 10.0.0.2, port 5000 to port 5001, with no data and no sum.
-const UDP: [u8; 42] = [
-    0x0a, 0, 0, 0, 0, 2, 0x0a, 0, 0, 0, 0, 1, 0x08, 0, 0x45, 0, 0, 0x1c, 0, 1, 0, 0, 0x40, 0x11,
-    0x66, 0xce, 0x0a, 0, 0, 1, 0x0a, 0, 0, 2, 0x13, 0x88, 0x13, 0x89, 0, 8, 0, 0,
-];
+// What is made of bytes.
+#[derive(Clone, Copy, PartialEq, Eq, Debug)]
+enum Kind {
+    Short,
+    Big,
+    Bad,
+    Arp,
+    Tcp,
+    Udp,
+    Icmp,
+    OtherIp,
+    Fragment,
+    Other,
+}
 
-// A TCP packet from 10.0.0.1 to 10.0.0.100, port 5000 to port 80.
-const TCP: [u8; 54] = [
-    0x0a, 0, 0, 0, 0, 2, 0x0a, 0, 0, 0, 0, 1, 0x08, 0, 0x45, 0, 0, 0x28, 0, 1, 0, 0, 0x40, 0x06,
-    0x66, 0x6b, 0x0a, 0, 0, 1, 0x0a, 0, 0, 0x64, 0x13, 0x88, 0, 0x50, 0, 0, 0, 0, 0, 0, 0, 0, 0x50,
-    0x02, 0xff, 0xff, 0x87, 0xa6, 0, 0,
-];
+fn digit(byte: u8) -> u8
+    ensures { result < 16 }
+{
+    match byte {
+        b'0'..=b'9' => byte - b'0',
+        b'a'..=b'f' => byte - b'a' + 10,
+        _ => 0,
+    }
+}
 
-// The same, sent on to 10.0.0.2, port 8080.
-const TCP_ON: [u8; 54] = [
-    0x0a, 0, 0, 0, 0, 2, 0x0a, 0, 0, 0, 0, 1, 0x08, 0, 0x45, 0, 0, 0x28, 0, 1, 0, 0, 0x40, 0x06,
-    0x66, 0xcd, 0x0a, 0, 0, 1, 0x0a, 0, 0, 2, 0x13, 0x88, 0x1f, 0x90, 0, 0, 0, 0, 0, 0, 0, 0, 0x50,
-    0x02, 0xff, 0xff, 0x68, 0xc8, 0, 0,
-];
+// The bytes that the hexadecimal digits spell.
+fn bytes(alloc: Global, digits: &str) -> Result<Vec<u8>, Fail> {
+    let mut out = Vec::new(alloc);
+    let mut left = digits.as_bytes();
+    'pairs: while let [high, low, rest @ ..] = left {
+        out.push(digit(*high) * 16 + digit(*low))?;
+        left = rest;
+    }
+    Ok(out)
+}
 
-// Who has 10.0.0.2? Tell 10.0.0.1.
-const ASKS: [u8; 42] = [
-    0xff, 0xff, 0xff, 0xff, 0xff, 0xff, 0x0a, 0, 0, 0, 0, 1, 0x08, 0x06, 0, 1, 0x08, 0, 6, 4, 0, 1,
-    0x0a, 0, 0, 0, 0, 1, 0x0a, 0, 0, 1, 0, 0, 0, 0, 0, 0, 0x0a, 0, 0, 2,
-];
+fn kind_of(body: &Body) -> Kind {
+    match body {
+        Body::Arp(_) => Kind::Arp,
+        Body::Ip4(packet) => match packet.part {
+            Part::Tcp { .. } => Kind::Tcp,
+            Part::Udp { .. } => Kind::Udp,
+            Part::Icmp { .. } => Kind::Icmp,
+            Part::OtherIp => Kind::OtherIp,
+            Part::Fragment => Kind::Fragment,
+        },
+        Body::Other { .. } => Kind::Other,
+    }
+}
 
-// 10.0.0.2 is at 0a:00:00:00:00:02.
-const TELLS: [u8; 42] = [
-    0x0a, 0, 0, 0, 0, 1, 0x0a, 0, 0, 0, 0, 2, 0x08, 0x06, 0, 1, 0x08, 0, 6, 4, 0, 2, 0x0a, 0, 0, 0,
-    0, 2, 0x0a, 0, 0, 2, 0x0a, 0, 0, 0, 0, 1, 0x0a, 0, 0, 1,
-];
+// What the bytes are, and how many follow the fields that are read.
+fn read_as(alloc: Global, frame: &[u8]) -> Result<(Kind, usize), Fail> {
+    match decode(alloc, frame) {
+        Ok(packet) => Ok((kind_of(&packet.body), packet.tail.len())),
+        Err(FrameFault::TooShort) => Ok((Kind::Short, 0)),
+        Err(FrameFault::TooBig) => Ok((Kind::Big, 0)),
+        Err(FrameFault::BadIp4) => Ok((Kind::Bad, 0)),
+        Err(FrameFault::Memory) => Err("there is memory".into()),
+    }
+}
 
 fn read(alloc: Global, frame: &[u8]) -> Result<Packet, Fail> {
     Ok(decode(alloc, frame).ok().ok_or("the bytes are a frame")?)
@@ -51,132 +80,502 @@ fn written(alloc: Global, packet: &Packet) -> Result<Vec<u8>, Fail> {
     Ok(out)
 }
 
-#[test]
-fn each_frame_comes_out_as_it_came_in(rt: HostRuntime) -> Result<(), Fail> {
-    let frames: [&[u8]; 5] = [
-        &UDP,
-        &TCP,
-        &ASKS,
-        &TELLS,
-        b"\x0a\0\0\0\0\x02\x0a\0\0\0\0\x01\x88\xb5hi",
-    ];
-    for frame in frames {
-        let packet = read(rt.alloc(), frame)?;
-        let copy = packet.copy().ok().ok_or("there is memory")?;
-        assert_eq!(rt; written(rt.alloc(), &copy)?.as_slice(), frame);
-    }
-    Ok(())
-}
+// From 10.0.0.1 port 5000 to 10.0.0.2 port 5001, with no data and no sum.
+const UDP: &str =
+    "0a00000000020a000000000108004500001c00010000401166ce0a0000010a0000021388138900080000";
+
+// From 10.0.0.1 port 5000 to 10.0.0.100 port 80, with no data.
+const TCP: &str =
+    "0a00000000020a0000000001080045000028000100004006666b0a0000010a0000641388005000000000000000005002ffff87a60000";
+
+// An echo request from 10.0.0.1 to 10.0.0.2.
+const PING: &str =
+    "0a00000000020a000000000108004500001c00010000400166de0a0000010a0000020800f7fd00010001";
+
+// Who has 10.0.0.2? Tell 10.0.0.1.
+const ASKS: &str =
+    "ffffffffffff0a0000000001080600010800060400010a00000000010a0000010000000000000a000002";
+
+// 10.0.0.2 is at 0a:00:00:00:00:02.
+const TELLS: &str =
+    "0a00000000010a0000000002080600010800060400020a00000000020a0000020a00000000010a000001";
+
+// Frames, what they are, and how many bytes follow the fields.
+const FRAMES: [(&str, Kind, usize); 43] = [
+    // another type, none of its bytes read
+    ("0a00000000020a000000000188b56869", Kind::Other, 2),
+    ("0a00000000010a000000000188b5", Kind::Other, 0),
+    ("0a00000000020a00000000018100000108004500", Kind::Other, 6),
+    // ARP; for a protocol address of 16 bytes; of a hardware address of 8; one byte short; with padding
+    (ASKS, Kind::Arp, 0),
+    (TELLS, Kind::Arp, 0),
+    (
+        "ffffffffffff0a0000000001080600010800060400010a00000000010a0000010000000000000a000001",
+        Kind::Arp,
+        0,
+    ),
+    (
+        "ffffffffffff0a0000000001080600010800061000010a00000000010a0000010000000000000a000002",
+        Kind::Other,
+        28,
+    ),
+    (
+        "ffffffffffff0a0000000001080600010800080400010a00000000010a0000010000000000000a000002",
+        Kind::Other,
+        28,
+    ),
+    (
+        "ffffffffffff0a0000000001080600010800060400010a00000000010a0000010000000000000a0000",
+        Kind::Other,
+        27,
+    ),
+    (
+        "ffffffffffff0a0000000001080600010800060400010a00000000010a0000010000000000000a000002000000",
+        Kind::Arp,
+        3,
+    ),
+    // UDP there and back; with padding up to 60 bytes; with one byte of data
+    (UDP, Kind::Udp, 0),
+    (
+        "0a00000000010a000000000208004500001c00010000401166ce0a0000020a0000011389138800080000",
+        Kind::Udp,
+        0,
+    ),
+    (
+        "0a00000000020a000000000108004500001c00010000401166ce0a0000010a0000021388138900080000000000000000000000000000000000000000",
+        Kind::Udp,
+        18,
+    ),
+    (
+        "0a00000000020a000000000108004500001d00010000401166cd0a0000010a00000213881389000963c861",
+        Kind::Udp,
+        1,
+    ),
+    (TCP, Kind::Tcp, 0),
+    (PING, Kind::Icmp, 2),
+    // protocol 47, without bytes behind the header and with four
+    (
+        "0a00000000fe0a000000000108004500001400010000402fc4a00a000001ac100009",
+        Kind::OtherIp,
+        0,
+    ),
+    (
+        "0a00000000020a000000000108004500001800010000402f66b40a0000010a00000200000800",
+        Kind::OtherIp,
+        4,
+    ),
+    // options of 4 bytes, of 40, and of 12
+    (
+        "0a00000000020a000000000108004600002100010000401163c80a0000010a00000201010100138813890009000007",
+        Kind::Udp,
+        1,
+    ),
+    (
+        "0a00000000020a000000000108004f00004500010000401148920a0000010a00000201010101010101010101010101010101010101010101010101010101010101010101010101010100138813890009000007",
+        Kind::Udp,
+        1,
+    ),
+    (
+        "0a00000000020a000000000108004800002900010000401157ac0a0000010a000002070b040a0000010000000000138813890009000007",
+        Kind::Udp,
+        1,
+    ),
+    // more fragments; offsets of 8 and of 65,528 bytes; both; and then what is no fragment: don't fragment, the bit
+    // that is kept at 0, both
+    (
+        "0a00000000020a000000000108004500001c00012000401146ce0a0000010a0000021388138900080000",
+        Kind::Fragment,
+        8,
+    ),
+    (
+        "0a00000000020a000000000108004500001c00010001401166cd0a0000010a0000021388138900080000",
+        Kind::Fragment,
+        8,
+    ),
+    (
+        "0a00000000020a000000000108004500001c00011fff401146cf0a0000010a0000021388138900080000",
+        Kind::Fragment,
+        8,
+    ),
+    (
+        "0a00000000020a000000000108004500001c000120b9401146150a0000010a0000021388138900080000",
+        Kind::Fragment,
+        8,
+    ),
+    (
+        "0a00000000020a000000000108004500001c00014000401126ce0a0000010a0000021388138900080000",
+        Kind::Udp,
+        0,
+    ),
+    (
+        "0a00000000020a000000000108004500001c000180004011e6cd0a0000010a0000021388138900080000",
+        Kind::Udp,
+        0,
+    ),
+    (
+        "0a00000000020a000000000108004500001c0001c0004011a6cd0a0000010a0000021388138900080000",
+        Kind::Udp,
+        0,
+    ),
+    // the total length leaves less than a transport header: 7 bytes and none of UDP's, 19 of TCP's, 7 of ICMP's
+    (
+        "0a00000000020a000000000108004500001b00010000401166cf0a0000010a0000021388138900080000",
+        Kind::OtherIp,
+        8,
+    ),
+    (
+        "0a00000000020a000000000108004500001400010000401166d60a0000010a0000021388138900080000",
+        Kind::OtherIp,
+        8,
+    ),
+    (
+        "0a00000000020a000000000108004500002700010000400666ce0a0000010a0000021388005000000000000000005002ffff88080000",
+        Kind::OtherIp,
+        20,
+    ),
+    (
+        "0a00000000020a000000000108004500001b00010000400166df0a0000010a0000020800f7fd00010001",
+        Kind::OtherIp,
+        8,
+    ),
+    // versions 6 and 5; headers of 16 bytes and of 60; total lengths under the header; a total length past the end
+    (
+        "0a00000000020a000000000108006500001c00010000401146ce0a0000010a0000021388138900080000",
+        Kind::Bad,
+        0,
+    ),
+    (
+        "0a00000000020a000000000108005500001c00010000401156ce0a0000010a0000021388138900080000",
+        Kind::Bad,
+        0,
+    ),
+    (
+        "0a00000000020a000000000108004400001c00010000401171d00a0000010a0000021388138900080000",
+        Kind::Bad,
+        0,
+    ),
+    (
+        "0a00000000020a000000000108004f00001c00010000401135b50a0000010a0000021388138900080000",
+        Kind::Bad,
+        0,
+    ),
+    (
+        "0a00000000020a000000000108004500001300010000401166d70a0000010a0000021388138900080000",
+        Kind::Bad,
+        0,
+    ),
+    (
+        "0a00000000020a00000000010800460000170001000040113ec20a0000010a0000021388138900080000",
+        Kind::Bad,
+        0,
+    ),
+    (
+        "0a00000000020a000000000108004500001d00010000401166cd0a0000010a0000021388138900080000",
+        Kind::Bad,
+        0,
+    ),
+    // the other words of a header add up to 0xffff, so that both sums of nothing are right; a sum that is one more
+    (
+        "0a00000000020a000000000108004500001c66cf0000401100000a0000010a0000021388138900080000",
+        Kind::Udp,
+        0,
+    ),
+    (
+        "0a00000000020a000000000108004500001c66cf00004011ffff0a0000010a0000021388138900080000",
+        Kind::Udp,
+        0,
+    ),
+    (
+        "0a00000000020a000000000108004500001c66cf0000401100010a0000010a0000021388138900080000",
+        Kind::Bad,
+        0,
+    ),
+    (
+        "0a00000000020a000000000108004500001c00010000401166cf0a0000010a0000021388138900080000",
+        Kind::Bad,
+        0,
+    ),
+];
 
 #[test]
-fn a_cut_frame_is_refused(rt: HostRuntime) {
-    for len in 0..42 {
-        let answer = decode(rt.alloc(), &UDP[..len]);
-        if len < 14 {
-            assert!(rt; matches!(answer, Err(FrameFault::TooShort)), "at {len}");
-        } else {
-            assert!(rt; matches!(answer, Err(FrameFault::BadIp4)), "at {len}");
+fn frames_are_what_they_are(rt: HostRuntime) -> Result<(), Fail> {
+    for (digits, wanted, tail) in FRAMES {
+        let frame = bytes(rt.alloc(), digits)?;
+        assert_eq!(rt; read_as(rt.alloc(), &frame)?, (wanted, tail), "at {digits}");
+        if let Ok(packet) = decode(rt.alloc(), &frame) {
+            let copy = packet.copy().ok().ok_or("there is memory")?;
+            assert!(rt; copy == packet, "at {digits}");
+            assert_eq!(rt; written(rt.alloc(), &copy)?, frame, "at {digits}");
         }
     }
-    assert!(rt; matches!(decode(rt.alloc(), &[0; 9217]), Err(FrameFault::TooBig)));
-}
-
-#[test]
-fn parts_are_named(rt: HostRuntime) -> Result<(), Fail> {
-    // more fragments follow; the sum is 0x2000 less
-    let mut frame = UDP;
-    frame[20] = 0x20;
-    frame[24] = 0x46;
-    let packet = read(rt.alloc(), &frame)?;
-    assert!(rt; matches!(&packet.body, Body::Ip4(ip) if ip.part == Part::Fragment));
-    assert_eq!(rt; packet.tail.len(), 8);
-    // a sum that is one more than the right one
-    frame[25] = 0xcf;
-    assert!(rt; matches!(decode(rt.alloc(), &frame), Err(FrameFault::BadIp4)));
-    // protocol 47; the sum is 30 less
-    let mut frame = UDP;
-    frame[23] = 47;
-    frame[25] = 0xb0;
-    let packet = read(rt.alloc(), &frame)?;
-    assert!(rt; matches!(&packet.body, Body::Ip4(ip) if ip.part == Part::OtherIp));
+    assert_eq!(rt; read_as(rt.alloc(), &[0; 9216])?, (Kind::Other, 9202));
+    assert_eq!(rt; read_as(rt.alloc(), &[0; 9217])?, (Kind::Big, 0));
     Ok(())
 }
 
+// Each frame cut before each of its bytes: under 14 bytes are too short, and from there on all bytes of IPv4 count.
 #[test]
-fn options_stand_in_the_header(rt: HostRuntime) -> Result<(), Fail> {
-    // four bytes of options: three that do nothing, and the end
-    let frame = [
-        0x0a, 0, 0, 0, 0, 2, 0x0a, 0, 0, 0, 0, 1, 0x08, 0, 0x46, 0, 0, 0x20, 0, 1, 0, 0, 0x40,
-        0x11, 0x63, 0xc9, 0x0a, 0, 0, 1, 0x0a, 0, 0, 2, 1, 1, 1, 0, 0x13, 0x88, 0x13, 0x89, 0, 8,
-        0, 0, 7,
-    ];
-    let packet = read(rt.alloc(), &frame)?;
-    assert_eq!(rt; packet.body.udp_dst(), 5001);
-    assert_eq!(rt; packet.tail.as_slice(), b"\x07".as_slice());
-    assert_eq!(rt; written(rt.alloc(), &packet)?.as_slice(), frame.as_slice());
-    Ok(())
-}
-
-#[test]
-fn an_arp_request_is_answered(rt: HostRuntime) -> Result<(), Fail> {
-    let mut packet = read(rt.alloc(), &ASKS)?;
-    if let Body::Arp(_) = packet.body {
-        packet.arp_reply(Mac([0x0a, 0, 0, 0, 0, 2]), Ip4(0x0a00_0002));
+fn frames_are_cut(rt: HostRuntime) -> Result<(), Fail> {
+    for (digits, wanted) in [
+        (UDP, Kind::Bad),
+        (TCP, Kind::Bad),
+        (PING, Kind::Bad),
+        (ASKS, Kind::Other),
+        (TELLS, Kind::Other),
+    ] {
+        let frame = bytes(rt.alloc(), digits)?;
+        for len in 0..frame.len() {
+            let tail = match wanted {
+                Kind::Other if len >= 14 => len - 14,
+                _ => 0,
+            };
+            let answer = if len < 14 { Kind::Short } else { wanted };
+            assert_eq!(rt;
+                read_as(rt.alloc(), &frame[..len])?,
+                (answer, tail),
+                "at {len} of {digits}"
+            );
+        }
     }
-    assert_eq!(rt; written(rt.alloc(), &packet)?.as_slice(), TELLS.as_slice());
     Ok(())
 }
 
-fn can_set_ports(body: &Body) -> bool
-    ensures { (src dst : ℕ) → IsTrue result → CanSetPorts src dst body.now }
+// A rewrite, with what it is given.
+#[derive(Clone, Copy)]
+enum Step {
+    Src(Ip4),
+    Dst(Ip4),
+    Ports(u16, u16),
+    Hop,
+    Macs(Mac, Mac),
+    Tells(Mac, Ip4),
+    Answers,
+}
+
+fn can_set_ports(src: u16, dst: u16, body: &Body) -> bool
+    ensures { IsTrue result → CanSetPorts src dst body.now }
 {
     match body {
-        Body::Ip4(ip) => matches!(&ip.part, Part::Tcp { .. } | Part::Udp { .. }),
+        Body::Ip4(packet) => match packet.part {
+            Part::Tcp { .. } | Part::Udp { .. } => true,
+            Part::Icmp { .. } => src == dst,
+            Part::OtherIp | Part::Fragment => false,
+        },
         Body::Arp(_) | Body::Other { .. } => false,
     }
 }
 
-#[test]
-fn a_tcp_packet_is_sent_on(rt: HostRuntime) -> Result<(), Fail> {
-    let mut packet = read(rt.alloc(), &TCP)?;
-    packet.set_dst(Ip4(0x0a00_0002));
-    if can_set_ports(&packet.body) {
-        packet.set_ports(5000, 8080);
+// Takes the step; a packet that it is not for stays as it is.
+fn take(step: Step, packet: &mut Packet) {
+    match step {
+        Step::Src(ip) => packet.set_src(ip),
+        Step::Dst(ip) => packet.set_dst(ip),
+        Step::Ports(src, dst) => {
+            if can_set_ports(src, dst, &packet.body) {
+                packet.set_ports(src, dst);
+            }
+        }
+        Step::Hop => {
+            if packet.body.ip_ttl() > 0 {
+                packet.dec_ttl();
+            }
+        }
+        Step::Macs(dst, src) => {
+            packet.dst = dst;
+            packet.src = src;
+        }
+        Step::Tells(mac, ip) => {
+            if let Body::Arp(_) = packet.body {
+                packet.arp_reply(mac, ip);
+            }
+        }
+        Step::Answers => {
+            if packet.body.icmp4_type() == 8 && packet.body.icmp4_code() == 0 {
+                packet.echo_reply();
+            }
+        }
     }
-    assert_eq!(rt; written(rt.alloc(), &packet)?.as_slice(), TCP_ON.as_slice());
+}
+
+const P1: Mac = Mac([0x0a, 0, 0, 0, 0, 1]);
+
+const P2: Mac = Mac([0x0a, 0, 0, 0, 0, 2]);
+
+const INSIDE: Mac = Mac([0x0a, 0, 0, 0, 0, 0xfe]);
+
+const OUTSIDE: Mac = Mac([0x0a, 0, 0, 0, 1, 0xfe]);
+
+const SERVER: Mac = Mac([0x0a, 0, 0, 0, 1, 9]);
+
+const ONE: Ip4 = Ip4(0x0a00_0001);
+
+const TWO: Ip4 = Ip4(0x0a00_0002);
+
+const GATEWAY: Ip4 = Ip4(0xac10_00fe);
+
+const FAR: Ip4 = Ip4(0xc000_0209);
+
+const FARTHER: Ip4 = Ip4(0xc633_6407);
+
+#[test]
+fn packets_of_networks_are_rewritten(rt: HostRuntime) -> Result<(), Fail> {
+    let rows: [(&str, &[Step], &str); 7] = [
+        // a request is answered
+        (ASKS, &[Step::Tells(P2, TWO)], TELLS),
+        // a balancer sends on to a server
+        (
+            TCP,
+            &[Step::Dst(TWO), Step::Ports(5000, 8080)],
+            "0a00000000020a000000000108004500002800010000400666cd0a0000010a00000213881f9000000000000000005002ffff68c80000",
+        ),
+        // out through a gateway, with the port kept and with another
+        (
+            "0a00000000fe0a000000000108004500001c000100004011c4b60a000001ac1000091388003500080000",
+            &[Step::Src(GATEWAY), Step::Hop, Step::Macs(SERVER, OUTSIDE)],
+            "0a00000001090a00000001fe08004500001c000100003f1122a9ac1000feac1000091388003500080000",
+        ),
+        (
+            "0a00000000fe0a000000000208004500001c000100004011c4b50a000002ac1000091388003500080000",
+            &[
+                Step::Src(GATEWAY),
+                Step::Ports(1024, 53),
+                Step::Hop,
+                Step::Macs(SERVER, OUTSIDE),
+            ],
+            "0a00000001090a00000001fe08004500001c000100003f1122a9ac1000feac1000090400003500080000",
+        ),
+        // and back
+        (
+            "0a00000001fe0a000000010908004500001c00010000401121a9ac100009ac1000fe0035040000080000",
+            &[
+                Step::Dst(TWO),
+                Step::Ports(53, 5000),
+                Step::Hop,
+                Step::Macs(P2, INSIDE),
+            ],
+            "0a00000000020a00000000fe08004500001c000100003f11c5b5ac1000090a0000020035138800080000",
+        ),
+        // protocol 47, which has no ports
+        (
+            "0a00000000fe0a000000000108004500001400010000402fc4a00a000001ac100009",
+            &[
+                Step::Src(GATEWAY),
+                Step::Ports(1024, 1024),
+                Step::Hop,
+                Step::Macs(SERVER, OUTSIDE),
+            ],
+            "0a00000001090a00000001fe080045000014000100003f2f2293ac1000feac100009",
+        ),
+        // an echo request with five bytes of data
+        (
+            "0a00000000020a000000000108004500002100010000400166d90a0000010a0000020800ce36000100016162636465",
+            &[Step::Answers, Step::Macs(P1, P2)],
+            "0a00000000010a000000000208004500002100010000ff01a7d80a0000020a0000010000d636000100016162636465",
+        ),
+    ];
+    for (before, steps, after) in rows {
+        let mut packet = read(rt.alloc(), &bytes(rt.alloc(), before)?)?;
+        for step in steps {
+            take(*step, &mut packet);
+        }
+        assert_eq!(rt;
+            written(rt.alloc(), &packet)?,
+            bytes(rt.alloc(), after)?,
+            "at {before}"
+        );
+    }
     Ok(())
 }
 
+// What is expected was added up anew over all words, pseudo-headers among them.
 #[test]
-fn a_udp_packet_leaves_through_a_router(rt: HostRuntime) -> Result<(), Fail> {
-    let frame =
-        b"\x0a\0\0\0\0\xfe\x0a\0\0\0\0\x02\x08\0\x45\0\0\x1c\0\x01\0\0\x40\x11\xc4\xb5\x0a\0\0\x02\xac\x10\0\x09\x13\x88\0\x35\0\x08\0\0";
-    let left =
-        b"\x0a\0\0\0\x01\x09\x0a\0\0\0\x01\xfe\x08\0\x45\0\0\x1c\0\x01\0\0\x3f\x11\x22\xa9\xac\x10\0\xfe\xac\x10\0\x09\x04\0\0\x35\0\x08\0\0";
-    let mut packet = read(rt.alloc(), frame)?;
-    packet.set_src(Ip4(0xac10_00fe));
-    if can_set_ports(&packet.body) {
-        packet.set_ports(1024, 53);
+fn sums_are_as_if_added_up_anew(rt: HostRuntime) -> Result<(), Fail> {
+    let rows: [(&str, &[Step], &str); 12] = [
+        // RFC 1624 section 4: a sum of 0xdd2f, where 0x5555 becomes 0x3285
+        (
+            "0a00000000020a000000000108004500001c3e4a00004011dd2f555500010a0000021388138900080000",
+            &[Step::Src(Ip4(0x3285_0001))],
+            "0a00000000020a000000000108004500001c3e4a000040110000328500010a0000021388138900080000",
+        ),
+        // words that stay leave a sum of 0xffff as it is
+        (
+            "0a00000000020a000000000108004500001c66cf00004011ffff0a0000010a0000021388138900080000",
+            &[Step::Src(ONE), Step::Dst(TWO), Step::Ports(5000, 5001)],
+            "0a00000000020a000000000108004500001c66cf00004011ffff0a0000010a0000021388138900080000",
+        ),
+        // UDP with three bytes of data
+        (
+            "0a00000000020a000000000108004500001f00010000401166cb0a0000010a00000213881389000b0062616263",
+            &[
+                Step::Src(FAR),
+                Step::Dst(FARTHER),
+                Step::Ports(1024, 53),
+                Step::Hop,
+            ],
+            "0a00000000020a000000000108004500001f000100003f118f89c0000209c633640704000035000b4afc616263",
+        ),
+        // TCP with five
+        (
+            "0a00000000020a000000000108004500002d00010000400666c80a0000010a0000021388005000000001000000025018ffff4418000068656c6c6f",
+            &[Step::Src(FAR), Step::Ports(40000, 8080)],
+            "0a00000000020a000000000108004500002d000100004006aebfc00002090a0000029c401f9000000001000000025018ffffe416000068656c6c6f",
+        ),
+        // ICMP with three, and another identifier
+        (
+            "0a00000000020a000000000108004500001f00010000400166db0a0000010a00000200003b9b00010001616263",
+            &[Step::Ports(0x1234, 0x1234)],
+            "0a00000000020a000000000108004500001f00010000400166db0a0000010a0000020000296812340001616263",
+        ),
+        // a UDP sum and an ICMP sum that become 0 are written 0xffff, and a TCP sum is not
+        (
+            "0a00000000020a000000000108004500001d00010000401166cd0a0000010a00000213881389000963c861",
+            &[Step::Ports(5000, 30545)],
+            "0a00000000020a000000000108004500001d00010000401166cd0a0000010a000002138877510009ffff61",
+        ),
+        (
+            PING,
+            &[Step::Ports(0xf7fe, 0xf7fe)],
+            "0a00000000020a000000000108004500001c00010000400166de0a0000010a0000020800fffff7fe0001",
+        ),
+        (
+            "0a00000000020a000000000108004500002800010000400666cd0a0000010a0000021388005000000001000000025018ffff87ef0000",
+            &[Step::Ports(5000, 34879)],
+            "0a00000000020a000000000108004500002800010000400666cd0a0000010a0000021388883f00000001000000025018ffff00000000",
+        ),
+        // the first of two fragments
+        (
+            "0a00000000020a000000000108004500001c00012000401146ce0a0000010a0000020102030405060708",
+            &[Step::Src(FAR), Step::Ports(1024, 53), Step::Hop],
+            "0a00000000020a000000000108004500001c000120003f118fc5c00002090a0000020102030405060708",
+        ),
+        // the last hop, and none after it
+        (
+            "0a00000000020a000000000108004500001c000100000111a5ce0a0000010a0000021388138900080000",
+            &[Step::Hop, Step::Hop],
+            "0a00000000020a000000000108004500001c000100000011a6ce0a0000010a0000021388138900080000",
+        ),
+        // with options, and with padding
+        (
+            "0a00000000020a000000000108004600002100010000401163c80a0000010a00000201010100138813890009bdc807",
+            &[Step::Dst(FAR)],
+            "0a00000000020a0000000001080046000021000100004011abc00a000001c00002090101010013881389000905c107",
+        ),
+        (
+            "0a00000000020a000000000108004500001d00010000401166cd0a0000010a000002138813890009bdc807aaaaaaaaaa",
+            &[Step::Dst(FAR)],
+            "0a00000000020a000000000108004500001d000100004011aec50a000001c000020913881389000905c107aaaaaaaaaa",
+        ),
+    ];
+    for (before, steps, after) in rows {
+        let mut packet = read(rt.alloc(), &bytes(rt.alloc(), before)?)?;
+        for step in steps {
+            take(*step, &mut packet);
+        }
+        assert_eq!(rt;
+            written(rt.alloc(), &packet)?,
+            bytes(rt.alloc(), after)?,
+            "at {before}"
+        );
     }
-    if packet.body.ip_ttl() > 0 {
-        packet.dec_ttl();
-    }
-    packet.dst = Mac([0x0a, 0, 0, 0, 1, 0x09]);
-    packet.src = Mac([0x0a, 0, 0, 0, 1, 0xfe]);
-    assert_eq!(rt; written(rt.alloc(), &packet)?.as_slice(), left.as_slice());
-    Ok(())
-}
-
-#[test]
-fn an_echo_request_is_answered(rt: HostRuntime) -> Result<(), Fail> {
-    let asks =
-        b"\x0a\0\0\0\0\x02\x0a\0\0\0\0\x01\x08\0\x45\0\0\x1c\0\x01\0\0\x40\x01\x66\xde\x0a\0\0\x01\x0a\0\0\x02\x08\0\xf7\xfd\0\x01\0\x01";
-    let tells =
-        b"\x0a\0\0\0\0\x02\x0a\0\0\0\0\x01\x08\0\x45\0\0\x1c\0\x01\0\0\xff\x01\xa7\xdd\x0a\0\0\x02\x0a\0\0\x01\0\0\xff\xfd\0\x01\0\x01";
-    let mut packet = read(rt.alloc(), asks)?;
-    if packet.body.icmp4_type() == 8 && packet.body.icmp4_code() == 0 {
-        packet.echo_reply();
-    }
-    assert_eq!(rt; written(rt.alloc(), &packet)?.as_slice(), tells.as_slice());
     Ok(())
 }

@@ -12,7 +12,7 @@ returns c = λ a b. (
       let table_same = nat_exact a.table b.table (first_so _ _ h0) in
       let priority_same = nat_exact a.priority b.priority (first_so _ _ h1) in
       let rank_same = nat_exact a.rank b.rank (first_so _ _ h2) in
-      let cube_same = c.exact_cube.ensures a.cube b.cube (first_so _ _ h3) in
+      let cube_same = (c.exact_cube.ensures a.cube b.cube).0 (first_so _ _ h3) in
       let ops_same = pointwise_exact _ (λ x y. (c.exact_op.ensures x y).0) a.ops b.ops (first_so _ _ h4) in
       let cookie_same = nat_exact a.cookie b.cookie (second_so _ _ h4) in
       λ i. record { table = table_same i; priority = priority_same i; rank = rank_same i; cube = cube_same i; ops = ops_same i; cookie = cookie_same i },

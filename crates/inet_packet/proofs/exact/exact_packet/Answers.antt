@@ -4,11 +4,14 @@ use Rattle.inet_packet.proofs.Exactness.{nat_exact, pointwise_exact}
 use Rattle.inet_packet.proofs.exact.exact_packet.Goals as goal
 
 pub returns : goal.returns
-returns c = λ a b h0.
-    let h1 = second_so _ _ h0 in
-    let h2 = second_so _ _ h1 in
-    let dst : a.dst.0 ≡ b.dst.0 = pointwise_exact _ nat_exact a.dst.0 b.dst.0 (first_so _ _ h0) in
-    let src : a.src.0 ≡ b.src.0 = pointwise_exact _ nat_exact a.src.0 b.src.0 (first_so _ _ h1) in
-    let body : a.body ≡ b.body = c.exact_body.ensures a.body b.body (first_so _ _ h2) in
-    let tail : a.tail ≡ b.tail = pointwise_exact _ nat_exact a.tail b.tail (second_so _ _ h2) in
-    λ i. record { dst = record { 0 = dst i }; src = record { 0 = src i }; body = body i; tail = tail i }
+returns c = λ a b. (
+  λ h0.
+      let h1 = second_so _ _ h0 in
+      let h2 = second_so _ _ h1 in
+      let dst : a.dst.0 ≡ b.dst.0 = pointwise_exact _ nat_exact a.dst.0 b.dst.0 (first_so _ _ h0) in
+      let src : a.src.0 ≡ b.src.0 = pointwise_exact _ nat_exact a.src.0 b.src.0 (first_so _ _ h1) in
+      let body : a.body ≡ b.body = (c.exact_body.ensures a.body b.body).0 (first_so _ _ h2) in
+      let tail : a.tail ≡ b.tail = pointwise_exact _ nat_exact a.tail b.tail (second_so _ _ h2) in
+      λ i. record { dst = record { 0 = dst i }; src = record { 0 = src i }; body = body i; tail = tail i },
+  c.equal_where_same.ensures a b,
+)
