@@ -102,7 +102,7 @@ none_at m switch p packet to_none = refl
 none_at m switch p packet (to_port q) = by (is_some (at m.bindings q)) (same_name q p)
   where
     by : (bound back : Bool)
-        → picks_of (elim bound [ true ↦ elim back [ true ↦ effect.Drop switch q Loopback ∷ [] | false ↦ effect.Out q packet ∷ [] ] | false ↦ effect.Drop switch q Unbound ∷ [] ]) ≡ []
+        → picks_of (cond bound (cond back (effect.Drop switch q Loopback ∷ []) (effect.Out q packet ∷ [])) (effect.Drop switch q Unbound ∷ [])) ≡ []
     by true true = refl
     by true false = refl
     by false back = refl
