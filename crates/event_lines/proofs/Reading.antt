@@ -1,5 +1,5 @@
 -- The picks that are read off the lines of effects are those of the effects.
-use Rattle.std.proofs.Common.{◌≡◌, ◌≢◌, ◌+◌, ◌/◌, ◌%◌, ◌<◌, ◌≤◌, ◌^◌, ◌++◌, ◌==◌, ◌&&◌, ◌⊎◌, ℕ, zero, suc, Bool, true, false, List, [], ◌∷◌, length, nat_lt, cond, codes, decimal, slice_index, flat_map, if◌then◌else◌, refl, sym, ap, ◌∙◌, subst, inl, inr, arith, append_assoc, append-nil}
+use Rattle.std.proofs.Common.{◌≡◌, ◌≢◌, ◌+◌, ◌/◌, ◌%◌, ◌<◌, ◌≤◌, ◌^◌, ◌++◌, ◌==◌, ◌&&◌, ℕ, zero, suc, Bool, true, false, List, [], ◌∷◌, length, nat_lt, codes, decimal, slice_index, flat_map, if◌then◌else◌, refl, sym, ap, ◌∙◌, subst, inl, inr, arith, append_assoc, append-nil}
 use Rattle.std.specs.Fmt.{digits, digits_onto, digit_glyph}
 use Rattle.std.specs.List.{AllByRecursion, onto_first}
 use Rattle.std.specs.Str.{all_ascii_digits}
@@ -24,7 +24,7 @@ use Rattle.switch_engine.specs.declared.effect.NetEffect.TheVariants.{DatapathKe
 use Rattle.event_lines.specs.declared.refusal.Refusal.{Refusal}
 use Rattle.event_lines.specs.declared.refusal.Refusal.TheVariants.{Read, NoSuch, NotBuilt}
 use Rattle.event_lines.specs.Lines.{cause_name, words_of, line_of, ok_line, lines_of, refusal_words, refused_line, end_line}
-use Rattle.event_lines.specs.Picks.{Pick, datapath_key, port_key, words_in, is_word, is_number, key_of, named_by, picks_in, picks_of, IsNamedEffect, AreNamed, IsNamedRefusal, AreWholeLines}
+use Rattle.event_lines.specs.Picks.{Pick, words_in, is_word, is_number, key_of, named_by, picks_in, picks_of, IsNamedEffect, AreNamed, IsNamedRefusal, AreWholeLines}
 
 -- ---- bytes that end neither a word nor a line
 

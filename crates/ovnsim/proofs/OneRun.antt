@@ -1,13 +1,11 @@
 -- Events and picks have one run.
-use Rattle.std.proofs.Common.{◌≡◌, ◌+◌, ◌++◌, ◌≤◌, ◌^◌, ℕ, List, [], ◌∷◌, true, refl, sym, ap, ◌∙◌, subst, arith}
+use Rattle.std.proofs.Common.{◌≡◌, ◌+◌, ◌++◌, ℕ, List, [], ◌∷◌, refl, sym, ap, ◌∙◌, subst, arith}
 use Rattle.std.specs.List.Sorted.{IsStrictlySortedBy}
 use Rattle.std.proofs.lemmas.Option.{none-some, same_Some}
 use Rattle.ovn_base.proofs.AmongLaws.{among_none}
 use Rattle.edit_reader.specs.declared.event.Event.{Event}
 use Rattle.event_lines.specs.Lines.{lines_of, refused_line}
 use Rattle.event_lines.specs.Picks.{Pick}
-use Rattle.switch_engine.specs.declared.effect.NetEffect.{NetEffect}
-use Rattle.switch_engine.specs.declared.walk.Walk.{Walk}
 use Rattle.world_core.specs.Outcome.{matched}
 use Rattle.world_core.specs.Parts.{new_world}
 use Rattle.world_core.specs.Picks.{Fate, Run, was_accepted, was_refused}
@@ -35,8 +33,10 @@ new_sound = record {
       port_names = λ q port e. absurd (none-some port e);
       on_switch = λ q port e. absurd (none-some port e);
       macs = λ q port entry e among. absurd (none-some port e);
+      stations = λ q port entry e among. absurd (none-some port e);
       once = λ q port e. absurd (none-some port e);
       apart = λ p q ours theirs mac e f switch has also. absurd (none-some ours e);
+      ips_apart = λ p q ours theirs ip e f switch has also. absurd (none-some ours e);
     };
     within = record { switches = omega arith; ports = omega arith };
     keys = record {

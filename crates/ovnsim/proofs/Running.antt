@@ -1,5 +1,5 @@
 -- How a run goes on, line by line.
-use Rattle.std.proofs.Common.{◌≡◌, ◌≢◌, ◌+◌, ◌-◌, ◌<◌, ◌≤◌, ◌++◌, ℕ, Bool, true, false, List, [], ◌∷◌, length, Option, Some, None, inl, inr, refl, sym, ap, ◌∙◌, subst, append_assoc, append-nil, arith}
+use Rattle.std.proofs.Common.{◌≡◌, ◌+◌, ◌-◌, ◌<◌, ◌++◌, ℕ, Bool, true, false, List, [], ◌∷◌, length, Option, Some, None, inl, inr, refl, sym, ap, ◌∙◌, subst, append_assoc, append-nil, arith}
 use Rattle.std.specs.Io.KnownBytes.{append_known}
 use Rattle.ovn_base.specs.Lines.{lines_within}
 use Rattle.ovn_base.specs.Reading.{Reading, GivesLine, unread}
@@ -11,7 +11,7 @@ use Rattle.world_core.specs.Seen.{Seen, IsSound}
 use Rattle.ovnsim.specs.declared.next_event.Next.TheVariants.{Found, Blank}
 use Rattle.ovnsim.specs.Events.{AreEvents, AsksFor, IsPassedOver, GivesNext}
 use Rattle.ovnsim.specs.Runs.{Runs, RunsLines, Takes}
-use Rattle.ovnsim.specs.Taking.{GainsText, TakesWith}
+use Rattle.ovnsim.specs.Taking.{GainsText}
 use Rattle.event_lines.specs.Picks.{Pick, picks_in}
 use Rattle.ovnsim.proofs.ReadOff.{read_off}
 

@@ -1,19 +1,19 @@
 -- What stands where a run stops.
-use Rattle.std.proofs.Common.{◌≡◌, ◌≢◌, ◌+◌, ◌-◌, ◌^◌, ◌<◌, ◌≤◌, ◌++◌, ℕ, Bool, true, false, List, [], ◌∷◌, length, nat_lt, Option, Some, None, IfSome, refl, sym, ap, ◌∙◌, subst, append_assoc, append-nil, arith, lt-ltb, le-ltb, cond}
+use Rattle.std.proofs.Common.{◌≡◌, ◌+◌, ◌-◌, ◌^◌, ◌<◌, ◌≤◌, ◌++◌, ℕ, Bool, true, false, List, [], ◌∷◌, length, nat_lt, Option, Some, None, IfSome, refl, sym, ap, ◌∙◌, subst, append_assoc, append-nil, arith, lt-ltb, le-ltb, cond}
 use Rattle.std.proofs.lemmas.Bool.{cond-true, cond-false}
 use Rattle.std.specs.Io.KnownBytes.{append_known}
 use Rattle.ovn_base.specs.Lines.{lines_within}
-use Rattle.ovn_base.specs.Reading.{Reading, GivesLine, Stops, taken, unread}
+use Rattle.ovn_base.specs.Reading.{Reading, GivesLine, Stops, taken}
 use Rattle.ovn_base.specs.Told.{WhereTold}
 use Rattle.ovn_base.proofs.LineLaws.{within-nil}
 use Rattle.ovn_base.proofs.ToldLaws.{told_then, told_some, append_none, append_twice}
 use Rattle.edit_reader.specs.declared.event.Event.{Event}
 use Rattle.event_lines.specs.Lines.{end_line}
 use Rattle.world_core.specs.Parts.{new_world}
-use Rattle.world_core.specs.Seen.{Seen, IsSound}
+use Rattle.world_core.specs.Seen.{Seen}
 use Rattle.world_core.specs.State.{events_of}
 use Rattle.ovnsim.specs.declared.next_event.Next.TheVariants.{Found, End}
-use Rattle.ovnsim.specs.Answers.{Answers, GainsEvents, GainsFront, GainsRead, GainsTexts, GainsToLimit, GainsWhole, end_of, end_within, is_refusing, lines_in, status_of, then_last}
+use Rattle.ovnsim.specs.Answers.{Answers, GainsEvents, GainsFront, GainsRead, GainsTexts, GainsToLimit, GainsWhole, end_of, end_within, lines_in, then_last}
 use Rattle.ovnsim.specs.Events.{AsksFor, GivesNext}
 use Rattle.ovnsim.specs.Runs.{RunsLines}
 use Rattle.ovnsim.specs.Taking.{GainsCut, WasCut}

@@ -1,5 +1,5 @@
 -- What one event leaves.
-use Rattle.std.specs.Prelude.{◌≡◌, ◌+◌, ◌++◌, ℕ, Bool, true, false, List, Option, cond}
+use Rattle.std.specs.Prelude.{◌≡◌, ◌+◌, ◌++◌, ℕ, Bool, List, Option, cond}
 use Rattle.std.specs.Io.KnownBytes.{append_known}
 use Rattle.edit_reader.specs.declared.event.Event.{Event}
 use Rattle.event_lines.specs.Picks.{Pick}

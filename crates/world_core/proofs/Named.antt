@@ -1,12 +1,12 @@
 -- Names stay names: in the records, in effects and in refusals.
-use Rattle.std.specs.Prelude.{◌≡◌, ◌<◌, ◌^◌, ◌+◌, ℕ, Bool, true, false, List, [], ◌∷◌, Some, None, Option, is_some, cond, refl}
+use Rattle.std.specs.Prelude.{◌≡◌, ◌+◌, ℕ, Bool, true, false, List, [], ◌∷◌, Some, None, Option, is_some, cond}
 use Rattle.std.specs.List.{AllByRecursion}
-use Rattle.std.proofs.Common.{sym, ap, ◌∙◌, subst, arith, inl, inr}
+use Rattle.std.proofs.Common.{sym, subst, arith, inl, inr}
 use Rattle.ovn_base.specs.NameText.{IsName}
 use Rattle.ovn_base.specs.declared.name.Name.{Name}
 use Rattle.inet_packet.specs.declared.packet.Packet as inet
-use Rattle.flow_table.specs.declared.flow.Cause.TheVariants.{UnknownAddress, Loopback, Unbound}
-use Rattle.nb_records.specs.Network.{Network, at, put, with_record}
+use Rattle.flow_table.specs.declared.flow.Cause.TheVariants.{Loopback, Unbound}
+use Rattle.nb_records.specs.Network.{Network, at, with_record}
 use Rattle.nb_records.specs.declared.record.Op.{Op}
 use Rattle.nb_records.specs.declared.record.Op.TheVariants.{Add}
 use Rattle.nb_records.specs.declared.record.Record.{Record}
@@ -20,7 +20,7 @@ use Rattle.event_lines.specs.declared.refusal.Refusal.TheVariants as why
 use Rattle.event_lines.specs.Picks.{IsNamedEffect, AreNamed, IsNamedRefusal}
 use Rattle.switch_engine.specs.declared.effect.NetEffect.{NetEffect}
 use Rattle.switch_engine.specs.declared.effect.NetEffect.TheVariants as effect
-use Rattle.world_core.specs.Editing.{Edits, GivesKeys, IsLegalPick, Owner, datapath_owner, port_owner, owner_of, owners_of, with_key, key_effect, accepted, born}
+use Rattle.world_core.specs.Editing.{GivesKeys, IsLegalPick, Owner, datapath_owner, port_owner, owner_of, owners_of, with_key, key_effect, accepted, born}
 use Rattle.world_core.specs.Refusing.{refusal, refusal_of_record, is_chassis}
 use Rattle.world_core.specs.State.{State, Keys, events_of, same_name}
 use Rattle.world_core.specs.Step.{Step}

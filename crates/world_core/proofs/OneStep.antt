@@ -7,9 +7,8 @@ use Rattle.ovn_base.specs.declared.address.Mac.{Mac}
 use Rattle.ovn_base.specs.declared.name.Name.{Name}
 use Rattle.inet_packet.specs.declared.packet.Packet as inet
 use Rattle.inet_packet.proofs.OnePacket.{one_packet_at_most}
-use Rattle.flow_table.specs.declared.flow.Cause.TheVariants.{UnknownAddress, Loopback, Unbound}
+use Rattle.flow_table.specs.declared.flow.Cause.TheVariants.{Loopback, Unbound}
 use Rattle.nb_records.specs.Network.{Network, at}
-use Rattle.nb_records.specs.declared.record.Op.{Op}
 use Rattle.nb_records.specs.declared.record.Op.TheVariants.{Add}
 use Rattle.nb_records.specs.declared.record.Record.{Record}
 use Rattle.nb_records.specs.declared.record.Record.TheVariants as record_of
@@ -23,14 +22,14 @@ use Rattle.event_lines.specs.Picks.{Pick, datapath_key, port_key, picks_of}
 use Rattle.switch_engine.specs.declared.effect.NetEffect.{NetEffect}
 use Rattle.switch_engine.specs.declared.effect.NetEffect.TheVariants as effect
 use Rattle.world_core.specs.Admitted.{IsAdmitted, IsAdmittedRecord}
-use Rattle.world_core.specs.Editing.{Edits, GivesKeys, Owner, datapath_owner, port_owner, owners_of, with_key, key_effect, accepted, counted}
-use Rattle.world_core.specs.Picks.{Fate, was_refused, was_accepted, Happens, HappensFirst, Run}
+use Rattle.world_core.specs.Editing.{GivesKeys, Owner, datapath_owner, port_owner, owners_of, with_key, key_effect, accepted, counted}
+use Rattle.world_core.specs.Picks.{Fate, was_refused, was_accepted, Happens, Run}
 use Rattle.world_core.specs.Refusing.{refusal, refusal_of_record}
 use Rattle.world_core.specs.Sound.{IsValid}
 use Rattle.world_core.specs.State.{State, Keys, events_of, same_name}
-use Rattle.world_core.specs.Step.{Sends, Step}
+use Rattle.world_core.specs.Step.{Step}
 use Rattle.world_core.specs.Unbuilt.{is_unbuilt_port}
-use Rattle.world_core.specs.Visit.{HasTarget, IsTarget, Target, Visit, ends_at, to_none, to_port, known, unknown}
+use Rattle.world_core.specs.Visit.{HasTarget, Target, Visit, ends_at, to_none, to_port, known, unknown}
 use Rattle.world_core.proofs.Kept.{switch_valid, port_valid}
 use Rattle.world_core.proofs.Refusals.{is_built, is_new}
 
@@ -168,7 +167,7 @@ valid_with m (record_of.SwitchPort port) valid admitted allowed =
     let new = is_new m.net port allowed admitted in
     port_valid m.net port.name (record port { birth = record { 0 = events_of m + 1 } }) valid (is_built m.net port allowed).absent refl
     (is_there (is_unbuilt_port m.net port) (is_some (at m.net.switches port.switch)) why.NotBuilt (why.NoSuch port.switch) allowed)
-    (record { macs = new.macs; once = new.once; apart = new.apart })
+    (record { macs = new.macs; stations = new.stations; once = new.once; apart = new.apart; ips_apart = new.ips_apart })
 
 pub step_valid : (m : State) (event : Event) (effects : List NetEffect) (after : State) → IsValid m.net → IsAdmitted event → refusal m event ≡ None → Step m event effects after → IsValid after.net
 step_valid m (Edit ops) effects after valid admitted allowed h =

@@ -1,10 +1,8 @@
 -- A packet has one walk through the flows of its chassis.
-use Rattle.std.specs.Prelude.{◌≡◌, ◌<◌, ◌^◌, ℕ, List, [], ◌∷◌, Some, refl}
-use Rattle.std.proofs.Common.{sym, ap, ◌∙◌, subst, arith, inl, inr}
+use Rattle.std.specs.Prelude.{◌≡◌, ◌<◌, ℕ, List, [], ◌∷◌, refl}
+use Rattle.std.proofs.Common.{sym, ap, ◌∙◌, subst, arith, inl}
 use Rattle.std.proofs.lemmas.Option.{same_Some}
 use Rattle.ovn_base.specs.Address.{IsMac}
-use Rattle.ovn_base.specs.Among.{Among}
-use Rattle.ovn_base.specs.declared.address.Mac.{Mac}
 use Rattle.ovn_base.specs.declared.name.Name.{Name}
 use Rattle.inet_packet.specs.Fits.{CubeFits}
 use Rattle.inet_packet.specs.declared.packet.Packet.{Packet}
@@ -33,7 +31,7 @@ use Rattle.world_core.specs.declared.keys.DatapathKey.{DatapathKey}
 use Rattle.world_core.specs.declared.keys.PortKey.{PortKey}
 use Rattle.world_core.specs.Addresses.{mac_of}
 use Rattle.world_core.specs.Outcome.{HasWalks, IsSent}
-use Rattle.world_core.specs.Rows.{entry_row, pass_row, address_row, unknown_row, stay_row, home_row, return_row, leave_row, output_row}
+use Rattle.world_core.specs.Rows.{entry_row, pass_row, address_row, unknown_row, home_row, return_row, output_row}
 use Rattle.world_core.specs.Seen.{Seen, IsSound}
 use Rattle.world_core.specs.Sound.{IsValid, HaveKeys, AreBound, AreExactly, basis_at}
 use Rattle.world_core.specs.Stages.{Basis, IsPort, IsHere, EntryRow, AdmitRow, PortSecRow, TrackRow, AclInRow, StateInRow, ArpRow, LookupRow, RemoteRow, HomeRow, ReturnRow, TrackOutRow, AclOutRow, StateOutRow, SecOutRow, OutputRow}

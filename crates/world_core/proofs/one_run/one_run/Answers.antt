@@ -1,4 +1,3 @@
-use Rattle.world_core.proofs.Named as named
 use Rattle.world_core.proofs.OneStep.{same_run, same_step}
 use Rattle.world_core.proofs.OneWalk.{same_walks}
 use Rattle.world_core.proofs.one_run.one_run.Goals as goal
