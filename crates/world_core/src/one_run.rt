@@ -14,8 +14,8 @@ ghost use Rattle.world_core.specs.State.{State};
 ghost use Rattle.world_core.specs.Step.{Step};
 
 /// An event and what was picked for it determine its effects and the state after it. So events and picks determine a run:
-/// which events are refused and why, the effects of the others, and the states. Of what comes after the run is said as
-/// well that its walks are one: in sound worlds of one state and with the same zones, an event matches the same flows.
+/// which events are refused and why, the effects of the others, and the states. In sound worlds of one state and with the
+/// same zones, an event also matches the same flows.
 pub fn one_run()
     ensures step { (m : State) (event : Event) (effects others : List NetEffect) (after later : State)
         → IsValid m.net → Step m event effects after → Step m event others later
