@@ -1,3 +1,4 @@
 -- Definitions that contracts cite.
 pub mod Lines
+pub mod Picks
 pub mod Text

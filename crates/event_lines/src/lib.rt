@@ -2,6 +2,7 @@
 #![tactic(auto)]
 
 pub mod lines;
+pub mod picks;
 mod put;
 pub mod refusal;
 #[cfg(test)]

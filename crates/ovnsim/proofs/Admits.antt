@@ -1,7 +1,6 @@
 -- An event that a line asks for is one that a world takes.
-use Rattle.std.proofs.Common.{◌≡◌, ◌+◌, ◌*◌, ◌<◌, ℕ, List, [], ◌∷◌, length, zero, suc, Some, refl, arith, subst, sym, ap, ◌∙◌}
+use Rattle.std.proofs.Common.{◌<◌, ℕ, List, [], ◌∷◌, refl, arith, subst, sym}
 use Rattle.std.specs.List.{All, AllZip}
-use Rattle.std.specs.Char.{digit_value}
 use Rattle.std.proofs.lemmas.List.{get_or_default}
 use Rattle.std.proofs.lemmas.List.Elements.{All-cons, All-nil}
 use Rattle.hex.proofs.HexLemmas.{decode_of-ok}
@@ -12,9 +11,8 @@ use Rattle.nb_records.specs.declared.record.PortAddress.{PortAddress}
 use Rattle.nb_records.specs.declared.record.PortAddress.TheVariants.{Ether}
 use Rattle.nb_records.specs.declared.record.Record.{Record}
 use Rattle.nb_records.specs.declared.record.Record.TheVariants as kind
-use Rattle.edit_reader.specs.Reads.{Adds, AddsPort, IsEdit, IsForm, IsPacket, Reads, ReadsLine, SpellsEntry, SpellsEther, IsPlainFrame, edits, adds_chassis, binds, sends, is_form, is_none}
+use Rattle.edit_reader.specs.Reads.{Adds, IsForm, Reads, ReadsLine, SpellsEntry, edits, adds_chassis, binds, sends, is_form, is_none}
 use Rattle.edit_reader.specs.declared.event.Event.{Event}
-use Rattle.edit_reader.specs.declared.event.Event.TheVariants.{Edit, Bind, AddChassis, Packet, NotBuilt}
 use Rattle.serde_json.specs.Data.{Data}
 use Rattle.world_core.specs.Addresses.{mac_of}
 use Rattle.world_core.specs.Admitted.{IsAdmitted, IsAdmittedRecord}

@@ -1,5 +1,8 @@
 -- Lemmas.
 pub mod Admits
+pub mod ReadOff
+pub mod OneReading
+pub mod OneRun
 pub mod Running
 pub mod Taken
 pub mod Stopped

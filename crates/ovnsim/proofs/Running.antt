@@ -1,5 +1,5 @@
 -- How a run goes on, line by line.
-use Rattle.std.proofs.Common.{◌≡◌, ◌≢◌, ◌+◌, ◌-◌, ◌<◌, ◌≤◌, ◌++◌, ℕ, Bool, true, false, List, [], ◌∷◌, length, Option, Some, None, inl, inr, refl, sym, ap, ◌∙◌, subst, append_assoc, append-nil, arith}
+use Rattle.std.proofs.Common.{◌≡◌, ◌+◌, ◌-◌, ◌<◌, ◌++◌, ℕ, Bool, true, false, List, [], ◌∷◌, length, Option, Some, None, inl, inr, refl, sym, ap, ◌∙◌, subst, append_assoc, append-nil, arith}
 use Rattle.std.specs.Io.KnownBytes.{append_known}
 use Rattle.ovn_base.specs.Lines.{lines_within}
 use Rattle.ovn_base.specs.Reading.{Reading, GivesLine, unread}
@@ -11,7 +11,9 @@ use Rattle.world_core.specs.Seen.{Seen, IsSound}
 use Rattle.ovnsim.specs.declared.next_event.Next.TheVariants.{Found, Blank}
 use Rattle.ovnsim.specs.Events.{AreEvents, AsksFor, IsPassedOver, GivesNext}
 use Rattle.ovnsim.specs.Runs.{Runs, RunsLines, Takes}
-use Rattle.ovnsim.specs.Taking.{GainsText, TakesWith}
+use Rattle.ovnsim.specs.Taking.{GainsText}
+use Rattle.event_lines.specs.Picks.{Pick, picks_in}
+use Rattle.ovnsim.proofs.ReadOff.{read_off}
 
 -- Some first lines of the input were taken and their texts given, and the lines of the unread bytes are the others.
 pub record Ran (m : Reading) (world : Seen) (before sent : Option (List ℕ)) (input ahead : List ℕ) : Type 0 where
@@ -20,7 +22,7 @@ pub record Ran (m : Reading) (world : Seen) (before sent : Option (List ℕ)) (i
   -- for each limit n on the input, of which r is left
   pub lines : (r n : ℕ) → n ≡ r + m.given → (m.ended ≡ true → 0 < r) → lines_within n input ≡ done ++ lines_within r ahead
   pub count : length input ≡ m.given + length ahead
-  pub run : RunsLines done text world
+  pub run : RunsLines done (picks_in text) text world
   pub gone : sent ≡ append_known before text
 
 -- one line more, which is passed over
@@ -42,39 +44,48 @@ events_more (l ∷ lines) events line event (inr h) a = inr (record {
 })
 
 -- one event more
-runs_more : (old : Seen) (events : List Event) (text : List ℕ) (mid : Seen) (event : Event) (piece : List ℕ) (last : Seen) → Runs old events text mid → Takes mid event piece last → IsSound last
-    → Runs old (events ++ event ∷ []) (text ++ piece) last
-runs_more old [] text mid event piece last h t s = record {
+runs_more : (old : Seen) (events : List Event) (picks : List Pick) (text : List ℕ) (mid : Seen) (event : Event) (own : List Pick) (piece : List ℕ) (last : Seen) → Runs old events picks text mid
+    → Takes mid event own piece last → IsSound last → Runs old (events ++ event ∷ []) (picks ++ own) (text ++ piece) last
+runs_more old [] picks text mid event own piece last h t s = record {
   mid = last;
+  own = own;
+  left = [];
   first = piece;
   rest = [];
-  whole = ap (λ x. x ++ piece) h.0 ∙ sym (append-nil piece);
-  takes = subst (λ (w : Seen). Takes w event piece last) h.1 t;
+  picked = ap (λ x. x ++ own) h.0 ∙ sym (append-nil own);
+  whole = ap (λ x. x ++ piece) h.1 ∙ sym (append-nil piece);
+  takes = subst (λ (w : Seen). Takes w event own piece last) h.2 t;
   sound = s;
-  others = (refl, refl);
+  others = (refl, refl, refl);
 }
-runs_more old (first ∷ events) text mid event piece last h t s = record {
+runs_more old (first ∷ events) picks text mid event own piece last h t s = record {
   mid = h.mid;
+  own = h.own;
+  left = h.left ++ own;
   first = h.first;
   rest = h.rest ++ piece;
+  picked = ap (λ x. x ++ own) h.picked ∙ append_assoc h.own h.left own;
   whole = ap (λ x. x ++ piece) h.whole ∙ append_assoc h.first h.rest piece;
   takes = h.takes;
   sound = h.sound;
-  others = runs_more h.mid events h.rest mid event piece last h.others t s;
+  others = runs_more h.mid events h.left h.rest mid event own piece last h.others t s;
 }
 
 -- a line is passed over
-pub lines_passed : (done : List (List ℕ)) (text line : List ℕ) (world : Seen) → RunsLines done text world → IsPassedOver line → RunsLines (done ++ line ∷ []) text world
+pub lines_passed : (done : List (List ℕ)) (text line : List ℕ) (world : Seen) → RunsLines done (picks_in text) text world → IsPassedOver line → RunsLines (done ++ line ∷ []) (picks_in text) text world
 lines_passed done text line world h p = record { events = h.events; are = events_passed done h.events line h.are p; run = h.run }
 
 -- the event of a line is taken
-pub lines_more : (done : List (List ℕ)) (text line : List ℕ) (event : Event) (piece : List ℕ) (world last : Seen) → RunsLines done text world → AsksFor line event
-    → Takes world event piece last → IsSound last → RunsLines (done ++ line ∷ []) (text ++ piece) last
-lines_more done text line event piece world last h a t s = record {
-  events = h.events ++ event ∷ [];
-  are = events_more done h.events line event h.are a;
-  run = runs_more new_world h.events text world event piece last h.run t s;
-}
+pub lines_more : (done : List (List ℕ)) (text line : List ℕ) (event : Event) (own : List Pick) (piece : List ℕ) (world last : Seen) → RunsLines done (picks_in text) text world → AsksFor line event
+    → Takes world event own piece last → IsSound last → RunsLines (done ++ line ∷ []) (picks_in (text ++ piece)) (text ++ piece) last
+lines_more done text line event own piece world last h a t s =
+    let are = events_more done h.events line event h.are a in
+    let run = runs_more new_world h.events (picks_in text) text world event own piece last h.run t s in
+    record {
+      events = h.events ++ event ∷ [];
+      are = are;
+      run = subst (λ ps. Runs new_world (h.events ++ event ∷ []) ps (text ++ piece) last) (sym (read_off (done ++ line ∷ []) (h.events ++ event ∷ []) (picks_in text ++ own) (text ++ piece) last are run)) run;
+    }
 
 -- the lines that are left after a line more
 pub lines_on : (m k : Reading) (world : Seen) (before sent : Option (List ℕ)) (input ahead line after : List ℕ) → m.given < k.given → (h : Ran m world before sent input ahead) → GivesLine line m k ahead after
@@ -104,7 +115,7 @@ ran_more m k world last before sent now input ahead line after event ok more h g
   text = h.text ++ t.text;
   lines = lines_on m k world before sent input ahead line after more h g;
   count = h.count ∙ g.count;
-  run = lines_more h.done h.text line event t.text world last h.run a t.taken.takes t.taken.sound;
+  run = lines_more h.done h.text line event t.taken.picks t.text world last h.run a t.taken.takes t.taken.sound;
   gone = t.gone ∙ ap (λ x. append_known x t.text) h.gone ∙ append_twice before h.text t.text;
 }
 
@@ -119,7 +130,7 @@ start (Some input) before = record {
   text = [];
   lines = λ r n e p. ap (λ x. lines_within x input) (omega (arith, e));
   count = omega arith;
-  run = record { events = []; are = refl; run = (refl, refl) };
+  run = record { events = []; are = refl; run = (refl, refl, refl) };
   gone = sym (append_none before);
 }
 

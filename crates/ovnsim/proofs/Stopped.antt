@@ -1,22 +1,25 @@
 -- What stands where a run stops.
-use Rattle.std.proofs.Common.{◌≡◌, ◌≢◌, ◌+◌, ◌-◌, ◌^◌, ◌<◌, ◌≤◌, ◌++◌, ℕ, Bool, true, false, List, [], ◌∷◌, length, nat_lt, Option, Some, None, IfSome, refl, sym, ap, ◌∙◌, subst, append_assoc, append-nil, arith, lt-ltb, le-ltb, cond}
+use Rattle.std.proofs.Common.{◌≡◌, ◌+◌, ◌-◌, ◌^◌, ◌<◌, ◌≤◌, ◌++◌, ℕ, Bool, true, false, List, [], ◌∷◌, length, nat_lt, Option, Some, None, IfSome, refl, sym, ap, ◌∙◌, subst, append_assoc, append-nil, arith, lt-ltb, le-ltb, cond}
 use Rattle.std.proofs.lemmas.Bool.{cond-true, cond-false}
 use Rattle.std.specs.Io.KnownBytes.{append_known}
 use Rattle.ovn_base.specs.Lines.{lines_within}
-use Rattle.ovn_base.specs.Reading.{Reading, GivesLine, Stops, taken, unread}
+use Rattle.ovn_base.specs.Reading.{Reading, GivesLine, Stops, taken}
 use Rattle.ovn_base.specs.Told.{WhereTold}
 use Rattle.ovn_base.proofs.LineLaws.{within-nil}
 use Rattle.ovn_base.proofs.ToldLaws.{told_then, told_some, append_none, append_twice}
 use Rattle.edit_reader.specs.declared.event.Event.{Event}
 use Rattle.event_lines.specs.Lines.{end_line}
 use Rattle.world_core.specs.Parts.{new_world}
-use Rattle.world_core.specs.Seen.{Seen, IsSound}
+use Rattle.world_core.specs.Seen.{Seen}
 use Rattle.world_core.specs.State.{events_of}
 use Rattle.ovnsim.specs.declared.next_event.Next.TheVariants.{Found, End}
-use Rattle.ovnsim.specs.Answers.{Answers, GainsEvents, GainsFront, GainsRead, GainsTexts, GainsToLimit, GainsWhole, end_of, end_within, is_refusing, lines_in, status_of, then_last}
+use Rattle.ovnsim.specs.Answers.{Answers, GainsEvents, GainsFront, GainsRead, GainsTexts, GainsToLimit, GainsWhole, end_of, end_within, lines_in, then_last}
 use Rattle.ovnsim.specs.Events.{AsksFor, GivesNext}
 use Rattle.ovnsim.specs.Runs.{RunsLines}
 use Rattle.ovnsim.specs.Taking.{GainsCut, WasCut}
+use Rattle.event_lines.specs.Picks.{picks_in, AreWholeLines}
+use Rattle.event_lines.proofs.Reading as read
+use Rattle.ovnsim.proofs.ReadOff.{run_whole}
 use Rattle.ovnsim.proofs.Running.{Ran, fresh, lines_more, lines_on}
 
 -- how far the buffer went
@@ -57,7 +60,7 @@ nothing_done (Some x) before = record {
   text = [];
   last = new_world;
   all = refl;
-  run = record { events = []; are = refl; run = (refl, refl) };
+  run = record { events = []; are = refl; run = (refl, refl, refl) };
   gone = sym (append_none before);
 }
 
@@ -87,7 +90,7 @@ front_of m k world before sent now input ahead line after event more w h g a t =
       text = h.text ++ t.text;
       last = t.new;
       all = lines_on m k world before sent input ahead line after more h g (left_of k) (2 ^ 40) (left_is k w) (left_some k w);
-      run = lines_more h.done h.text line event t.text world t.new h.run a t.taken.takes t.taken.sound;
+      run = lines_more h.done h.text line event t.taken.picks t.text world t.new h.run a t.taken.takes t.taken.sound;
       front = h.text ++ t.cut.0;
       more = t.cut.1 ++ then_last rest input t.new;
       cut = cut_text h.text t.text t.cut.0 t.cut.1 (then_last rest input t.new) t.cut.2;
@@ -122,7 +125,7 @@ at_read X Y Z before sent m k world open' h s =
     let n : length x - length z ≡ taken k = omega arith in record {
       text = p.text;
       last = world;
-      run = subst (λ ls. RunsLines ls p.text world) (sym (ap (λ i. lines_within i x) n ∙ stop_lines m k world before sent x y z open' p q)) p.run;
+      run = subst (λ ls. RunsLines ls (picks_in p.text) p.text world) (sym (ap (λ i. lines_within i x) n ∙ stop_lines m k world before sent x y z open' p q)) p.run;
       gone = p.gone;
     })
 
@@ -138,7 +141,7 @@ at_limit X Y Z before sent m k world open' full h s =
       long = omega arith;
       text = p.text;
       last = world;
-      run = subst (λ ls. RunsLines ls p.text world) (sym (ap (λ i. lines_within i x) (sym full) ∙ stop_lines m k world before sent x y z open' p q)) p.run;
+      run = subst (λ ls. RunsLines ls (picks_in p.text) p.text world) (sym (ap (λ i. lines_within i x) (sym full) ∙ stop_lines m k world before sent x y z open' p q)) p.run;
       gone = p.gone;
     })) (λ x z p. p)
 
@@ -156,7 +159,7 @@ at_end X Y Z before sent m k world w h g =
     let some : 0 < left_of m = omega arith in record {
       short = omega arith;
       text = p.text;
-      run = subst (λ ls. RunsLines ls p.text world) (sym (p.lines (left_of m) (2 ^ 40) (left_is m w) (λ _. some) ∙ ap (λ ls. p.done ++ lines_within (left_of m) ls) q.0 ∙ ap (λ ls. p.done ++ ls) (within-nil (left_of m)) ∙ append-nil p.done)) p.run;
+      run = subst (λ ls. RunsLines ls (picks_in p.text) p.text world) (sym (p.lines (left_of m) (2 ^ 40) (left_is m w) (λ _. some) ∙ ap (λ ls. p.done ++ lines_within (left_of m) ls) q.0 ∙ ap (λ ls. p.done ++ ls) (within-nil (left_of m)) ∙ append-nil p.done)) p.run;
       gone = p.gone;
     })) (λ x z p. p)
 
@@ -211,13 +214,25 @@ end_memory X before sent now last h same = map_some X (GainsTexts before sent la
   gone = same ∙ p.gone;
 })
 
+-- the last line names nothing that was picked
+with_end : (input text : List ℕ) (last : Seen) → RunsLines (lines_in input) (picks_in text) text last → RunsLines (lines_in input) (picks_in (text ++ end_within input last)) text last
+with_end input text last h =
+    let whole : AreWholeLines text = run_whole new_world h.events (picks_in text) text last h.run in
+    subst (λ ps. RunsLines (lines_in input) ps text last) (sym (by whole (nat_lt (length input) (2 ^ 40)))) h
+  where
+    by : AreWholeLines text → (t : Bool) → picks_in (text ++ cond t (end_of last) []) ≡ picks_in text
+    by whole true = read.joined text (end_of last) whole ∙ ap (λ ps. picks_in text ++ ps) (read.end (events_of last.state) last.state.accepted last.state.refused 0) ∙ append-nil (picks_in text)
+    by whole false = ap picks_in (append-nil text)
+
 -- an input with an end is answered
 pub answers_whole : (X before now : Option (List ℕ)) (refused : Bool) → IfSome X (GainsWhole refused before now) → IfSome X (Answers (cond refused 3 0) before now)
 answers_whole X before now refused h = map_some X (GainsWhole refused before now) (Answers (cond refused 3 0) before now) h (λ x p. record {
+  written = p.text ++ end_within x p.last;
+  gone = p.gone ∙ ap (λ y. append_known before (p.text ++ y)) (sym (end_within-short x p.last p.short));
   text = p.text;
   last = p.last;
-  run = p.run;
-  gone = p.gone ∙ ap (λ y. append_known before (p.text ++ y)) (sym (end_within-short x p.last p.short));
+  run = with_end x p.text p.last p.run;
+  whole = refl;
   status_is = ap (λ (b : Bool). cond b 3 0) p.refused_is ∙ sym (cond-true _ _ _ (lt-ltb (length x) (2 ^ 40) p.short));
 })
 
@@ -226,9 +241,11 @@ pub answers_limit : (X before now : Option (List ℕ)) → IfSome X (GainsToLimi
 answers_limit X before now h = map_some X (GainsToLimit before now) (Answers 8 before now) h (λ x p.
     let over = le-ltb (length x) (2 ^ 40) p.long in
     let none : end_within x p.last ≡ [] = cond-false _ _ _ over in record {
+      written = p.text ++ end_within x p.last;
+      gone = p.gone ∙ ap (append_known before) (sym (append-nil p.text) ∙ ap (λ y. p.text ++ y) (sym none));
       text = p.text;
       last = p.last;
-      run = p.run;
-      gone = p.gone ∙ ap (append_known before) (sym (append-nil p.text) ∙ ap (λ y. p.text ++ y) (sym none));
+      run = with_end x p.text p.last p.run;
+      whole = refl;
       status_is = sym (cond-false _ _ _ over);
     })

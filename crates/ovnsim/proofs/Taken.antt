@@ -5,7 +5,9 @@ use Rattle.edit_reader.specs.declared.event.Event.{Event}
 use Rattle.edit_reader.specs.declared.event.Event.TheVariants.{Edit, Bind, AddChassis, Packet, Unread, NotBuilt}
 use Rattle.event_lines.specs.declared.refusal.Refusal.{Refusal}
 use Rattle.switch_engine.specs.declared.effect.NetEffect.{NetEffect}
-use Rattle.world_core.specs.Outcome.{IsAccepted, IsRefused}
+use Rattle.event_lines.specs.Lines.{lines_of}
+use Rattle.event_lines.specs.Picks.{picks_of}
+use Rattle.world_core.specs.Outcome.{IsAccepted, IsRefused, matched}
 use Rattle.world_core.specs.Seen.{Seen, IsSound}
 use Rattle.world_core.specs.State.{State, events_of}
 use Rattle.world_core.specs.Step.{Step}
@@ -21,12 +23,17 @@ step_counts m (Packet port frame) effects after h = (ap (λ (s : State). s.accep
 step_counts m (Unread fault) effects after h = absurd h
 step_counts m NotBuilt effects after h = absurd h
 
+accepts_from : (old : Seen) (event : Event) (before text : List ℕ) (new : Seen) → before ≡ [] → (h : IsAccepted old event before text new) → Takes old event (picks_of h.effects) text new
+accepts_from old event before text new empty h =
+    accepts (record { admitted = h.admitted; effects = h.effects; step = h.step; walked = h.walked; zones = h.zones; text = h.text ∙ ap (λ b. b ++ lines_of (events_of old.state + 1) h.effects (matched new.walks)) empty }) refl
+
 -- an accepted event, where the text was empty
 pub takes_accepted : (old : Seen) (event : Event) (before text : List ℕ) (new : Seen) → before ≡ [] → IsAccepted old event before text new × IsSound new → TakesWith true old event text new
 takes_accepted old event before text new empty h =
     let counts = step_counts old.state event h.0.effects new.state h.0.step in
     record {
-      takes = accepts (subst (λ b. IsAccepted old event b text new) empty h.0);
+      picks = picks_of h.0.effects;
+      takes = accepts_from old event before text new empty h.0;
       sound = h.1;
       accepted = counts.0;
       refused = omega (arith, counts.1);
@@ -37,7 +44,8 @@ pub takes_refused : (old : Seen) (event : Event) (why : Refusal) (before text : 
 takes_refused old event why before text new empty h =
     let accepted : new.state.accepted ≡ old.state.accepted = ap (λ (w : Seen). w.state.accepted) h.0.kept in
     record {
-      takes = refuses why (subst (λ b. IsRefused old event why b text new) empty h.0);
+      picks = [];
+      takes = refuses why (subst (λ b. IsRefused old event why b text new) empty h.0) refl;
       sound = h.1;
       accepted = omega (arith, accepted);
       refused = ap (λ (w : Seen). w.state.refused) h.0.kept;

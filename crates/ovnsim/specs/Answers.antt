@@ -3,6 +3,7 @@ use Rattle.std.specs.Prelude.{◌≡◌, ◌≤◌, ◌<◌, ◌++◌, ◌-◌, 
 use Rattle.std.specs.Io.KnownBytes.{append_known}
 use Rattle.ovn_base.specs.Lines.{lines_within}
 use Rattle.event_lines.specs.Lines.{end_line}
+use Rattle.event_lines.specs.Picks.{picks_in}
 use Rattle.world_core.specs.Seen.{Seen}
 use Rattle.world_core.specs.State.{events_of}
 use Rattle.ovnsim.specs.Runs.{RunsLines}
@@ -32,12 +33,15 @@ then_last (line ∷ lines) input last = []
 abbrev pub status_of : List ℕ → Seen → ℕ
 status_of input last = if nat_lt (length input) (2 ^ 40) then (if is_refusing last then 3 else 0) else 8
 
--- the answer to an input: the texts of its events in a run from the empty world, and then the last line
+-- The answer to an input: what was written is the texts of its events in a run from the empty world, and then the last
+-- line. What is picked in the run is what the written lines name.
 pub record Answers (status : ℕ) (before after : Option (List ℕ)) (input : List ℕ) : Type 0 where
+  pub written : List ℕ
+  pub gone : after ≡ append_known before written
   pub text : List ℕ
   pub last : Seen
-  pub run : RunsLines (lines_in input) text last
-  pub gone : after ≡ append_known before (text ++ end_within input last)
+  pub run : RunsLines (lines_in input) (picks_in written) text last
+  pub whole : written ≡ text ++ end_within input last
   pub status_is : status ≡ status_of input last
 
 -- the sink gained the whole texts of the events of some first lines
@@ -47,7 +51,7 @@ pub record GainsEvents (before after : Option (List ℕ)) (input : List ℕ) : T
   pub text : List ℕ
   pub last : Seen
   pub all : lines_in input ≡ done ++ rest
-  pub run : RunsLines done text last
+  pub run : RunsLines done (picks_in text) text last
   pub gone : after ≡ append_known before text
 
 -- The sink gained some first bytes: of the texts of the events of some first lines, or, where these are all and the
@@ -58,7 +62,7 @@ pub record GainsFront (before after : Option (List ℕ)) (input : List ℕ) : Ty
   pub text : List ℕ
   pub last : Seen
   pub all : lines_in input ≡ done ++ rest
-  pub run : RunsLines done text last
+  pub run : RunsLines done (picks_in text) text last
   pub front : List ℕ
   pub more : List ℕ
   pub cut : text ++ then_last rest input last ≡ front ++ more
@@ -68,7 +72,7 @@ pub record GainsFront (before after : Option (List ℕ)) (input : List ℕ) : Ty
 pub record GainsRead (before after : Option (List ℕ)) (input left : List ℕ) : Type 0 where
   pub text : List ℕ
   pub last : Seen
-  pub run : RunsLines (lines_within (length input - length left) input) text last
+  pub run : RunsLines (lines_within (length input - length left) input) (picks_in text) text last
   pub gone : after ≡ append_known before text
 
 -- the input has no end within the limit, and the sink gained the texts of its events
@@ -76,7 +80,7 @@ pub record GainsToLimit (before after : Option (List ℕ)) (input : List ℕ) : 
   pub long : 2 ^ 40 ≤ length input
   pub text : List ℕ
   pub last : Seen
-  pub run : RunsLines (lines_in input) text last
+  pub run : RunsLines (lines_in input) (picks_in text) text last
   pub gone : after ≡ append_known before text
 
 -- the input ended, and the sink gained the texts of its events and the last line
@@ -84,7 +88,7 @@ pub record GainsWhole (refused : Bool) (before after : Option (List ℕ)) (input
   pub short : length input < 2 ^ 40
   pub text : List ℕ
   pub last : Seen
-  pub run : RunsLines (lines_in input) text last
+  pub run : RunsLines (lines_in input) (picks_in text) text last
   pub refused_is : refused ≡ is_refusing last
   pub gone : after ≡ append_known before (text ++ end_of last)
 
@@ -92,5 +96,5 @@ pub record GainsWhole (refused : Bool) (before after : Option (List ℕ)) (input
 pub record GainsTexts (before after : Option (List ℕ)) (last : Seen) (input : List ℕ) : Type 0 where
   pub short : length input < 2 ^ 40
   pub text : List ℕ
-  pub run : RunsLines (lines_in input) text last
+  pub run : RunsLines (lines_in input) (picks_in text) text last
   pub gone : after ≡ append_known before text

@@ -1,8 +1,7 @@
 -- The events of an input.
-use Rattle.std.specs.Prelude.{◌≡◌, ◌≢◌, ◌<◌, ◌≤◌, ◌+◌, ◌^◌, ◌==◌, ◌||◌, ◌⊎◌, ℕ, Bool, List, [], ◌∷◌, length}
+use Rattle.std.specs.Prelude.{◌≡◌, ◌<◌, ◌≤◌, ◌==◌, ◌||◌, ◌⊎◌, ℕ, Bool, List, [], ◌∷◌, length}
 use Rattle.std.specs.List.{AllPass}
 use Rattle.serde_json.specs.Data.{Data}
-use Rattle.ovn_base.specs.Lines.{lines_within}
 use Rattle.ovn_base.specs.Reading.{Reading, Gives, GivesLine}
 use Rattle.ovn_base.specs.declared.next_line.Line.TheVariants as line
 use Rattle.edit_reader.specs.Reads.{ReadsLine, IsReading}

@@ -1,35 +1,39 @@
 -- Runs of the network.
 use Rattle.std.specs.Prelude.{◌≡◌, ◌++◌, ℕ, List, [], ◌∷◌}
 use Rattle.edit_reader.specs.declared.event.Event.{Event}
+use Rattle.event_lines.specs.Picks.{Pick, picks_of}
 use Rattle.event_lines.specs.declared.refusal.Refusal.{Refusal}
 use Rattle.world_core.specs.Outcome.{IsAccepted, IsRefused}
 use Rattle.world_core.specs.Parts.{new_world}
 use Rattle.world_core.specs.Seen.{Seen, IsSound}
 use Rattle.ovnsim.specs.Events.{AreEvents}
 
--- one event, accepted or refused, with its text
-pub data Takes (old : Seen) (event : Event) (text : List ℕ) (new : Seen) : Type 0 where
-  accepts : IsAccepted old event [] text new → Takes old event text new
-  refuses : (why : Refusal) → IsRefused old event why [] text new → Takes old event text new
+-- one event with its text and what was picked for it: accepted, and its effects name what was picked; or refused, and nothing was picked
+pub data Takes (old : Seen) (event : Event) (picks : List Pick) (text : List ℕ) (new : Seen) : Type 0 where
+  accepts : (accepted : IsAccepted old event [] text new) → picks ≡ picks_of accepted.effects → Takes old event picks text new
+  refuses : (why : Refusal) → IsRefused old event why [] text new → picks ≡ [] → Takes old event picks text new
 
--- The first of some events, and the others after it. After the event the world is sound: each chassis holds exactly
--- the flows of the records.
-pub record TakesFirst (old : Seen) (event : Event) (text : List ℕ) (Others : Seen → List ℕ → Type 0) : Type 0 where
+-- The first of some events with the first of the picks, and the others after it with those that are left. After the
+-- event the world is sound: each chassis holds exactly the flows of the records.
+pub record TakesFirst (old : Seen) (event : Event) (picks : List Pick) (text : List ℕ) (Others : Seen → List Pick → List ℕ → Type 0) : Type 0 where
   pub mid : Seen
+  pub own : List Pick
+  pub left : List Pick
   pub first : List ℕ
   pub rest : List ℕ
+  pub picked : picks ≡ own ++ left
   pub whole : text ≡ first ++ rest
-  pub takes : Takes old event first mid
+  pub takes : Takes old event own first mid
   pub sound : IsSound mid
-  pub others : Others mid rest
+  pub others : Others mid left rest
 
--- the events were taken in their order, with this text, and left the world as the last one
-abbrev pub Runs : Seen → List Event → List ℕ → Seen → Type 0
-Runs old [] text last = (text ≡ []) × (last ≡ old)
-Runs old (event ∷ events) text last = TakesFirst old event text (λ mid rest. Runs mid events rest last)
+-- the events were taken in their order with these picks and this text, and left the world as the last one
+abbrev pub Runs : Seen → List Event → List Pick → List ℕ → Seen → Type 0
+Runs old [] picks text last = (picks ≡ []) × (text ≡ []) × (last ≡ old)
+Runs old (event ∷ events) picks text last = TakesFirst old event picks text (λ mid left rest. Runs mid events left rest last)
 
--- the events of the lines were taken in a run from the empty world
-pub record RunsLines (lines : List (List ℕ)) (text : List ℕ) (last : Seen) : Type 0 where
+-- the events of the lines were taken with these picks in a run from the empty world
+pub record RunsLines (lines : List (List ℕ)) (picks : List Pick) (text : List ℕ) (last : Seen) : Type 0 where
   pub events : List Event
   pub are : AreEvents lines events
-  pub run : Runs new_world events text last
+  pub run : Runs new_world events picks text last

@@ -1,13 +1,15 @@
 -- What one event leaves.
-use Rattle.std.specs.Prelude.{◌≡◌, ◌+◌, ◌++◌, ℕ, Bool, true, false, List, Option, cond}
+use Rattle.std.specs.Prelude.{◌≡◌, ◌+◌, ◌++◌, ℕ, Bool, List, Option, cond}
 use Rattle.std.specs.Io.KnownBytes.{append_known}
 use Rattle.edit_reader.specs.declared.event.Event.{Event}
+use Rattle.event_lines.specs.Picks.{Pick}
 use Rattle.world_core.specs.Seen.{Seen, IsSound}
 use Rattle.ovnsim.specs.Runs.{Takes}
 
--- the event was taken, with its text, and it is counted
+-- the event was taken, with its text and what was picked for it, and it is counted
 pub record TakesWith (is_accepted : Bool) (old : Seen) (event : Event) (text : List ℕ) (new : Seen) : Type 0 where
-  pub takes : Takes old event text new
+  pub picks : List Pick
+  pub takes : Takes old event picks text new
   pub sound : IsSound new
   pub accepted : new.state.accepted ≡ old.state.accepted + cond is_accepted 1 0
   pub refused : new.state.refused ≡ old.state.refused + cond is_accepted 0 1

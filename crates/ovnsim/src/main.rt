@@ -2,6 +2,7 @@
 #![tactic(auto)]
 
 mod next_event;
+mod one_run;
 mod run;
 mod std_io;
 #[cfg(test)]

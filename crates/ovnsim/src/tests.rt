@@ -28,6 +28,27 @@ const FIRST_PATH_OUTPUT: &[u8] = b"1 key datapath s0 1
 end events=7 accepted=7 refused=0 waiting=0
 ";
 
+// Each datapath has the least key that no other has, and each port the least that no other port of its switch has.
+const TWO_SWITCHES: &[u8] = b"{\"edit\":[{\"add\":\"switch\",\"name\":\"s0\"}]}
+{\"edit\":[{\"add\":\"switch\",\"name\":\"s1\"}]}
+{\"edit\":[{\"add\":\"switch_port\",\"name\":\"p1\",\"switch\":\"s0\",\"addresses\":[\"0a:00:00:00:00:01\"]}]}
+{\"edit\":[{\"add\":\"switch_port\",\"name\":\"p2\",\"switch\":\"s1\",\"addresses\":[\"0a:00:00:00:00:01\"]}]}
+{\"edit\":[{\"add\":\"switch_port\",\"name\":\"p3\",\"switch\":\"s0\",\"addresses\":[\"0a:00:00:00:00:02\"]}]}
+";
+
+const TWO_SWITCHES_OUTPUT: &[u8] = b"1 key datapath s0 1
+1 ok walks=0
+2 key datapath s1 2
+2 ok walks=0
+3 key port p1 1
+3 ok walks=0
+4 key port p2 1
+4 ok walks=0
+5 key port p3 2
+5 ok walks=0
+end events=5 accepted=5 refused=0 waiting=0
+";
+
 /// A source of these bytes of which no call fails.
 fn source_of(alloc: Global, bytes: &[u8]) -> Result<MemorySource, NoMemory> {
     Ok(MemorySource::new(Vec::from_slice(alloc, bytes)?, Vec::new(alloc)))
@@ -65,6 +86,18 @@ fn carries_a_frame(rt: HostRuntime) -> Result<(), Fail> {
         0
     );
     assert_eq!(rt; sink.bytes(), FIRST_PATH_OUTPUT);
+    Ok(())
+}
+
+#[test]
+fn gives_the_least_free_keys(rt: HostRuntime) -> Result<(), Fail> {
+    let alloc = rt.alloc();
+    let mut sink = sink(alloc)?;
+    assert_eq!(rt;
+        replay(alloc, &mut source_of(alloc, TWO_SWITCHES)?, &mut sink)?,
+        0
+    );
+    assert_eq!(rt; sink.bytes(), TWO_SWITCHES_OUTPUT);
     Ok(())
 }
 

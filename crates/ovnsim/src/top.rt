@@ -46,7 +46,7 @@ pub fn ovnsim<S: Source, K: Sink>(
     source: &mut S,
     sink: &mut K,
 ) -> u8
-    // Where nothing fails, it writes what the input asks for.
+    // Where nothing fails, it writes what the input asks for, in the run whose picks the written lines name.
     ensures headline { map string_bytes words.now ≡ codes "replay" ∷ []
         → ¬ (Rose (S.faults source.old) (S.faults source.new))
         → ¬ (Rose (K.faults sink.old) (K.faults sink.new))

@@ -21,3 +21,6 @@ pub mod Finishing
 pub mod Refusals
 pub mod AddingPorts
 pub mod Binding
+pub mod OneStep
+pub mod OneWalk
+pub mod Named

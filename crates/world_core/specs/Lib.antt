@@ -23,3 +23,4 @@ pub mod Step
 pub mod Outcome
 pub mod Numbers
 pub mod Zones
+pub mod Picks

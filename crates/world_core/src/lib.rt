@@ -5,6 +5,7 @@ mod compile;
 pub mod keys;
 pub mod laws;
 mod naming;
+pub mod one_run;
 mod refusing;
 mod rows;
 pub mod world;

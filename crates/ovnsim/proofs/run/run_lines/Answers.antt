@@ -1,5 +1,4 @@
-use Rattle.std.proofs.Common.{◌≡◌, ◌≢◌, ◌+◌, ◌≤◌, ◌<◌, cond, Err, ap, refl, sym, ◌∙◌, arith}
-use Rattle.ovnsim.specs.declared.next_event.Next.TheVariants.{Found, Blank, End}
+use Rattle.std.proofs.Common.{◌≡◌, ◌+◌, cond, Err, ap, refl, sym, ◌∙◌, arith}
 use Rattle.ovnsim.specs.declared.run.Stop.TheVariants.{ReadFault, WriteFault, Memory, InputTooLong}
 use Rattle.ovnsim.proofs.Running.{ran_start, turn_event, turn_passed}
 use Rattle.ovnsim.proofs.Stopped.{IsWithin, at_end, at_give, at_limit, at_memory, at_read, starts}

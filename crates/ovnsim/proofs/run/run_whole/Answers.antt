@@ -1,4 +1,4 @@
-use Rattle.std.proofs.Common.{◌≡◌, Err, ap, refl, sym, ◌∙◌}
+use Rattle.std.proofs.Common.{◌≡◌, Err, refl}
 use Rattle.ovnsim.specs.declared.run.Stop.TheVariants.{WriteFault, Memory}
 use Rattle.ovnsim.proofs.Stopped.{end_cut, end_memory, whole_of}
 use Rattle.ovnsim.proofs.Taken.{passed_on}

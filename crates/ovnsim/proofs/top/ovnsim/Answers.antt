@@ -1,4 +1,4 @@
-use Rattle.std.proofs.Common.{◌≡◌, Err, ap, ◌∙◌, true, false}
+use Rattle.std.proofs.Common.{Err, ap, ◌∙◌, true, false}
 use Rattle.ovnsim.proofs.Stopped.{answers_limit, answers_whole}
 use Rattle.ovnsim.proofs.top.ovnsim.Goals as goal
 

@@ -1,0 +1,146 @@
+-- Events and picks have one run.
+use Rattle.std.proofs.Common.{◌≡◌, ◌+◌, ◌++◌, ℕ, List, [], ◌∷◌, refl, sym, ap, ◌∙◌, subst, arith}
+use Rattle.std.specs.List.Sorted.{IsStrictlySortedBy}
+use Rattle.std.proofs.lemmas.Option.{none-some, same_Some}
+use Rattle.ovn_base.proofs.AmongLaws.{among_none}
+use Rattle.edit_reader.specs.declared.event.Event.{Event}
+use Rattle.event_lines.specs.Lines.{lines_of, refused_line}
+use Rattle.event_lines.specs.Picks.{Pick}
+use Rattle.world_core.specs.Outcome.{matched}
+use Rattle.world_core.specs.Parts.{new_world}
+use Rattle.world_core.specs.Picks.{Fate, Run, was_accepted, was_refused}
+use Rattle.world_core.specs.Picks as network
+use Rattle.world_core.specs.Refusing.{refusal}
+use Rattle.world_core.specs.Seen.{Seen, IsSound}
+use Rattle.world_core.specs.State.{State, events_of}
+use Rattle.world_core.specs.Step as net
+use Rattle.world_core.specs.Zones.{zones_after}
+use Rattle.world_core.proofs.OneStep.{step_with}
+use Rattle.world_core.proofs.OneWalk.{same_walks}
+use Rattle.ovnsim.specs.Runs.{Runs, RunsLines, Takes, accepts, refuses}
+use Rattle.ovnsim.proofs.OneReading.{same_events}
+
+-- the empty world is sound
+new_sound : IsSound new_world
+unfolding IsStrictlySortedBy
+new_sound = record {
+  whole = refl;
+  consistent = record {
+    valid = record {
+      switches_sorted = tt;
+      ports_sorted = tt;
+      switch_names = λ a switch e. absurd (none-some switch e);
+      port_names = λ q port e. absurd (none-some port e);
+      on_switch = λ q port e. absurd (none-some port e);
+      macs = λ q port entry e among. absurd (none-some port e);
+      stations = λ q port entry e among. absurd (none-some port e);
+      once = λ q port e. absurd (none-some port e);
+      apart = λ p q ours theirs mac e f switch has also. absurd (none-some ours e);
+      ips_apart = λ p q ours theirs ip e f switch has also. absurd (none-some ours e);
+    };
+    within = record { switches = omega arith; ports = omega arith };
+    keys = record {
+      datapaths_sorted = tt;
+      ports_sorted = tt;
+      datapath_has = λ a switch e. absurd (none-some switch e);
+      datapath_of = λ a k e. absurd (none-some k e);
+      datapath_fits = λ a k e. absurd (none-some k e);
+      datapaths_apart = λ a b j k e f same. absurd (none-some j e);
+      port_has = λ q port e. absurd (none-some port e);
+      port_of = λ q k e. absurd (none-some k e);
+      port_fits = λ q k e. absurd (none-some k e);
+      ports_apart = λ p q j k e f on same. absurd (none-some j e);
+    };
+    bound = record {
+      port_there = λ q c e. absurd (none-some c e);
+      chassis_there = λ q c e. absurd (none-some c e);
+      one_chassis = omega arith;
+      has_zone = λ q c e. absurd (none-some c e);
+      zone_of = λ q z e. absurd (none-some z e);
+      zone_fits = λ q z e. absurd (none-some z e);
+      zones_apart = λ p q z e f. absurd (none-some z e);
+    };
+    born = record { switches = λ a switch e. absurd (none-some switch e); ports = λ q port e. absurd (none-some port e) };
+    few = omega arith;
+  };
+  compiled = record { exact = λ c among. absurd (among_none c among) };
+}
+
+-- two worlds of one state, and with the same zones
+pub record AreAlike (one two : Seen) : Type 0 where
+  pub state : one.state ≡ two.state
+  pub zones : one.zones ≡ two.zones
+
+-- the same text, the like worlds, and the same picks left
+pub record SameTaking (first other : List ℕ) (mid after : Seen) (left more : List Pick) : Type 0 where
+  pub texts : first ≡ other
+  pub like : AreAlike mid after
+  pub rest : left ≡ more
+
+takes_same : (one two : Seen) (event : Event) (own their left more : List Pick) (first other : List ℕ) (mid after : Seen) → IsSound one → IsSound two → AreAlike one two → Takes one event own first mid → Takes two event their other after
+    → own ++ left ≡ their ++ more → SameTaking first other mid after left more
+takes_same one two event own their left more first other mid after sound also like (accepts h p) (accepts k q) e =
+    let moved : net.Step one.state event k.effects after.state = subst (λ s. net.Step s event k.effects after.state) (sym like.state) k.step in
+    let step =
+    step_with one.state event h.effects k.effects mid.state after.state left more sound.consistent.valid h.step moved (sym (ap (λ ps. ps ++ left) p) ∙ e ∙ ap (λ ps. ps ++ more) q) in
+    let walks : mid.walks ≡ after.walks = same_walks one two event h.effects k.effects mid.walks after.walks sound also like.state like.zones h.walked k.walked in
+    let number : events_of one.state + 1 ≡ events_of two.state + 1 = ap (λ (s : State). events_of s + 1) like.state in
+    record {
+      texts = h.text ∙ (λ i. lines_of (number i) (step.effects_are i) (matched (walks i))) ∙ sym k.text;
+      like = record { state = step.state; zones = h.zones ∙ ap (λ zs. zones_after zs event) like.zones ∙ sym k.zones };
+      rest = step.rest;
+    }
+takes_same one two event own their left more first other mid after sound also like (accepts h p) (refuses why k q) e =
+    absurd (none-some why (sym h.admitted ∙ ap (λ s. refusal s event) like.state ∙ k.first))
+takes_same one two event own their left more first other mid after sound also like (refuses why h p) (accepts k q) e =
+    absurd (none-some why (sym k.admitted ∙ ap (λ s. refusal s event) (sym like.state) ∙ h.first))
+takes_same one two event own their left more first other mid after sound also like (refuses why h p) (refuses who k q) e =
+    let cause : why ≡ who = same_Some why who (sym h.first ∙ ap (λ s. refusal s event) like.state ∙ k.first) in
+    let number : events_of one.state + 1 ≡ events_of two.state + 1 = ap (λ (s : State). events_of s + 1) like.state in
+    record {
+      texts = h.text ∙ (λ i. refused_line (number i) (cause i)) ∙ sym k.text;
+      like = record {
+        state = ap (λ (w : Seen). w.state) h.kept ∙ ap (λ (s : State). record s { refused = s.refused + 1 }) like.state ∙ sym (ap (λ (w : Seen). w.state) k.kept);
+        zones = ap (λ (w : Seen). w.zones) h.kept ∙ like.zones ∙ sym (ap (λ (w : Seen). w.zones) k.kept);
+      };
+      rest = sym (ap (λ ps. ps ++ left) p) ∙ e ∙ ap (λ ps. ps ++ more) q;
+    }
+
+runs_same : (one two : Seen) (events : List Event) (picks others : List Pick) (text other : List ℕ) (last end : Seen) → IsSound one → IsSound two → AreAlike one two → picks ≡ others → Runs one events picks text last
+    → Runs two events others other end → (text ≡ other) × AreAlike last end
+runs_same one two [] picks others text other last end sound also like same h k = (
+  h.1 ∙ sym k.1,
+  record { state = ap (λ (w : Seen). w.state) h.2 ∙ like.state ∙ sym (ap (λ (w : Seen). w.state) k.2); zones = ap (λ (w : Seen). w.zones) h.2 ∙ like.zones ∙ sym (ap (λ (w : Seen). w.zones) k.2) },
+)
+runs_same one two (event ∷ events) picks others text other last end sound also like same h k =
+    let first = takes_same one two event h.own k.own h.left k.left h.first k.first h.mid k.mid sound also like h.takes k.takes (sym h.picked ∙ same ∙ k.picked) in
+    let rest = runs_same h.mid k.mid events h.left k.left h.rest k.rest last end h.sound k.sound first.like first.rest h.others k.others in
+    (h.whole ∙ ap (λ t. t ++ h.rest) first.texts ∙ ap (λ t. k.first ++ t) rest.0 ∙ sym k.whole, rest.1)
+
+-- events and picks have one text, one last state, and one list of zones
+pub one_run : (events : List Event) (picks : List Pick) (text other : List ℕ) (last end : Seen) → Runs new_world events picks text last → Runs new_world events picks other end
+    → (text ≡ other) × (last.state ≡ end.state) × (last.zones ≡ end.zones)
+one_run events picks text other last end h k =
+    let same = runs_same new_world new_world events picks picks text other last end new_sound new_sound (record { state = refl; zones = refl }) refl h k in
+    (same.0, same.1.state, same.1.zones)
+
+-- and so have lines and picks
+pub one_run_of_lines : (lines : List (List ℕ)) (picks : List Pick) (text other : List ℕ) (last end : Seen) → RunsLines lines picks text last → RunsLines lines picks other end
+    → (text ≡ other) × (last.state ≡ end.state) × (last.zones ≡ end.zones)
+one_run_of_lines lines picks text other last end h k =
+    one_run k.events picks text other last end (subst (λ es. Runs new_world es picks text last) (same_events lines h.events k.events h.are k.are) h.run) k.run
+
+-- a run of the world is one of the network
+happens : (old : Seen) (event : Event) (own : List Pick) (text : List ℕ) (new : Seen) → Takes old event own text new → (fate : Fate) × network.Happens old.state event own fate new.state
+happens old event own text new (accepts h e) = (was_accepted h.effects, network.Happens.accepts h.effects h.admitted h.step e refl)
+happens old event own text new (refuses why h e) = (was_refused why, network.Happens.refuses why h.first e refl (ap (λ (w : Seen). w.state) h.kept))
+
+run_from : (old : Seen) (events : List Event) (picks : List Pick) (text : List ℕ) (last : Seen) → Runs old events picks text last → (fates : List Fate) × Run old.state events picks fates last.state
+run_from old [] picks text last h = ([], (h.0, refl, ap (λ (w : Seen). w.state) h.2))
+run_from old (event ∷ events) picks text last h =
+    let one = happens old event h.own h.first h.mid h.takes in
+    let rest = run_from h.mid events h.left h.rest last h.others in
+    (one.0 ∷ rest.0, record { mid = h.mid.state; own = h.own; left = h.left; fate = one.0; others = rest.0; picked = h.picked; all = refl; happens = one.1; after = rest.1 })
+
+pub network_run : (events : List Event) (picks : List Pick) (text : List ℕ) (last : Seen) → Runs new_world events picks text last → (fates : List Fate) × Run new_world.state events picks fates last.state
+network_run events picks text last h = run_from new_world events picks text last h

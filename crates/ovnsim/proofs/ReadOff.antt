@@ -1,0 +1,88 @@
+-- The picks of a run are those that are read off its text.
+use Rattle.std.proofs.Common.{◌≡◌, ◌+◌, ◌++◌, ℕ, List, [], ◌∷◌, inl, inr, sym, ap, ◌∙◌, subst, append_assoc, append-nil, codes}
+use Rattle.std.specs.List.{AllByRecursion}
+use Rattle.serde_json.specs.Data.{Data}
+use Rattle.nb_records.specs.declared.record.Record.{Record}
+use Rattle.nb_records.specs.declared.record.Record.TheVariants as kind
+use Rattle.edit_reader.specs.Reads.{Adds, IsForm, Reads, edits, adds_chassis, binds, sends, is_form, is_none}
+use Rattle.edit_reader.specs.declared.event.Event.{Event}
+use Rattle.event_lines.specs.Picks.{Pick, picks_in, AreWholeLines}
+use Rattle.event_lines.proofs.Reading as read
+use Rattle.world_core.specs.Outcome.{matched}
+use Rattle.world_core.specs.Parts.{new_world}
+use Rattle.world_core.specs.Seen.{Seen}
+use Rattle.world_core.specs.State.{events_of}
+use Rattle.world_core.proofs.Named.{IsNamedRecord, IsNamedEvent, ArePortsNamed, none_named, refusal_named, step_named}
+use Rattle.ovnsim.specs.Events.{AreEvents, AsksFor, is_too_long, is_no_json, is_read}
+use Rattle.ovnsim.specs.Runs.{Runs, Takes, accepts, refuses}
+
+-- ---- the names in what a line asks for
+
+record_named : (d : Data) (row : Record) → Adds d row → IsNamedRecord row
+record_named d (kind.Switch switch) h = h.is_name
+record_named d (kind.SwitchPort port) h = (h.has_port.is_name, h.has_port.is_switch_name)
+
+form_named : (d : Data) (event : Event) → IsForm d event → IsNamedEvent event
+form_named d event (edits row h e) = subst IsNamedEvent (sym e) (record_named h.op row h.adds, tt)
+form_named d event (adds_chassis name h e) = subst IsNamedEvent (sym e) h.is_name
+form_named d event (binds port chassis h e) = subst IsNamedEvent (sym e) (h.is_port_name, h.is_chassis_name)
+form_named d event (sends port frame h e) = subst IsNamedEvent (sym e) h.has_packet.is_port_name
+
+value_named : (d : Data) (event : Event) → Reads d event → IsNamedEvent event
+value_named d event (is_form h) = form_named d event h
+value_named d event (is_none none e) = subst IsNamedEvent (sym e) tt
+
+line_named : (line : List ℕ) (event : Event) → AsksFor line event → IsNamedEvent event
+line_named line event (is_too_long long e) = subst IsNamedEvent (sym e) tt
+line_named line event (is_no_json short blank none e) = subst IsNamedEvent (sym e) tt
+line_named line event (is_read short blank reads) = value_named reads.value event reads.event_of
+
+pub events_named : (lines : List (List ℕ)) (events : List Event) → AreEvents lines events → AllByRecursion IsNamedEvent events
+events_named [] events h = subst (λ es. AllByRecursion IsNamedEvent es) (sym h) tt
+events_named (line ∷ lines) events (inl h) = events_named lines events h.1
+events_named (line ∷ lines) events (inr h) = subst (λ es. AllByRecursion IsNamedEvent es) (sym h.all) (line_named line h.first h.asks, events_named lines h.others h.after)
+
+-- ---- the text of an event
+
+-- it is made of whole lines
+takes_whole : (old : Seen) (event : Event) (own : List Pick) (text : List ℕ) (new : Seen) → Takes old event own text new → AreWholeLines text
+takes_whole old event own text new (accepts h e) = subst AreWholeLines (sym h.text) (read.accepted_whole (events_of old.state + 1) (matched new.walks) h.effects)
+takes_whole old event own text new (refuses why h e) = subst AreWholeLines (sym h.text) (read.refused_whole (events_of old.state + 1) why)
+
+-- it names what was picked
+pub record IsReadOff (own : List Pick) (text : List ℕ) (new : Seen) : Type 0 where
+  pub picks : picks_in text ≡ own
+  pub named : ArePortsNamed new.state.net
+
+takes_read : (old : Seen) (event : Event) (own : List Pick) (text : List ℕ) (new : Seen) → ArePortsNamed old.state.net → IsNamedEvent event → Takes old event own text new → IsReadOff own text new
+takes_read old event own text new named fine (accepts h e) =
+    let step = step_named old.state event h.effects new.state named fine h.step in
+    record { picks = ap picks_in h.text ∙ read.accepted (events_of old.state + 1) (matched new.walks) h.effects step.0 ∙ sym e; named = step.1 }
+takes_read old event own text new named fine (refuses why h e) = record {
+  picks = ap picks_in h.text ∙ read.refused (events_of old.state + 1) why (refusal_named old.state event why fine h.first) ∙ sym e;
+  named = subst (λ (w : Seen). ArePortsNamed w.state.net) (sym h.kept) named;
+}
+
+-- ---- the text of a run
+
+whole_joined : (a b : List ℕ) → AreWholeLines a → AreWholeLines b → AreWholeLines (a ++ b)
+whole_joined a b h (inl none) = subst AreWholeLines (sym (append-nil a) ∙ ap (λ x. a ++ x) (sym none)) h
+whole_joined a b h (inr some) = inr (a ++ some.0, ap (λ x. a ++ x) some.1 ∙ sym (append_assoc a some.0 (codes "\n")))
+
+pub run_whole : (old : Seen) (events : List Event) (picks : List Pick) (text : List ℕ) (last : Seen) → Runs old events picks text last → AreWholeLines text
+run_whole old [] picks text last h = inl h.1
+run_whole old (event ∷ events) picks text last h =
+    subst AreWholeLines (sym h.whole) (whole_joined h.first h.rest (takes_whole old event h.own h.first h.mid h.takes) (run_whole h.mid events h.left h.rest last h.others))
+
+run_read : (old : Seen) (events : List Event) (picks : List Pick) (text : List ℕ) (last : Seen) → ArePortsNamed old.state.net → AllByRecursion IsNamedEvent events → Runs old events picks text last → picks_in text ≡ picks
+run_read old [] picks text last named fine h = ap picks_in h.1 ∙ sym h.0
+run_read old (event ∷ events) picks text last named fine h =
+    let one = takes_read old event h.own h.first h.mid named fine.0 h.takes in
+    ap picks_in h.whole ∙ read.joined h.first h.rest (takes_whole old event h.own h.first h.mid h.takes)
+    ∙ ap (λ ps. ps ++ picks_in h.rest) one.picks
+    ∙ ap (λ ps. h.own ++ ps) (run_read h.mid events h.left h.rest last one.named fine.1 h.others)
+    ∙ sym h.picked
+
+-- what was picked is what is read off the text
+pub read_off : (lines : List (List ℕ)) (events : List Event) (picks : List Pick) (text : List ℕ) (last : Seen) → AreEvents lines events → Runs new_world events picks text last → picks_in text ≡ picks
+read_off lines events picks text last are run = run_read new_world events picks text last none_named (events_named lines events are) run

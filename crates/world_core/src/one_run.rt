@@ -1,0 +1,29 @@
+//! Events and picks have one run.
+ghost use Rattle.std.specs.Prelude.{◌≡◌, List};
+ghost use Rattle.std.specs.List.{AllByRecursion};
+ghost use Rattle.edit_reader.specs.declared.event.Event.{Event};
+ghost use Rattle.event_lines.specs.Picks.{Pick, picks_of};
+ghost use Rattle.switch_engine.specs.declared.effect.NetEffect.{NetEffect};
+ghost use Rattle.switch_engine.specs.declared.walk.Walk.{Walk};
+ghost use Rattle.world_core.specs.Admitted.{IsAdmitted};
+ghost use Rattle.world_core.specs.Outcome.{HasWalks};
+ghost use Rattle.world_core.specs.Picks.{Fate, Run};
+ghost use Rattle.world_core.specs.Seen.{IsSound, Seen};
+ghost use Rattle.world_core.specs.Sound.{IsValid};
+ghost use Rattle.world_core.specs.State.{State};
+ghost use Rattle.world_core.specs.Step.{Step};
+
+/// An event and what was picked for it determine its effects and the state after it. So events and picks determine a run:
+/// which events are refused and why, the effects of the others, and the states. In sound worlds of one state and with the
+/// same zones, an event also matches the same flows.
+pub fn one_run()
+    ensures step { (m : State) (event : Event) (effects others : List NetEffect) (after later : State)
+        → IsValid m.net → Step m event effects after → Step m event others later
+        → picks_of effects ≡ picks_of others → (effects ≡ others) × (after ≡ later) }
+    ensures run { (m : State) (events : List Event) (picks : List Pick) (fates others : List Fate) (last end : State)
+        → IsValid m.net → AllByRecursion IsAdmitted events
+        → Run m events picks fates last → Run m events picks others end → (fates ≡ others) × (last ≡ end) }
+    ensures walks { (one two : Seen) (event : Event) (effects others : List NetEffect) (walks more : List Walk)
+        → IsSound one → IsSound two → one.state ≡ two.state → one.zones ≡ two.zones
+        → HasWalks one.state one.flows event effects walks → HasWalks two.state two.flows event others more → walks ≡ more }
+{}
