@@ -1,0 +1,257 @@
+//! How added owners get keys.
+ghost use Rattle.std.specs.Prelude.{◌≡◌, ◌<◌, ◌≤◌, ◌^◌, ◌++◌, ◌∷◌, [], IfOk, OnOk, IfErr, length, cond};
+ghost use Rattle.std.specs.List.{AllByRecursion};
+ghost use Rattle.tunnel_keys.specs.ByName.{in_order};
+ghost use Rattle.tunnel_keys.specs.Same.{same_name};
+ghost use Rattle.tunnel_keys.specs.Owners.{as_datapath, as_port_of, datapaths_in, ports_in};
+ghost use Rattle.tunnel_keys.specs.Keys.{free_in, taken_datapaths, taken_ports, ports_on};
+ghost use Rattle.tunnel_keys.specs.Giving.{put_option, with_keys, datapath_key, port_key, given_datapaths, given_ports_on, given_ports, HasEnough, IsDatapathFault, IsPortFaultOn, IsPortFault, lists_of};
+
+use crate::fault::KeyFault;
+use crate::free::{free_keys, taken_by_datapaths, taken_by_ports};
+use crate::owner::{DatapathKey, HeldDatapath, HeldPort, Identity, KeyOwner, PortKey};
+use crate::retiring::put_each;
+use ovn_base::address::Birth;
+use ovn_base::list::List;
+use ovn_base::memory::NoMemory;
+use ovn_base::name::Name;
+use ovn_base::ports::Ports;
+use std::alloc::Global;
+use std::collections::BTreeMap;
+
+// The datapaths among the owners, in order of name.
+fn new_datapaths(alloc: Global, added: &[KeyOwner]) -> Result<BTreeMap<Name, Birth>, NoMemory>
+    ensures { IfOk result (λ m. m.entries ≡ in_order (datapaths_in added.now)) }
+{
+    let mut arrivals = BTreeMap::new(alloc);
+    for owner in added {
+        put_datapath(&mut arrivals, owner)?;
+    }
+    Ok(arrivals)
+}
+
+// Puts the owner among the others, if it is a datapath.
+fn put_datapath(arrivals: &mut BTreeMap<Name, Birth>, owner: &KeyOwner) -> Result<(), NoMemory>
+    ensures { OnOk result (arrivals.new.entries ≡ put_option arrivals.old.entries (as_datapath owner.now)) }
+{
+    match owner {
+        KeyOwner::Datapath { name, birth } => {
+            arrivals.insert(*name, *birth)?;
+            Ok(())
+        }
+        KeyOwner::Port { .. } => Ok(()),
+    }
+}
+
+// The ports of the datapath among the owners, in order of name.
+fn new_ports(
+    alloc: Global,
+    added: &[KeyOwner],
+    datapath: &Name,
+) -> Result<BTreeMap<Name, Birth>, NoMemory>
+    ensures { IfOk result (λ m. m.entries ≡ in_order (ports_in datapath.now added.now)) }
+{
+    let mut arrivals = BTreeMap::new(alloc);
+    for owner in added {
+        put_port(&mut arrivals, datapath, owner)?;
+    }
+    Ok(arrivals)
+}
+
+// Puts the owner among the others, if it is a port of the datapath.
+fn put_port(
+    arrivals: &mut BTreeMap<Name, Birth>,
+    on: &Name,
+    owner: &KeyOwner,
+) -> Result<(), NoMemory>
+    ensures { OnOk result (arrivals.new.entries ≡ put_option arrivals.old.entries (as_port_of on.now owner.now)) }
+{
+    match owner {
+        KeyOwner::Datapath { .. } => Ok(()),
+        KeyOwner::Port {
+            datapath,
+            name,
+            birth,
+        } => {
+            if *on == *datapath {
+                arrivals.insert(*name, *birth)?;
+                return Ok(());
+            }
+            Ok(())
+        }
+    }
+}
+
+// Each datapath with its key, as far as there are keys.
+fn datapaths_with_keys(
+    alloc: Global,
+    arrivals: &BTreeMap<Name, Birth>,
+    keys: &[u32],
+) -> Result<List<(Name, DatapathKey)>, NoMemory>
+    ensures { IfOk result (λ l. l ≡ with_keys datapath_key arrivals.now.entries keys.now) }
+{
+    let mut given = List::new(alloc);
+    let mut next = 0;
+    for (name, birth) in arrivals {
+        if next == keys.len() {
+            return Ok(given);
+        }
+        given.push((
+            *name,
+            DatapathKey {
+                birth: *birth,
+                key: keys[next],
+            },
+        ))?;
+        next += 1;
+    }
+    Ok(given)
+}
+
+// Each port with its key, as far as there are keys.
+fn ports_with_keys(
+    alloc: Global,
+    datapath: &Name,
+    arrivals: &BTreeMap<Name, Birth>,
+    keys: &[u32],
+) -> Result<List<(Name, PortKey)>, NoMemory>
+    requires { AllByRecursion (λ key. key < 2 ^ 16) keys.now }
+    ensures { IfOk result (λ l. l ≡ with_keys (port_key datapath.now) arrivals.now.entries keys.now) }
+{
+    let mut given = List::new(alloc);
+    let mut next = 0;
+    for (name, birth) in arrivals {
+        if next == keys.len() {
+            return Ok(given);
+        }
+        given.push((
+            *name,
+            PortKey {
+                birth: *birth,
+                datapath: *datapath,
+                key: keys[next] as u16,
+            },
+        ))?;
+        next += 1;
+    }
+    Ok(given)
+}
+
+// The added datapaths with their keys, each the least that is left.
+pub(crate) fn give_datapath_keys(
+    range: u32,
+    live: &BTreeMap<Name, DatapathKey>,
+    retired: &List<HeldDatapath>,
+    added: &[KeyOwner],
+) -> Result<List<(Name, DatapathKey)>, KeyFault>
+    ensures given { IfOk result (λ l. l ≡ given_datapaths range live.now.entries retired.now added.now) }
+    ensures enough { IfOk result (λ l. length (in_order (datapaths_in added.now)) ≤ length (free_in range (taken_datapaths live.now.entries retired.now))) }
+    ensures fault { IfErr result (IsDatapathFault (free_in range (taken_datapaths live.now.entries retired.now)) (in_order (datapaths_in added.now))) }
+{
+    let alloc = retired.allocator();
+    let arrivals = new_datapaths(alloc, added)?;
+    let taken = taken_by_datapaths(alloc, live, retired.as_slice())?;
+    let free = free_keys(alloc, range, taken.as_slice(), arrivals.len())?;
+    if free.len() < arrivals.len() {
+        return Err(KeyFault::NoDatapathKey);
+    }
+    let given = datapaths_with_keys(alloc, &arrivals, free.as_slice())?;
+    Ok(given)
+}
+
+// The ports added to the datapath with their keys, each the least that is left on it.
+fn give_keys_on(
+    range: u16,
+    live: &BTreeMap<Name, PortKey>,
+    retired: &List<HeldPort>,
+    added: &[KeyOwner],
+    name: &Name,
+    datapath: &DatapathKey,
+) -> Result<List<(Name, PortKey)>, KeyFault>
+    ensures given { IfOk result (λ l. l ≡ given_ports_on range live.now.entries retired.now added.now (name.now, datapath.now)) }
+    ensures enough { IfOk result (λ l. HasEnough range live.now.entries retired.now added.now (name.now, datapath.now)) }
+    ensures fault { IfErr result (IsPortFaultOn name.now (free_in range (taken_ports live.now.entries retired.now (record { name = name.now; birth = datapath.now.birth }))) (in_order (ports_in name.now added.now))) }
+{
+    let alloc = retired.allocator();
+    let on = Identity {
+        name: *name,
+        birth: datapath.birth,
+    };
+    let arrivals = new_ports(alloc, added, name)?;
+    if arrivals.is_empty() {
+        return Ok(List::new(alloc));
+    }
+    let taken = taken_by_ports(alloc, live, retired.as_slice(), &on)?;
+    let free = free_keys(alloc, range as u32, taken.as_slice(), arrivals.len())?;
+    if free.len() < arrivals.len() {
+        return Err(KeyFault::NoPortKey(*name));
+    }
+    let given = ports_with_keys(alloc, name, &arrivals, free.as_slice())?;
+    Ok(given)
+}
+
+// The added ports with their keys, on one datapath after the other, in order of name.
+pub(crate) fn give_port_keys(
+    range: u16,
+    live: &BTreeMap<Name, PortKey>,
+    retired: &List<HeldPort>,
+    added: &[KeyOwner],
+    datapaths: &BTreeMap<Name, DatapathKey>,
+) -> Result<List<(Name, PortKey)>, KeyFault>
+    ensures given { IfOk result (λ l. l ≡ given_ports range live.now.entries retired.now added.now datapaths.now.entries) }
+    ensures enough { IfOk result (λ l. AllByRecursion (HasEnough range live.now.entries retired.now added.now) datapaths.now.entries) }
+    ensures fault { IfErr result (IsPortFault range live.now.entries retired.now added.now datapaths.now.entries) }
+{
+    let mut given = List::new(retired.allocator());
+    for (name, datapath) in datapaths {
+        let more = give_keys_on(range, live, retired, added, name, datapath)?;
+        given.append(more)?;
+    }
+    Ok(given)
+}
+
+// The ports of the datapath, in order of name.
+fn ports_of(
+    alloc: Global,
+    ports: &BTreeMap<Name, PortKey>,
+    datapath: &Name,
+) -> Result<Ports, NoMemory>
+    ensures { IfOk result (λ p. p.list ≡ ports_on ports.now.entries datapath.now) }
+{
+    let mut list = List::new(alloc);
+    for (name, port) in ports {
+        push_port(&mut list, datapath, name, port)?;
+    }
+    Ok(Ports { list })
+}
+
+// Puts the port behind the others, if it is one of the datapath.
+fn push_port(
+    list: &mut List<(Name, u16)>,
+    datapath: &Name,
+    name: &Name,
+    port: &PortKey,
+) -> Result<(), NoMemory>
+    ensures { OnOk result (list.new ≡ list.old ++ cond (same_name datapath.now port.now.datapath) ((name.now, port.now.key) ∷ []) []) }
+{
+    if *datapath == port.datapath {
+        list.push((*name, port.key))?;
+        return Ok(());
+    }
+    Ok(())
+}
+
+// The ports of each datapath.
+pub(crate) fn listed_ports(
+    alloc: Global,
+    datapaths: &BTreeMap<Name, DatapathKey>,
+    ports: &BTreeMap<Name, PortKey>,
+) -> Result<BTreeMap<Name, Ports>, NoMemory>
+    ensures { IfOk result (λ m. m.entries ≡ in_order (lists_of ports.now.entries datapaths.now.entries)) }
+{
+    let mut lists = List::new(alloc);
+    for (name, _) in datapaths {
+        lists.push((*name, ports_of(alloc, ports, name)?))?;
+    }
+    put_each(BTreeMap::new(alloc), lists)
+}
