@@ -36,7 +36,7 @@ unfolding IsStrictlySortedBy
 above_behind [] n d behind s m e k = above_among n m e behind s.0 k
 above_behind (b ∷ bs) n d behind s m e k = above_behind bs n d behind s.1 m e k
 
-not_both : (a b : Name) → slice_cmp nat_cmp a b ≡ Less → slice_cmp nat_cmp b a ≢ Less
+pub not_both : (a b : Name) → slice_cmp nat_cmp a b ≡ Less → slice_cmp nat_cmp b a ≢ Less
 not_both a b h k = true≢false (ap is_lt (sym k ∙ nat_list_cmp_total.antisymm b a ∙ ap ordering_reverse h))
 
 -- all datapaths before those that are left have enough keys

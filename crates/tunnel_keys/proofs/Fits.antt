@@ -3,23 +3,25 @@ use Rattle.std.specs.Prelude.{◌≡◌, ◌≢◌, Bool, true, not, ◌&&◌, L
 use mathlib.Core.Path.{sym, ap, subst, ◌∙◌}
 use mathlib.Core.Logic.{inl, inr}
 use Rattle.std.specs.Cmp.{first_so, second_so}
-use Rattle.std.specs.List.{list_any, list_all, filter}
+use Rattle.std.specs.List.{list_any, list_all, filter, filter_map}
 use Rattle.std.proofs.lemmas.Bool.{false≢true, true≢false}
 use Rattle.std.proofs.lemmas.Option.{same_Some}
 use Rattle.ovn_base.specs.Among.{Among, here, there}
-use Rattle.ovn_base.proofs.AmongLaws.{among_cases, among_any, any_among, among_left, among_right, among_append, among_map, map_among, among_filter, filter_among}
+use Rattle.ovn_base.proofs.AmongLaws.{among_cases, among_any, any_among, among_left, among_right, among_append, among_map, map_among, among_filter, filter_among, filter_map_among}
 use Rattle.ovn_base.specs.declared.name.Name.{Name}
 use Rattle.ovn_base.specs.declared.address.Birth.{Birth}
 use Rattle.tunnel_keys.specs.Same.{same_name, same_identity, name_exact, name_own, identity_own}
 use Rattle.tunnel_keys.specs.Owners.{is_listed, IsEachOnce, as_datapath}
-use Rattle.tunnel_keys.specs.Keys.{Keys, IsKeys, datapath_owner, port_owner, held_datapath}
+use Rattle.tunnel_keys.specs.Keys.{Keys, IsKeys, datapath_owner, port_owner, held_datapath, held_port}
 use Rattle.tunnel_keys.specs.Edits.{IsEdit, IsLive, IsNew, IsThereAfter}
-use Rattle.tunnel_keys.specs.Fitting.{live_owners, owners_after, clash, are_apart, is_datapath, is_housed, is_new, fits}
+use Rattle.tunnel_keys.proofs.Fitting.{live_owners, owners_after, clash, are_apart, is_datapath, is_housed, is_new, fits}
 use Rattle.tunnel_keys.specs.declared.owner.Identity.{Identity}
 use Rattle.tunnel_keys.specs.declared.owner.HeldDatapath.{HeldDatapath}
+use Rattle.tunnel_keys.specs.declared.owner.HeldPort.{HeldPort}
 use Rattle.tunnel_keys.specs.declared.owner.KeyOwner.{KeyOwner}
 use Rattle.tunnel_keys.specs.declared.owner.KeyOwner.TheVariants.{Datapath, Port}
 use Rattle.tunnel_keys.proofs.Puts.{at_among, among_at}
+use Rattle.tunnel_keys.proofs.Held.{held_port_is}
 use Rattle.tunnel_keys.proofs.FreeKeys.{not_true}
 use Rattle.tunnel_keys.proofs.OwnerLaws.{listed_among, unlisted_not, not_unlisted}
 
@@ -106,23 +108,21 @@ module _ (keys : Keys) (hold : IsKeys keys) where
       let own : Identity = record { name = n; birth = b } in
       let live = not (list_any (λ e. same_identity (held_datapath e).owner own) keys.datapaths) in
       let old = not (list_any (λ a. same_identity a.owner own) keys.retired_datapaths) in
-      let ports = not (list_any (λ a. same_identity a.datapath own) keys.retired_ports) in
-      let two = first_so (live && old) ports h in
-      record {
-        no_key = λ a m same. elim (among_append a (map held_datapath keys.datapaths) keys.retired_datapaths m) [
-          | inl p ↦ let r = map_among held_datapath a keys.datapaths p in none_pass (λ e. same_identity (held_datapath e).owner own) keys.datapaths (first_so live old two) r.0 r.1 (same_as (held_datapath r.0).owner own (sym (ap (λ (x : HeldDatapath). x.owner) r.2) ∙ same))
-          | inr q ↦ none_pass (λ x. same_identity x.owner own) keys.retired_datapaths (second_so live old two) a q (same_as a.owner own same)
-        ];
-        no_port = λ a m same. none_pass (λ x. same_identity x.datapath own) keys.retired_ports (second_so (live && old) ports h) a m (same_as a.datapath own same);
-      }
+      λ a m same. elim (among_append a (map held_datapath keys.datapaths) keys.retired_datapaths m) [
+        | inl p ↦ let r = map_among held_datapath a keys.datapaths p in none_pass (λ e. same_identity (held_datapath e).owner own) keys.datapaths (first_so live old h) r.0 r.1 (same_as (held_datapath r.0).owner own (sym (ap (λ (x : HeldDatapath). x.owner) r.2) ∙ same))
+        | inr q ↦ none_pass (λ x. same_identity x.owner own) keys.retired_datapaths (second_so live old h) a q (same_as a.owner own same)
+      ]
   new_owner (Port d n b) h =
       let own : Identity = record { name = n; birth = b } in
       let live = not (list_any (λ e. same_identity (record { name = e.0; birth = e.1.birth }) own) keys.ports) in
       let old = not (list_any (λ a. same_identity a.owner own) keys.retired_ports) in
-      record {
-        not_live = λ e m same. none_pass (λ x. same_identity (record { name = x.0; birth = x.1.birth }) own) keys.ports (first_so live old h) e m (same_as (record { name = e.0; birth = e.1.birth }) own (sym same));
-        not_retired = λ a m same. none_pass (λ x. same_identity x.owner own) keys.retired_ports (second_so live old h) a m (same_as a.owner own same);
-      }
+      λ a m same. elim (among_append a (filter_map (held_port keys.datapaths) keys.ports) keys.retired_ports m) [
+        | inl p ↦
+            let r = filter_map_among (held_port keys.datapaths) a keys.ports p in
+            let is = held_port_is keys.datapaths r.0 a r.2 in
+            none_pass (λ x. same_identity (record { name = x.0; birth = x.1.birth }) own) keys.ports (first_so live old h) r.0 r.1 (same_as (record { name = r.0.0; birth = r.0.1.birth }) own (sym (ap (λ (x : HeldPort). x.owner) is.2) ∙ same))
+        | inr q ↦ none_pass (λ x. same_identity x.owner own) keys.retired_ports (second_so live old h) a q (same_as a.owner own same)
+      ]
 
   -- ---- the edit
 

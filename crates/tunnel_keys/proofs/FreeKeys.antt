@@ -1,9 +1,16 @@
 -- The free keys, and lists of owners side by side with keys.
-use Rattle.std.specs.Prelude.{◌≡◌, ◌≢◌, ℕ, zero, suc, ◌+◌, ◌-◌, ◌≤◌, ◌<◌, Bool, true, false, cond, not, List, [], ◌∷◌, ◌++◌, length, map, take, refl}
+use Rattle.std.specs.Prelude.{Some, ◌≡◌, ◌≢◌, ℕ, zero, suc, ◌+◌, ◌-◌, ◌≤◌, ◌<◌, Bool, true, false, cond, not, List, [], ◌∷◌, ◌++◌, length, map, take, refl}
 use mathlib.Core.Path.{sym, ap, subst, ◌∙◌}
 use mathlib.Core.Logic.{inl, inr}
 use native.Mathlib.Omega.{arith}
-use Rattle.std.proofs.lemmas.Bool.{false≢true, true≢false}
+use Rattle.std.specs.Result.{MatchResult, is_ok}
+use Rattle.std.specs.declared.result.Result.{Result}
+use Rattle.std.specs.declared.result.Result.TheVariants.{Ok, Err}
+use Rattle.std.specs.List.{slice_index_or as get_or}
+use Rattle.std.specs.List.Sorted.{IsBinarySearchResult, IsNonDecreasing, IsPermutation}
+use Rattle.std.proofs.lemmas.List.Sorted.{searched, list_any-IsPermutation}
+use Rattle.std.proofs.lemmas.Option.{slice_get-get_or, get_or_from_slice_get, slice_get_within}
+use Rattle.std.proofs.lemmas.Bool.{false≢true, true≢false, cases_lt}
 use Rattle.std.proofs.lemmas.Bool.Decides.{Decides-eqb}
 use Rattle.std.proofs.Math.Dec.{eqb as nat_eq}
 use Rattle.std.specs.List.{AllByRecursion, filter}
@@ -14,7 +21,7 @@ use Rattle.std.specs.declared.cmp.Ordering.TheVariants.{Less}
 use Rattle.std.specs.Cmp.Lexicographic.{slice_cmp}
 use Rattle.std.specs.Ordering.{nat_cmp}
 use Rattle.ovn_base.specs.Among.{Among, here, there}
-use Rattle.ovn_base.proofs.AmongLaws.{among_same, among_none, among_cases, among_append, filter_among, among_member, all_among, among_take}
+use Rattle.ovn_base.proofs.AmongLaws.{among_same, among_none, among_cases, among_append, filter_among, among_member, member_among, all_among, among_take, get_among, among_get}
 use Rattle.ovn_base.specs.declared.name.Name.{Name}
 use Rattle.ovn_base.specs.declared.address.Birth.{Birth}
 use Rattle.tunnel_keys.specs.ByName.{IsByName}
@@ -48,6 +55,9 @@ nat_own a = (Decides-eqb a a).1 refl
 pub not_true : (b : Bool) → not b ≡ true → b ≡ false
 not_true true h = absurd (false≢true h)
 not_true false h = refl
+
+irreflexive : (k : ℕ) → k < k → ⊥
+irreflexive k h = omega (arith, h)
 
 pub free_is_free : (range : ℕ) (taken : List ℕ) (k : ℕ) → Among k (free_in range taken) → IsFreeIn range taken k
 free_is_free range taken k m =
@@ -202,3 +212,31 @@ take_short (suc n) (x ∷ xs) = omega (arith, take_short n xs)
 
 pub taken_below : (range : ℕ) (taken : List ℕ) (n : ℕ) → range < 65536 → AllByRecursion (λ k. k < 65536) (take n (free_in range taken))
 taken_below range taken n h = all_among (λ k. k < 65536) (take n (free_in range taken)) (λ k m. omega (arith, h, (free_is_free range taken k (among_take n k (free_in range taken) m)).high))
+
+-- ---- a search among rising keys
+
+-- the free keys beside some are those beside the same in another order
+pub free_moved : (range : ℕ) (taken moved : List ℕ) → IsPermutation taken moved → free_in range moved ≡ free_in range taken
+free_moved range taken moved h = kept (numbers_to range)
+  where
+    kept : (ks : List ℕ) → filter (λ key. not (is_member nat_eq moved key)) ks ≡ filter (λ key. not (is_member nat_eq taken key)) ks
+    kept [] = refl
+    kept (k ∷ ks) =
+        ap (λ b. cond (not b) (k ∷ filter (λ key. not (is_member nat_eq moved key)) ks) (filter (λ key. not (is_member nat_eq moved key)) ks)) (sym (list_any-IsPermutation (λ t. nat_eq k t) taken moved h))
+        ∙ ap (λ l. cond (not (is_member nat_eq taken k)) (k ∷ l) l) (kept ks)
+
+-- a search finds the keys that are there
+pub search_finds : (taken : List ℕ) (k : ℕ) (r : Result ℕ ℕ) → IsBinarySearchResult (λ y. nat_cmp y k) taken r → IsNonDecreasing taken → is_ok r ≡ is_member nat_eq taken k
+search_finds taken k r found rising = by r (searched taken k r found (λ i j le below. rising i j 0 le below))
+  where
+    by : (r : Result ℕ ℕ) → MatchResult r (λ i. (i < length taken) × (get_or taken i 0 ≡ k)) (λ i. (i ≤ length taken) × ((j : ℕ) → j < i → get_or taken j 0 < k) × ((j : ℕ) → i ≤ j → j < length taken → k < get_or taken j 0)) → is_ok r ≡ is_member nat_eq taken k
+    by (Ok i) h = sym (among_member nat_eq nat_own k taken (get_among i k taken (slice_get-get_or taken i 0 h.0 ∙ ap (λ x. Some x) h.1)))
+    by (Err i) h = absent (is_member nat_eq taken k) refl
+      where
+        absent : (b : Bool) → is_member nat_eq taken k ≡ b → false ≡ b
+        absent false is = refl
+        absent true is =
+            let g = among_get k taken (member_among nat_eq nat_exact k taken is) in
+            let at_g = get_or_from_slice_get taken g.0 k 0 g.1 in
+            let inside = slice_get_within taken g.0 k g.1 in
+            absurd (elim (cases_lt g.0 i) [ inl less ↦ irreflexive k (subst (λ x. x < k) at_g (h.1 g.0 less)) | inr more ↦ irreflexive k (subst (λ x. k < x) at_g (h.2 g.0 more inside)) ])

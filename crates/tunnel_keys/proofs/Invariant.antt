@@ -4,7 +4,7 @@ use mathlib.Core.Path.{sym, ap, subst, ◌∙◌}
 use mathlib.Core.Logic.{inl, inr}
 use Rattle.std.specs.Option.{option_map}
 use Rattle.std.specs.List.{filter, filter_map}
-use Rattle.std.proofs.lemmas.Bool.{false≢true}
+use Rattle.std.proofs.lemmas.Bool.{true≢false}
 use Rattle.std.proofs.lemmas.Option.{none-some, same_Some}
 use Rattle.ovn_base.specs.Among.{Among}
 use Rattle.ovn_base.proofs.AmongLaws.{among_none, among_left, among_right, among_append, among_map, map_among, among_filter, filter_among, among_filter_map, filter_map_among}
@@ -25,18 +25,11 @@ use Rattle.tunnel_keys.specs.declared.owner.HeldPort.{HeldPort}
 use Rattle.tunnel_keys.specs.declared.owner.KeyOwner.{KeyOwner}
 use Rattle.tunnel_keys.specs.declared.owner.KeyOwner.TheVariants.{Datapath, Port}
 use Rattle.tunnel_keys.proofs.Puts.{at_among, among_at}
+use Rattle.tunnel_keys.proofs.Held.{found, is_found, on_datapath_key, held_port_is, is_held_port}
 use Rattle.tunnel_keys.proofs.Lists.{put_all_sorted}
 use Rattle.tunnel_keys.proofs.FreeKeys.{free_is_free, free_once, with_keys_apart}
 use Rattle.tunnel_keys.proofs.OwnerLaws.{listed_among, among_listed}
-use Rattle.tunnel_keys.proofs.Planned.{new_datapaths, new_datapaths_sorted, all_datapaths, new_ports_on, new_ports, planned, HasRoom, one_entry, stays_datapath, stays_port, between_ports_sorted, all_datapaths_sorted, new_datapath_who, datapath_cases, found_datapath, new_port_who, port_cases, new_port_on, new_port_owner}
-
-pub found : {X : Type 0} (o : Option X) → IsSome o → (x : X) × (o ≡ Some x)
-found None h = absurd (false≢true h)
-found (Some x) h = (x, refl)
-
-pub is_found : {X : Type 0} (o : Option X) (x : X) → o ≡ Some x → IsSome o
-is_found None x e = absurd (none-some x e)
-is_found (Some y) x e = refl
+use Rattle.tunnel_keys.proofs.Planned.{new_datapaths, new_datapaths_sorted, all_datapaths, new_ports_on, new_ports, planned, HasRoom, one_entry, stays_datapath, datapath_stays, datapath_kept, stays_port, between_ports_sorted, all_datapaths_sorted, new_datapath_who, datapath_cases, found_datapath, new_port_who, port_cases, new_port_on, new_port_owner}
 
 -- ---- settled keys
 
@@ -54,6 +47,7 @@ module _ (keys : Keys) where
     datapaths_in_order = k.datapaths_in_order;
     ports_in_order = k.ports_in_order;
     on_datapath = k.on_datapath;
+    on_held = λ a m. absurd (among_none a m);
     datapath_keys = λ x m. k.datapath_keys x (settled_datapath x m);
     port_keys = λ x m. k.port_keys x (settled_port x m);
     datapaths_apart = λ x y m n. k.datapaths_apart x y (settled_datapath x m) (settled_datapath y n);
@@ -65,20 +59,6 @@ module _ (keys : Keys) where
   }
 
 -- ---- after an edit
-
--- a port's key, with its datapath
-abbrev on_datapath_key : Name → PortKey → DatapathKey → HeldPort
-on_datapath_key n p d = record { owner = record { name = n; birth = p.birth }; datapath = record { name = p.datapath; birth = d.birth }; key = p.key }
-
-held_port_is : (ds : List (Name × DatapathKey)) (e : Name × PortKey) (a : HeldPort) → held_port ds e ≡ Some a → (d : DatapathKey) × (at ds e.1.datapath ≡ Some d) × (a ≡ on_datapath_key e.0 e.1 d)
-held_port_is ds e a h = by (at ds e.1.datapath) refl h
-  where
-    by : (o : Option DatapathKey) → at ds e.1.datapath ≡ o → option_map (λ d. on_datapath_key e.0 e.1 d) o ≡ Some a → (d : DatapathKey) × (at ds e.1.datapath ≡ Some d) × (a ≡ on_datapath_key e.0 e.1 d)
-    by None f g = absurd (none-some a g)
-    by (Some d) f g = (d, f, sym (same_Some (on_datapath_key e.0 e.1 d) a g))
-
-is_held_port : (ds : List (Name × DatapathKey)) (n : Name) (p : PortKey) (d : DatapathKey) → at ds p.datapath ≡ Some d → held_port ds (n, p) ≡ Some (on_datapath_key n p d)
-is_held_port ds n p d f = ap (λ o. option_map (λ (x : DatapathKey). on_datapath_key n p x) o) f
 
 -- one look-up has one answer
 one_answer : (ds : List (Name × DatapathKey)) (a b : Name) (d e : DatapathKey) → a ≡ b → at ds a ≡ Some d → at ds b ≡ Some e → d ≡ e
@@ -155,7 +135,7 @@ module _ (before : Keys) (added removed : List KeyOwner) (keys : IsKeys before) 
   new_is_free e m = free_is_free before.datapath_range (taken_datapaths (retire before removed).datapaths (retire before removed).retired_datapaths) e.1.key (new_datapath_who before added removed keys edit e m).1
 
   new_not_held : (e : Name × DatapathKey) (a : HeldDatapath) → Among e (new_datapaths (retire before removed) added) → Among a (held_datapaths before) → a.owner ≢ (held_datapath e).owner
-  new_not_held e a m h = (edit.added_new (datapath_owner e) (new_datapath_who before added removed keys edit e m).0).no_key a h
+  new_not_held e a m h = edit.added_new (datapath_owner e) (new_datapath_who before added removed keys edit e m).0 a h
 
   datapaths_apart : (a b : HeldDatapath) → HeldDatapathCase a → HeldDatapathCase b → a.key ≡ b.key → a.owner ≡ b.owner
   datapaths_apart a b (inl p) (inl q) same = keys.datapaths_apart a b p q same
@@ -288,7 +268,9 @@ module _ (before : Keys) (added removed : List KeyOwner) (keys : IsKeys before) 
         → (on_datapath_key n p d).datapath ≡ b.datapath → p.key ≡ b.key → (on_datapath_key n p d).owner ≡ b.owner
     kept_retired n p d b m f (inl r) on same = elim (datapath_cases before added removed keys edit p.datapath d f) [
       | inl k ↦ keys.ports_apart (on_datapath_key n p d) b (live_port_held n p d m (stays_datapath before added removed keys edit p.datapath d k).0) (retired_port_held b r) on same
-      | inr k ↦ absurd ((edit.added_new (Datapath p.datapath d.birth) (new_datapath_who before added removed keys edit (p.datapath, d) k).0).no_port b r (sym on))
+      | inr k ↦
+          let h = keys.on_held b r in
+          absurd (edit.added_new (Datapath p.datapath d.birth) (new_datapath_who before added removed keys edit (p.datapath, d) k).0 h.0 h.1 (h.2 ∙ sym on))
     ]
     kept_retired n p d b m f (inr r) on same =
         let names : p.datapath ≡ r.0.1.datapath = ap (λ (i : Identity). i.name) (on ∙ ap (λ (x : HeldPort). x.datapath) r.5) in
@@ -335,8 +317,7 @@ module _ (before : Keys) (added removed : List KeyOwner) (keys : IsKeys before) 
         let moved : Among (n, r.0.1) before.ports = subst (λ m. Among (m, r.0.1) before.ports) names r.2 in
         let one : r.0.1 ≡ p = one_entry before.ports keys.ports_in_order n p r.0.1 k.1 moved in
         k.2 (subst (λ (e : Name × PortKey). Among (port_owner e) removed) (λ i. (names i, one i)) r.3)
-    port_live n p a (inr k) (inl r) same = (edit.added_new (Port p.datapath n p.birth) (new_port_owner before added removed keys edit room n p k)).not_retired a r same
-    port_live n p a (inr k) (inr r) same = (edit.added_new (Port p.datapath n p.birth) (new_port_owner before added removed keys edit room n p k)).not_live r.0 r.2 (sym same ∙ ap (λ (x : HeldPort). x.owner) r.5)
+    port_live n p a (inr k) r same = edit.added_new (Port p.datapath n p.birth) (new_port_owner before added removed keys edit room n p k) a (between_port_held a r) same
 
     port_once : (a b : HeldPort) → IsLiveAfter a ⊎ RetiredPortCase a → IsLiveAfter b ⊎ RetiredPortCase b → a.owner ≡ b.owner → a ≡ b
     port_once a b (inl l) (inl k) same =
@@ -375,6 +356,33 @@ module _ (before : Keys) (added removed : List KeyOwner) (keys : IsKeys before) 
         is_found (at (all_datapaths (retire before removed) added) p.datapath) q.0 q.1
     on_datapath n p (inr k) = let r = new_port_on before added removed keys edit room n p k in is_found (at (all_datapaths (retire before removed) added) p.datapath) r.0 r.1
 
+    -- and so is, or was, that of a retired port
+
+    after_live : (e : Name × DatapathKey) → Among e (all_datapaths (retire before removed) added) → Among (held_datapath e) (held_datapaths (planned (retire before removed) added))
+    after_live e m = among_left (held_datapath e) (map held_datapath (all_datapaths (retire before removed) added)) (retire before removed).retired_datapaths (among_map held_datapath e (all_datapaths (retire before removed) added) m)
+
+    after_retired : (a : HeldDatapath) → Among a (retire before removed).retired_datapaths → Among a (held_datapaths (planned (retire before removed) added))
+    after_retired a m = among_right a (map held_datapath (all_datapaths (retire before removed) added)) (retire before removed).retired_datapaths m
+
+    stays_held : (a : HeldDatapath) → Among a (held_datapaths before) → Among a (held_datapaths (planned (retire before removed) added))
+    stays_held a m = elim (among_append a (map held_datapath before.datapaths) before.retired_datapaths m) [
+      | inl p ↦ let r = map_among held_datapath a before.datapaths p in subst (λ x. Among x (held_datapaths (planned (retire before removed) added))) (sym r.2) (by r.0 r.1 (is_listed removed (datapath_owner r.0)) refl)
+      | inr q ↦ after_retired a (among_left a before.retired_datapaths (map held_datapath (filter (λ e. is_listed removed (datapath_owner e)) before.datapaths)) q)
+    ]
+      where
+        by : (e : Name × DatapathKey) → Among e before.datapaths → (b : Bool) → is_listed removed (datapath_owner e) ≡ b → Among (held_datapath e) (held_datapaths (planned (retire before removed) added))
+        by e k true is = after_retired (held_datapath e) (among_right (held_datapath e) before.retired_datapaths (map held_datapath (filter (λ e. is_listed removed (datapath_owner e)) before.datapaths))
+            (among_map held_datapath e (filter (λ e. is_listed removed (datapath_owner e)) before.datapaths) (among_filter (λ e. is_listed removed (datapath_owner e)) e before.datapaths k is)))
+        by e k false is =
+            let stays = datapath_stays before added removed keys edit e.0 e.1 (among_at e.0 e.1 before.datapaths keys.datapaths_in_order k) (λ m. true≢false (sym (among_listed removed (datapath_owner e) m) ∙ is)) in
+            after_live e (at_among (all_datapaths (retire before removed) added) e.0 e.1 (datapath_kept before added removed keys edit e.0 e.1 stays))
+
+    on_held : (a : HeldPort) → RetiredPortCase a → (b : HeldDatapath) × Among b (held_datapaths (planned (retire before removed) added)) × (b.owner ≡ a.datapath)
+    on_held a (inl p) = let h = keys.on_held a p in (h.0, stays_held h.0 h.1, h.2)
+    on_held a (inr r) =
+        let e : Name × DatapathKey = (r.0.1.datapath, r.1) in
+        (held_datapath e, stays_held (held_datapath e) (live_held e (at_among before.datapaths r.0.1.datapath r.1 r.4)), ap (λ (x : HeldPort). x.datapath) (sym r.5))
+
     pub planned_hold : IsKeys (planned (retire before removed) added)
     planned_hold = record {
       datapath_ranges = keys.datapath_ranges;
@@ -382,6 +390,7 @@ module _ (before : Keys) (added removed : List KeyOwner) (keys : IsKeys before) 
       datapaths_in_order = all_datapaths_sorted before added removed keys edit;
       ports_in_order = put_all_sorted (retire before removed).ports (new_ports (retire before removed) added) (between_ports_sorted before added removed keys edit);
       on_datapath = λ e m. on_datapath e.0 e.1 (live_port_cases e.0 e.1 m);
+      on_held = λ a m. on_held a (retired_port_cases a m);
       datapath_keys = λ a m. datapath_range a (held_datapath_cases a m);
       port_keys = λ a m. port_range a (held_port_cases a m);
       datapaths_apart = λ a b m n same. datapaths_apart a b (held_datapath_cases a m) (held_datapath_cases b n) same;

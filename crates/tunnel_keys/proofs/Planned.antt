@@ -18,6 +18,7 @@ use Rattle.tunnel_keys.specs.declared.owner.PortKey.{PortKey}
 use Rattle.tunnel_keys.specs.declared.owner.KeyOwner.{KeyOwner}
 use Rattle.tunnel_keys.specs.declared.owner.KeyOwner.TheVariants.{Datapath, Port}
 use Rattle.tunnel_keys.proofs.Puts.{at_among, among_at}
+use Rattle.tunnel_keys.proofs.Held.{live_owner_held}
 use Rattle.tunnel_keys.proofs.Lists.{put_all_sorted, put_all_other, put_all_cases, put_all_there, in_order_sorted, in_order_among, among_in_order, in_order_length, filter_sorted, at_filter, filter_at, NamesOnce}
 use Rattle.tunnel_keys.proofs.FreeKeys.{free_is_free, with_keys_there, with_keys_cases, with_keys_sorted, with_keys_first}
 use Rattle.tunnel_keys.proofs.OwnerLaws.{unlisted_not, not_unlisted, in_datapaths, datapaths_have, datapaths_once, in_ports, ports_have, ports_once}
@@ -75,10 +76,10 @@ module _ (before : Keys) (added removed : List KeyOwner) (keys : IsKeys before) 
 
   -- a live owner is not added
   pub live_datapath_old : (n : Name) (d : DatapathKey) → at before.datapaths n ≡ Some d → ¬ Among (Datapath n d.birth) added
-  live_datapath_old n d f m = (edit.added_new (Datapath n d.birth) m).no_key (held_datapath (n, d)) (among_left (held_datapath (n, d)) (map held_datapath before.datapaths) before.retired_datapaths (among_map held_datapath (n, d) before.datapaths (at_among before.datapaths n d f))) refl
+  live_datapath_old n d f m = edit.added_new (Datapath n d.birth) m (held_datapath (n, d)) (among_left (held_datapath (n, d)) (map held_datapath before.datapaths) before.retired_datapaths (among_map held_datapath (n, d) before.datapaths (at_among before.datapaths n d f))) refl
 
   pub live_port_old : (n : Name) (p : PortKey) (d : Name) → at before.ports n ≡ Some p → ¬ Among (Port d n p.birth) added
-  live_port_old n p d f m = (edit.added_new (Port d n p.birth) m).not_live (n, p) (at_among before.ports n p f) refl
+  live_port_old n p d f m = let h = live_owner_held before keys n p (at_among before.ports n p f) in edit.added_new (Port d n p.birth) m h.0 h.1 h.2
 
   -- ---- the added datapaths
 

@@ -5,7 +5,7 @@ use Rattle.ovn_base.specs.declared.name.Name.{Name}
 use Rattle.ovn_base.specs.declared.address.Birth.{Birth}
 use Rattle.tunnel_keys.specs.ByName.{at, IsByName}
 use Rattle.tunnel_keys.specs.Owners.{IsEachOnce}
-use Rattle.tunnel_keys.specs.Keys.{Keys, retire, held_datapaths, IsLegalDatapathKey, IsLegalPortKey, free_datapath_keys, free_port_keys}
+use Rattle.tunnel_keys.specs.Keys.{Keys, retire, held_datapaths, held_ports, IsLegalDatapathKey, IsLegalPortKey, free_datapath_keys, free_port_keys}
 use Rattle.tunnel_keys.specs.declared.owner.Identity.{Identity}
 use Rattle.tunnel_keys.specs.declared.owner.DatapathKey.{DatapathKey}
 use Rattle.tunnel_keys.specs.declared.owner.PortKey.{PortKey}
@@ -21,20 +21,10 @@ abbrev pub IsLive : Keys → KeyOwner → Type 0
 IsLive keys (Datapath name birth) = (key : ℕ) × (at keys.datapaths name ≡ Some (record { birth = birth; key = key }))
 IsLive keys (Port datapath name birth) = (key : ℕ) × (at keys.ports name ≡ Some (record { birth = birth; datapath = datapath; key = key }))
 
--- no key, live or retired, is one of a datapath of this identity
-pub record IsNewDatapath (keys : Keys) (datapath : Identity) : Type 0 where
-  pub no_key : (a : HeldDatapath) → Among a (held_datapaths keys) → a.owner ≢ datapath
-  pub no_port : (a : HeldPort) → Among a keys.retired_ports → a.datapath ≢ datapath
-
--- no port of this identity has or had a key
-pub record IsNewPort (keys : Keys) (port : Identity) : Type 0 where
-  pub not_live : (e : Name × PortKey) → Among e keys.ports → port ≢ record { name = e.0; birth = e.1.birth }
-  pub not_retired : (a : HeldPort) → Among a keys.retired_ports → a.owner ≢ port
-
--- the owner's identity is neither live nor retired
+-- the owner's identity, its name and birth, is neither live nor retired
 abbrev pub IsNew : Keys → KeyOwner → Type 0
-IsNew keys (Datapath name birth) = IsNewDatapath keys (record { name = name; birth = birth })
-IsNew keys (Port datapath name birth) = IsNewPort keys (record { name = name; birth = birth })
+IsNew keys (Datapath name birth) = (a : HeldDatapath) → Among a (held_datapaths keys) → a.owner ≢ record { name = name; birth = birth }
+IsNew keys (Port datapath name birth) = (a : HeldPort) → Among a (held_ports keys) → a.owner ≢ record { name = name; birth = birth }
 
 -- the owner is there after the edit: it was there and is not removed, or it is added
 abbrev pub IsThereAfter : Keys → List KeyOwner → List KeyOwner → KeyOwner → Type 0

@@ -1,9 +1,10 @@
 -- How the program gives keys: the added owners in order of name, side by side with the free keys, the least first.
 use Rattle.std.specs.Prelude.{◌≡◌, ◌≤◌, ◌<◌, ℕ, List, [], ◌∷◌, ◌++◌, Option, Some, None, length, map}
-use Rattle.std.specs.List.{flat_map, AllByRecursion}
+use Rattle.std.specs.List.{filter, flat_map, AllByRecursion}
 use Rattle.ovn_base.specs.declared.name.Name.{Name}
 use Rattle.ovn_base.specs.declared.address.Birth.{Birth}
 use Rattle.tunnel_keys.specs.ByName.{put, in_order}
+use Rattle.tunnel_keys.specs.Same.{same_identity}
 use Rattle.tunnel_keys.specs.Owners.{datapaths_in, ports_in}
 use Rattle.ovn_base.specs.declared.ports.Ports.{Ports}
 use Rattle.tunnel_keys.specs.Keys.{free_in, taken_datapaths, taken_ports, ports_on}
@@ -11,6 +12,7 @@ use Rattle.tunnel_keys.specs.declared.fault.KeyFault.{KeyFault}
 use Rattle.tunnel_keys.specs.declared.fault.KeyFault.TheVariants.{NoDatapathKey, NoPortKey, Memory}
 use Rattle.tunnel_keys.specs.declared.owner.DatapathKey.{DatapathKey}
 use Rattle.tunnel_keys.specs.declared.owner.PortKey.{PortKey}
+use Rattle.tunnel_keys.specs.declared.owner.Identity.{Identity}
 use Rattle.tunnel_keys.specs.declared.owner.HeldDatapath.{HeldDatapath}
 use Rattle.tunnel_keys.specs.declared.owner.HeldPort.{HeldPort}
 use Rattle.tunnel_keys.specs.declared.owner.KeyOwner.{KeyOwner}
@@ -31,6 +33,10 @@ datapath_key birth key = record { birth = birth; key = key }
 
 abbrev pub port_key : Name → Birth → ℕ → PortKey
 port_key datapath birth key = record { birth = birth; datapath = datapath; key = key }
+
+-- the keys that are taken on a datapath, of the live ports there and of the retired ports that were there
+abbrev pub taken_on : List (Name × ℕ) → List HeldPort → Identity → List ℕ
+taken_on live retired datapath = map (λ p. p.1) live ++ map (λ h. h.key) (filter (λ h. same_identity datapath h.datapath) retired)
 
 -- what the added datapaths get, beside these live and retired keys
 abbrev pub given_datapaths : ℕ → List (Name × DatapathKey) → List HeldDatapath → List KeyOwner → List (Name × DatapathKey)

@@ -126,6 +126,8 @@ pub record IsKeys (keys : Keys) : Type 0 where
   pub ports_in_order : IsByName keys.ports
   -- the datapath of a live port is there
   pub on_datapath : (e : Name × PortKey) → Among e keys.ports → IsSome (at keys.datapaths e.1.datapath)
+  -- and that of a retired one has or had a key
+  pub on_held : (a : HeldPort) → Among a keys.retired_ports → (b : HeldDatapath) × Among b (held_datapaths keys) × (b.owner ≡ a.datapath)
   -- all keys are in range
   pub datapath_keys : (a : HeldDatapath) → Among a (held_datapaths keys) → (1 ≤ a.key) × (a.key ≤ keys.datapath_range)
   pub port_keys : (a : HeldPort) → Among a (held_ports keys) → (1 ≤ a.key) × (a.key ≤ keys.port_range)

@@ -1,9 +1,13 @@
 //! Which keys are taken, and which are free.
 ghost use Rattle.std.specs.Prelude.{◌≡◌, ◌++◌, IfOk, OnOk, OnErr, take, map, cond, [], ◌∷◌};
-ghost use Rattle.tunnel_keys.specs.Same.{same_name, same_identity};
-ghost use Rattle.tunnel_keys.specs.Keys.{free_in, free_one, taken_datapaths, taken_ports};
+ghost use Rattle.std.specs.List.Sorted.{IsNonDecreasing, IsPermutation};
+ghost use Rattle.std.specs.Set.{is_member};
+ghost use Rattle.std.proofs.Math.Dec.{eqb as nat_eq};
+ghost use Rattle.tunnel_keys.specs.Same.{same_identity};
+ghost use Rattle.tunnel_keys.specs.Keys.{free_in, free_one, taken_datapaths};
+ghost use Rattle.tunnel_keys.specs.Giving.{taken_on};
 
-use crate::owner::{DatapathKey, HeldDatapath, HeldPort, Identity, PortKey};
+use crate::owner::{DatapathKey, HeldDatapath, HeldPort, Identity};
 use ovn_base::list::List;
 use ovn_base::memory::NoMemory;
 use ovn_base::name::Name;
@@ -19,6 +23,31 @@ pub(crate) fn free_keys(
 ) -> Result<List<u32>, NoMemory>
     ensures { IfOk result (λ l. l ≡ take count (free_in range taken.now)) }
 {
+    let rising = in_rising_order(alloc, taken)?;
+    let found = free_beside(alloc, range, rising.as_slice(), count)?;
+    Ok(found)
+}
+
+// The keys, the least first.
+fn in_rising_order(alloc: Global, keys: &[u32]) -> Result<Vec<u32>, NoMemory>
+    ensures rising { IfOk result (λ v. IsNonDecreasing v.items) }
+    ensures same { IfOk result (λ v. IsPermutation keys.now v.items) }
+{
+    let mut rising = Vec::from_slice(alloc, keys)?;
+    rising.sort_unstable();
+    Ok(rising)
+}
+
+// The first of the keys up to the range that are not taken, at most so many. The taken keys rise.
+fn free_beside(
+    alloc: Global,
+    range: u32,
+    taken: &[u32],
+    count: usize,
+) -> Result<List<u32>, NoMemory>
+    requires { IsNonDecreasing taken.now }
+    ensures { IfOk result (λ l. l ≡ take count (free_in range taken.now)) }
+{
     let mut found: List<u32> = List::new(alloc);
     for passed in 0..range {
         if found.len() == count {
@@ -30,15 +59,24 @@ pub(crate) fn free_keys(
     Ok(found)
 }
 
-// Puts the key behind those that were found, if it is free.
+// Puts the key behind those that were found, if it is free. The taken keys rise.
 fn push_free(found: &mut List<u32>, taken: &[u32], key: u32) -> Result<(), NoMemory>
+    requires { IsNonDecreasing taken.now }
     ensures { OnOk result (found.new ≡ found.old ++ free_one taken.now key) }
 {
-    if taken.contains(&key) {
+    if is_taken(taken, key) {
         return Ok(());
     }
     found.push(key)?;
     Ok(())
+}
+
+// Whether the key is one of the rising ones.
+fn is_taken(rising: &[u32], key: u32) -> bool
+    requires { IsNonDecreasing rising.now }
+    ensures { result ≡ is_member nat_eq rising.now key }
+{
+    rising.binary_search(&key).is_ok()
 }
 
 // The keys of datapaths that are live or retired.
@@ -59,34 +97,23 @@ pub(crate) fn taken_by_datapaths(
     Ok(taken)
 }
 
-// The keys that are live or retired on the datapath.
+// The live keys, and those of the retired ones that are the datapath's.
 pub(crate) fn taken_by_ports(
     alloc: Global,
-    live: &BTreeMap<Name, PortKey>,
+    live: &[(Name, u16)],
     retired: &[HeldPort],
     datapath: &Identity,
 ) -> Result<List<u32>, NoMemory>
-    ensures { IfOk result (λ l. l ≡ taken_ports live.now.entries retired.now datapath.now) }
+    ensures { IfOk result (λ l. l ≡ taken_on live.now retired.now datapath.now) }
 {
     let mut taken = List::new(alloc);
-    for (_, port) in live {
-        push_live(&mut taken, datapath, port)?;
+    for (_, key) in live {
+        taken.push(u32::from(*key))?;
     }
     for held in retired {
         push_retired(&mut taken, datapath, held)?;
     }
     Ok(taken)
-}
-
-// Puts the live port's key behind the others, if it is one of the datapath.
-fn push_live(taken: &mut List<u32>, datapath: &Identity, port: &PortKey) -> Result<(), NoMemory>
-    ensures { OnOk result (taken.new ≡ taken.old ++ cond (same_name datapath.now.name port.now.datapath) (port.now.key ∷ []) []) }
-{
-    if datapath.name == port.datapath {
-        taken.push(u32::from(port.key))?;
-        return Ok(());
-    }
-    Ok(())
 }
 
 // Puts the retired key behind the others, if it was one of the datapath.

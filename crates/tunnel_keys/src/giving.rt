@@ -2,13 +2,13 @@
 ghost use Rattle.std.specs.Prelude.{◌≡◌, ◌<◌, ◌≤◌, ◌^◌, ◌++◌, ◌∷◌, [], IfOk, OnOk, IfErr, length, cond};
 ghost use Rattle.std.specs.List.{AllByRecursion};
 ghost use Rattle.tunnel_keys.specs.ByName.{in_order};
-ghost use Rattle.tunnel_keys.specs.Same.{same_name};
-ghost use Rattle.tunnel_keys.specs.Owners.{as_datapath, as_port_of, datapaths_in, ports_in};
-ghost use Rattle.tunnel_keys.specs.Keys.{free_in, taken_datapaths, taken_ports, ports_on};
-ghost use Rattle.tunnel_keys.specs.Giving.{put_option, with_keys, datapath_key, port_key, given_datapaths, given_ports_on, given_ports, HasEnough, IsDatapathFault, IsPortFaultOn, IsPortFault, lists_of};
+ghost use Rattle.tunnel_keys.specs.Owners.{as_datapath, datapaths_in};
+ghost use Rattle.tunnel_keys.specs.Keys.{free_in, taken_datapaths};
+ghost use Rattle.tunnel_keys.specs.Giving.{put_option, with_keys, datapath_key, port_key, taken_on, given_datapaths, given_ports, HasEnough, IsDatapathFault, IsPortFaultOn, IsPortFault, lists_of};
 
 use crate::fault::KeyFault;
 use crate::free::{free_keys, taken_by_datapaths, taken_by_ports};
+use crate::grouped::{live_by_datapath, ports_by_datapath, retired_by_datapath, under};
 use crate::owner::{DatapathKey, HeldDatapath, HeldPort, Identity, KeyOwner, PortKey};
 use crate::retiring::put_each;
 use ovn_base::address::Birth;
@@ -43,43 +43,15 @@ fn put_datapath(arrivals: &mut BTreeMap<Name, Birth>, owner: &KeyOwner) -> Resul
     }
 }
 
-// The ports of the datapath among the owners, in order of name.
-fn new_ports(
-    alloc: Global,
-    added: &[KeyOwner],
-    datapath: &Name,
-) -> Result<BTreeMap<Name, Birth>, NoMemory>
-    ensures { IfOk result (λ m. m.entries ≡ in_order (ports_in datapath.now added.now)) }
+// The owners in order of name.
+fn by_name(alloc: Global, owners: &[(Name, Birth)]) -> Result<BTreeMap<Name, Birth>, NoMemory>
+    ensures { IfOk result (λ m. m.entries ≡ in_order owners.now) }
 {
     let mut arrivals = BTreeMap::new(alloc);
-    for owner in added {
-        put_port(&mut arrivals, datapath, owner)?;
+    for (name, birth) in owners {
+        arrivals.insert(*name, *birth)?;
     }
     Ok(arrivals)
-}
-
-// Puts the owner among the others, if it is a port of the datapath.
-fn put_port(
-    arrivals: &mut BTreeMap<Name, Birth>,
-    on: &Name,
-    owner: &KeyOwner,
-) -> Result<(), NoMemory>
-    ensures { OnOk result (arrivals.new.entries ≡ put_option arrivals.old.entries (as_port_of on.now owner.now)) }
-{
-    match owner {
-        KeyOwner::Datapath { .. } => Ok(()),
-        KeyOwner::Port {
-            datapath,
-            name,
-            birth,
-        } => {
-            if *on == *datapath {
-                arrivals.insert(*name, *birth)?;
-                return Ok(());
-            }
-            Ok(())
-        }
-    }
 }
 
 // Each datapath with its key, as far as there are keys.
@@ -159,34 +131,29 @@ pub(crate) fn give_datapath_keys(
     Ok(given)
 }
 
-// The ports added to the datapath with their keys, each the least that is left on it.
+// The ports that are added to a datapath with their keys, each the least that is left beside the live and the retired ones.
 fn give_keys_on(
+    alloc: Global,
     range: u16,
-    live: &BTreeMap<Name, PortKey>,
-    retired: &List<HeldPort>,
-    added: &[KeyOwner],
-    name: &Name,
-    datapath: &DatapathKey,
+    live: &[(Name, u16)],
+    retired: &[HeldPort],
+    added: &[(Name, Birth)],
+    datapath: &Identity,
 ) -> Result<List<(Name, PortKey)>, KeyFault>
-    ensures given { IfOk result (λ l. l ≡ given_ports_on range live.now.entries retired.now added.now (name.now, datapath.now)) }
-    ensures enough { IfOk result (λ l. HasEnough range live.now.entries retired.now added.now (name.now, datapath.now)) }
-    ensures fault { IfErr result (IsPortFaultOn name.now (free_in range (taken_ports live.now.entries retired.now (record { name = name.now; birth = datapath.now.birth }))) (in_order (ports_in name.now added.now))) }
+    ensures given { IfOk result (λ l. l ≡ with_keys (port_key datapath.now.name) (in_order added.now) (free_in range (taken_on live.now retired.now datapath.now))) }
+    ensures enough { IfOk result (λ l. length (in_order added.now) ≤ length (free_in range (taken_on live.now retired.now datapath.now))) }
+    ensures fault { IfErr result (IsPortFaultOn datapath.now.name (free_in range (taken_on live.now retired.now datapath.now)) (in_order added.now)) }
 {
-    let alloc = retired.allocator();
-    let on = Identity {
-        name: *name,
-        birth: datapath.birth,
-    };
-    let arrivals = new_ports(alloc, added, name)?;
+    let arrivals = by_name(alloc, added)?;
     if arrivals.is_empty() {
         return Ok(List::new(alloc));
     }
-    let taken = taken_by_ports(alloc, live, retired.as_slice(), &on)?;
+    let taken = taken_by_ports(alloc, live, retired, datapath)?;
     let free = free_keys(alloc, range as u32, taken.as_slice(), arrivals.len())?;
     if free.len() < arrivals.len() {
-        return Err(KeyFault::NoPortKey(*name));
+        return Err(KeyFault::NoPortKey(datapath.name));
     }
-    let given = ports_with_keys(alloc, name, &arrivals, free.as_slice())?;
+    let given = ports_with_keys(alloc, &datapath.name, &arrivals, free.as_slice())?;
     Ok(given)
 }
 
@@ -202,46 +169,24 @@ pub(crate) fn give_port_keys(
     ensures enough { IfOk result (λ l. AllByRecursion (HasEnough range live.now.entries retired.now added.now) datapaths.now.entries) }
     ensures fault { IfErr result (IsPortFault range live.now.entries retired.now added.now datapaths.now.entries) }
 {
-    let mut given = List::new(retired.allocator());
+    let alloc = retired.allocator();
+    let arrivals = ports_by_datapath(alloc, added)?;
+    let staying = live_by_datapath(alloc, live)?;
+    let gone = retired_by_datapath(alloc, retired.as_slice())?;
+    let mut given = List::new(alloc);
     for (name, datapath) in datapaths {
-        let more = give_keys_on(range, live, retired, added, name, datapath)?;
+        let on = Identity {
+            name: *name,
+            birth: datapath.birth,
+        };
+        let here = under(&staying, name);
+        let more = give_keys_on(alloc, range, here, under(&gone, name), under(&arrivals, name), &on)?;
         given.append(more)?;
     }
     Ok(given)
 }
 
-// The ports of the datapath, in order of name.
-fn ports_of(
-    alloc: Global,
-    ports: &BTreeMap<Name, PortKey>,
-    datapath: &Name,
-) -> Result<Ports, NoMemory>
-    ensures { IfOk result (λ p. p.list ≡ ports_on ports.now.entries datapath.now) }
-{
-    let mut list = List::new(alloc);
-    for (name, port) in ports {
-        push_port(&mut list, datapath, name, port)?;
-    }
-    Ok(Ports { list })
-}
-
-// Puts the port behind the others, if it is one of the datapath.
-fn push_port(
-    list: &mut List<(Name, u16)>,
-    datapath: &Name,
-    name: &Name,
-    port: &PortKey,
-) -> Result<(), NoMemory>
-    ensures { OnOk result (list.new ≡ list.old ++ cond (same_name datapath.now port.now.datapath) ((name.now, port.now.key) ∷ []) []) }
-{
-    if *datapath == port.datapath {
-        list.push((*name, port.key))?;
-        return Ok(());
-    }
-    Ok(())
-}
-
-// The ports of each datapath.
+// The ports of each datapath, in order of name.
 pub(crate) fn listed_ports(
     alloc: Global,
     datapaths: &BTreeMap<Name, DatapathKey>,
@@ -249,9 +194,11 @@ pub(crate) fn listed_ports(
 ) -> Result<BTreeMap<Name, Ports>, NoMemory>
     ensures { IfOk result (λ m. m.entries ≡ in_order (lists_of ports.now.entries datapaths.now.entries)) }
 {
+    let groups = live_by_datapath(alloc, ports)?;
     let mut lists = List::new(alloc);
     for (name, _) in datapaths {
-        lists.push((*name, ports_of(alloc, ports, name)?))?;
+        let list = List::from_slice(alloc, under(&groups, name))?;
+        lists.push((*name, Ports { list }))?;
     }
     put_each(BTreeMap::new(alloc), lists)
 }

@@ -2,9 +2,10 @@
 #![tactic(auto)]
 
 pub mod fault;
-mod fitting;
 mod free;
 mod giving;
+mod grouped;
+pub mod laws;
 pub mod owner;
 mod retiring;
 pub mod store;

@@ -1,7 +1,5 @@
 //! The keys of all datapaths and ports.
-ghost use Rattle.std.specs.Prelude.{◌≡◌, ◌≤◌, ◌&&◌, IfOk, IfErr, IsTrue};
-ghost use Rattle.std.specs.List.{list_all};
-ghost use Rattle.tunnel_keys.specs.Fitting.{fits, is_new};
+ghost use Rattle.std.specs.Prelude.{◌≡◌, ◌≤◌, IfOk, IfErr};
 ghost use Rattle.std.specs.Option.{option_copied, option_map};
 ghost use Rattle.tunnel_keys.specs.ByName.{at};
 ghost use Rattle.tunnel_keys.specs.Keys.{IsKeys, no_keys, settled, ports_on};
@@ -9,12 +7,8 @@ ghost use Rattle.tunnel_keys.specs.Edits.{IsEdit, GivesKeys, GivesLeastKeys, IsP
 ghost use Rattle.tunnel_keys.specs.Causes.{IsCause, HasKeys};
 
 use crate::fault::KeyFault;
-use crate::fitting::{
-    are_apart, are_housed, are_listed, had_port, is_live_datapath, is_live_port,
-    is_retired_datapath, is_retired_port, live_owners, owners_after,
-};
 use crate::giving::{give_datapath_keys, give_port_keys, listed_ports};
-use crate::owner::{DatapathKey, HeldDatapath, HeldPort, Identity, KeyOwner, PortKey};
+use crate::owner::{DatapathKey, HeldDatapath, HeldPort, KeyOwner, PortKey};
 use crate::retiring::{
     put_each, retired_datapaths, retired_ports, staying_datapaths, staying_ports,
 };
@@ -35,11 +29,11 @@ use std::marker::Model;
 pub struct KeyStore {
     datapath_range: u32,
     port_range: u16,
-    datapaths: BTreeMap<Name, DatapathKey>,
-    ports: BTreeMap<Name, PortKey>,
+    pub(crate) datapaths: BTreeMap<Name, DatapathKey>,
+    pub(crate) ports: BTreeMap<Name, PortKey>,
     lists: BTreeMap<Name, Ports>,
-    retired_datapaths: List<HeldDatapath>,
-    retired_ports: List<HeldPort>,
+    pub(crate) retired_datapaths: List<HeldDatapath>,
+    pub(crate) retired_ports: List<HeldPort>,
 }
 
 impl Model for KeyStore {
@@ -182,68 +176,6 @@ impl KeyStore {
         })
     }
 
-    /// Whether an edit of these owners fits the keys, as [`KeyStore::plan`] asks for.
-    pub fn fits(&self, added: &[KeyOwner], removed: &[KeyOwner]) -> Result<bool, NoMemory>
-        ensures value { IfOk result (λ b. b ≡ fits self.now added.now removed.now) }
-        ensures edit { IfOk result (λ b. IsTrue b → IsEdit self.now added.now removed.now) }
-    {
-        self.keys_hold();
-        let fits = self.passes(added, removed)?;
-        Ok(fits)
-    }
-
-    // Whether the edit passes the test.
-    fn passes(&self, added: &[KeyOwner], removed: &[KeyOwner]) -> Result<bool, NoMemory>
-        ensures { IfOk result (λ b. b ≡ fits self.now added.now removed.now) }
-    {
-        let alloc = self.retired_ports.allocator();
-        let live = live_owners(alloc, &self.datapaths, &self.ports)?;
-        let all = owners_after(alloc, live.as_slice(), added, removed)?;
-        let once = are_apart(removed);
-        let listed = are_listed(live.as_slice(), removed);
-        let new = self.are_new(added);
-        let apart = are_apart(all.as_slice());
-        let housed = are_housed(all.as_slice());
-        Ok(are_all(once, listed, new, apart, housed))
-    }
-
-    // Whether no key, live or retired, is or was one of these owners.
-    fn are_new(&self, owners: &[KeyOwner]) -> bool
-        ensures { result ≡ list_all (λ o. is_new self.now o) owners.now }
-    {
-        for owner in owners {
-            if !self.is_new(owner) {
-                return false;
-            }
-        }
-        true
-    }
-
-    // Whether no key, live or retired, is or was one of the owner.
-    fn is_new(&self, owner: &KeyOwner) -> bool
-        ensures { result ≡ is_new self.now owner.now }
-    {
-        match owner {
-            KeyOwner::Datapath { name, birth } => {
-                let own = Identity {
-                    name: *name,
-                    birth: *birth,
-                };
-                !is_live_datapath(&self.datapaths, &own)
-                    && !is_retired_datapath(self.retired_datapaths.as_slice(), &own)
-                    && !had_port(self.retired_ports.as_slice(), &own)
-            }
-            KeyOwner::Port { name, birth, .. } => {
-                let own = Identity {
-                    name: *name,
-                    birth: *birth,
-                };
-                !is_live_port(&self.ports, &own)
-                    && !is_retired_port(self.retired_ports.as_slice(), &own)
-            }
-        }
-    }
-
     /// Puts the keys of a plan into force, which was made on these keys and nothing was changed since.
     pub fn apply(&mut self, plan: KeyPlan)
         requires { IsPlanFor self.old plan }
@@ -291,13 +223,6 @@ impl KeyStore {
             retired_ports,
         })
     }
-}
-
-// Whether all of these hold.
-fn are_all(once: bool, listed: bool, new: bool, apart: bool, housed: bool) -> bool
-    ensures { result ≡ once && listed && new && apart && housed }
-{
-    once && listed && new && apart && housed
 }
 
 // The same entries in memory of their own.

@@ -1,6 +1,9 @@
+mod fitting;
+
 use crate::fault::KeyFault;
 use crate::owner::KeyOwner;
 use crate::store::KeyStore;
+use fitting::fits;
 use ovn_base::address::Birth;
 use ovn_base::memory::NoMemory;
 use ovn_base::name::Name;
@@ -31,7 +34,7 @@ fn edit(
     added: &[KeyOwner],
     removed: &[KeyOwner],
 ) -> Result<Option<Result<(), KeyFault>>, NoMemory> {
-    if !keys.fits(added, removed)? {
+    if !fits(keys, added, removed)? {
         return Ok(None);
     }
     match keys.plan(added, removed) {

@@ -1,8 +1,0 @@
-use Rattle.std.proofs.Common.{◌≡◌, drop}
-use Rattle.tunnel_keys.specs.ByName.{put_all, in_order}
-use Rattle.tunnel_keys.specs.Owners.{ports_in}
-use Rattle.tunnel_keys.proofs.giving.new_ports.Given as goal
-
--- those that are left come to those that came
-abbrev pub invariant-loop-owner : goal.invariant-loop-owner
-invariant-loop-owner l = put_all l.arrivals.entries (ports_in l.datapath (drop l.owner-index l.added)) ≡ in_order (ports_in l.datapath l.added)
