@@ -17,7 +17,7 @@ done
 keys="$folder/crates/tunnel_keys"
 rm -rf "$keys/proofs/store" "$keys/proofs/tests" "$keys/proofs/laws" "$keys/src/tests" "$keys/src/tests.rt" "$keys/src/laws.rt"
 sed -i '/^pub mod laws;/d; /^#\[cfg(test)\]/d; /^mod tests;/d' "$keys/src/lib.rt"
-sed -i -e '/^impl Model for/,/^}/d' -e '/^ghost use/d' -e '/^ *\(requires\|ensures\) /d' -e '/^use std::marker::Model;/d' "$keys/src/store.rt"
+sed -i -e '/^ghost use/d' -e '/^ *\(requires\|ensures\) /d' -e '/ghost invariant/d' "$keys/src/store.rt"
 cat > "$folder/crates.txt" <<'LIST'
 ovn_base:
 tunnel_keys: ovn_base
@@ -32,7 +32,6 @@ use ovn_base::name::Name;
 use std::alloc::Global;
 use std::io;
 use std::time::Instant;
-use tunnel_keys::fault::KeyFault;
 use tunnel_keys::owner::KeyOwner;
 use tunnel_keys::store::KeyStore;
 
@@ -62,7 +61,7 @@ fn ports(
     Ok(owners)
 }
 
-// The keys once an edit is in force.
+// Plans the edit and puts it into force.
 fn edit(
     rt: HostRuntime,
     keys: &mut KeyStore,
@@ -71,16 +70,14 @@ fn edit(
     removed: &[KeyOwner],
 ) -> io::Result<()> {
     let start = Instant::now(&rt)?;
-    match keys.plan(added, removed) {
-        Ok(plan) => {
-            let planned = start.elapsed(&rt)?.as_micros();
-            keys.apply(plan);
-            let applied = start.elapsed(&rt)?.as_micros();
-            println!(rt; "  {what}: plan {planned} us, with apply {applied} us")
-        }
-        Err(KeyFault::NoPortKey(name)) => println!(rt; "  {what}: no port key of {name}"),
-        Err(_) => println!(rt; "  {what}: refused"),
-    }
+    let plan = keys.plan(added, removed).ok();
+    let planned = start.elapsed(&rt)?.as_micros();
+    let Some(plan) = plan else {
+        return println!(rt; "  {what}: refused");
+    };
+    keys.apply(plan);
+    let applied = start.elapsed(&rt)?.as_micros();
+    println!(rt; "  {what}: plan {planned} us, with apply {applied} us")
 }
 
 fn measure(rt: HostRuntime, switches: u64) -> io::Result<()> {

@@ -1,15 +1,13 @@
 -- An edit determines who has keys, and which.
-use Rattle.std.specs.Prelude.{not, ◌≡◌, ◌≢◌, ℕ, suc, ◌⊎◌, ◌↔◌, List, [], ◌∷◌, length, map, take, Option, Some, None, refl}
+use Rattle.std.specs.Prelude.{not, ◌≡◌, ◌≢◌, ℕ, suc, ◌↔◌, List, [], ◌∷◌, length, map, take, Option, Some, refl}
 use mathlib.Core.Path.{sym, ap, subst, ◌∙◌}
 use mathlib.Core.Logic.{inl, inr}
 use native.Mathlib.Omega.{arith}
-use Rattle.std.specs.List.{AllByRecursion}
 use Rattle.std.specs.List.Sorted.{IsStrictlySortedBy}
 use Rattle.std.specs.Map.{keys_of}
 use Rattle.std.specs.Cmp.Lexicographic.{slice_cmp}
 use Rattle.std.specs.Ordering.{nat_cmp}
 use Rattle.std.specs.declared.cmp.Ordering.TheVariants.{Less}
-use Rattle.std.proofs.lemmas.Option.{none-some, same_Some}
 use Rattle.ovn_base.specs.Among.{Among, here, there}
 use Rattle.ovn_base.proofs.AmongLaws.{among_none, among_cases, among_map, map_among}
 use Rattle.ovn_base.specs.declared.name.Name.{Name}
@@ -63,8 +61,8 @@ module _ {X : Type 0} where
   same_entries (e ∷ es) (f ∷ fs) s t there_too here_too =
       let same = same_first e f es fs s t (there_too e here) (here_too f here) in
       let rest = same_entries es fs (rest_sorted e es s) (rest_sorted f fs t)
-          (λ g m. behind_too e f es fs same s g m (there_too g (there m)))
-          (λ g m. behind_too f e fs es (sym same) t g m (here_too g (there m))) in
+      (λ g m. behind_too e f es fs same s g m (there_too g (there m)))
+      (λ g m. behind_too f e fs es (sym same) t g m (here_too g (there m))) in
       λ i. same i ∷ rest i
 
   -- and so are those that find the same
@@ -134,8 +132,8 @@ module _ (keys : Keys) (added removed : List KeyOwner) where
     | inl old ↦ gb.datapath_kept n d old
     | inr new ↦
         let same : la.to_datapaths.given ≡ lb.to_datapaths.given =
-            one_given datapath_key (λ x. x.birth) (λ x. x.key) (free_datapath_keys (retire keys removed)) la.to_datapaths.given lb.to_datapaths.given la.to_datapaths.order lb.to_datapaths.order (λ e m. refl) (λ e m. refl) la.to_datapaths.least lb.to_datapaths.least
-            (moved a b ga la.to_datapaths gb lb.to_datapaths) (moved b a gb lb.to_datapaths ga la.to_datapaths) in
+        one_given datapath_key (λ x. x.birth) (λ x. x.key) (free_datapath_keys (retire keys removed)) la.to_datapaths.given lb.to_datapaths.given la.to_datapaths.order lb.to_datapaths.order (λ e m. refl) (λ e m. refl) la.to_datapaths.least lb.to_datapaths.least
+        (moved a b ga la.to_datapaths gb lb.to_datapaths) (moved b a gb lb.to_datapaths ga la.to_datapaths) in
         ((lb.to_datapaths.who (n, d)).0 (subst (λ l. Among (n, d) l) same ((la.to_datapaths.who (n, d)).1 (new, f)))).1
   ]
     where
@@ -158,8 +156,8 @@ module _ (keys : Keys) (added removed : List KeyOwner) where
         let pa = la.to_ports p.datapath d here.3 in
         let pb = lb.to_ports p.datapath d (ap (λ l. at l p.datapath) (sym datapaths) ∙ here.3) in
         let same : pa.given ≡ pb.given =
-            one_given (port_key p.datapath) (λ x. x.birth) (λ x. x.key) (free_port_keys (retire keys removed) on) pa.given pb.given pa.order pb.order (λ e m. whole e.1 ((pa.who e).0 m).0) (λ e m. whole e.1 ((pb.who e).0 m).0) pa.least pb.least
-            (moved a b ga on pa gb pb) (moved b a gb on pb ga pa) in
+        one_given (port_key p.datapath) (λ x. x.birth) (λ x. x.key) (free_port_keys (retire keys removed) on) pa.given pb.given pa.order pb.order (λ e m. whole e.1 ((pa.who e).0 m).0) (λ e m. whole e.1 ((pb.who e).0 m).0) pa.least pb.least
+        (moved a b ga on pa gb pb) (moved b a gb on pb ga pa) in
         ((pb.who (n, p)).0 (subst (λ l. Among (n, p) l) same ((pa.who (n, p)).1 (refl, new, f)))).2
   ]
     where

@@ -14,7 +14,7 @@ use Rattle.tunnel_keys.specs.Same.{same_name, same_identity, name_exact, name_ow
 use Rattle.tunnel_keys.specs.Owners.{is_listed, IsEachOnce, as_datapath}
 use Rattle.tunnel_keys.specs.Keys.{Keys, IsKeys, datapath_owner, port_owner, held_datapath, held_port}
 use Rattle.tunnel_keys.specs.Edits.{IsEdit, IsLive, IsNew, IsThereAfter}
-use Rattle.tunnel_keys.proofs.Fitting.{live_owners, owners_after, clash, are_apart, is_datapath, is_housed, is_new, fits}
+use Rattle.tunnel_keys.specs.Fitting.{live_owners, owners_after, clash, are_apart, is_datapath, is_housed, is_new, fits}
 use Rattle.tunnel_keys.specs.declared.owner.Identity.{Identity}
 use Rattle.tunnel_keys.specs.declared.owner.HeldDatapath.{HeldDatapath}
 use Rattle.tunnel_keys.specs.declared.owner.HeldPort.{HeldPort}

@@ -11,6 +11,5 @@ pub mod Invariant
 pub mod Faults
 pub mod Determined
 pub mod Listed
-pub mod Fitting
 pub mod Fits
 pub mod After

@@ -8,9 +8,8 @@ use Rattle.tunnel_keys.specs.ByName.{in_order}
 use Rattle.tunnel_keys.specs.Same.{same_name, same_birth, same_identity}
 use Rattle.tunnel_keys.specs.Owners.{ports_in}
 use Rattle.tunnel_keys.specs.Keys.{ports_on, free_in, taken_ports}
-use Rattle.tunnel_keys.specs.Giving.{with_keys, port_key, taken_on, given_ports_on}
+use Rattle.tunnel_keys.specs.Giving.{with_keys, port_key, taken_on}
 use Rattle.tunnel_keys.specs.declared.owner.Identity.{Identity}
-use Rattle.tunnel_keys.specs.declared.owner.DatapathKey.{DatapathKey}
 use Rattle.tunnel_keys.specs.declared.owner.PortKey.{PortKey}
 use Rattle.tunnel_keys.specs.declared.owner.HeldPort.{HeldPort}
 use Rattle.tunnel_keys.specs.declared.owner.KeyOwner.{KeyOwner}

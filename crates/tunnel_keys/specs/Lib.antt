@@ -6,4 +6,5 @@ pub mod Owners
 pub mod Keys
 pub mod Edits
 pub mod Causes
+pub mod Fitting
 pub mod Giving

@@ -1,5 +1,5 @@
 //! Which keys are taken, and which are free.
-ghost use Rattle.std.specs.Prelude.{◌≡◌, ◌++◌, IfOk, OnOk, OnErr, take, map, cond, [], ◌∷◌};
+ghost use Rattle.std.specs.Prelude.{◌≡◌, ◌++◌, IfOk, OnOk, take, cond, [], ◌∷◌};
 ghost use Rattle.std.specs.List.Sorted.{IsNonDecreasing, IsPermutation};
 ghost use Rattle.std.specs.Set.{is_member};
 ghost use Rattle.std.proofs.Math.Dec.{eqb as nat_eq};

@@ -1,5 +1,5 @@
 //! How added owners get keys.
-ghost use Rattle.std.specs.Prelude.{◌≡◌, ◌<◌, ◌≤◌, ◌^◌, ◌++◌, ◌∷◌, [], IfOk, OnOk, IfErr, length, cond};
+ghost use Rattle.std.specs.Prelude.{◌≡◌, ◌<◌, ◌≤◌, ◌^◌, IfOk, OnOk, IfErr, length};
 ghost use Rattle.std.specs.List.{AllByRecursion};
 ghost use Rattle.tunnel_keys.specs.ByName.{in_order};
 ghost use Rattle.tunnel_keys.specs.Owners.{as_datapath, datapaths_in};
@@ -180,7 +180,9 @@ pub(crate) fn give_port_keys(
             birth: datapath.birth,
         };
         let here = under(&staying, name);
-        let more = give_keys_on(alloc, range, here, under(&gone, name), under(&arrivals, name), &on)?;
+        let left = under(&gone, name);
+        let come = under(&arrivals, name);
+        let more = give_keys_on(alloc, range, here, left, come, &on)?;
         given.append(more)?;
     }
     Ok(given)

@@ -109,15 +109,23 @@ fn retired_keys_are_not_given(rt: HostRuntime) -> Result<(), Fail> {
 #[test]
 fn late_frame_keeps_its_key(rt: HostRuntime) -> Result<(), Fail> {
     let mut keys = KeyStore::with_ranges(rt.alloc(), 16777215, 32767)?;
+    let p2 = name(b"p2")?;
     let added = [
         datapath(b"s0", 1)?,
         port(b"s0", b"p1", 2)?,
         port(b"s0", b"p2", 3)?,
     ];
-    assert_eq!(rt; edit(&mut keys, &added, &[])?, DONE);
+    assert!(rt; fits(&keys, &added, &[])?);
+    let Ok(plan) = keys.plan(&added, &[]) else {
+        return Err(Fail::from(NoMemory));
+    };
+    assert_eq!(rt; plan.after().port(&p2), Some(2));
+    assert_eq!(rt; keys.port(&p2), None);
+    keys.apply(plan);
     assert_eq!(rt; edit(&mut keys, &[], &[port(b"s0", b"p2", 3)?])?, DONE);
+    assert_eq!(rt; keys.port(&p2), None);
     assert_eq!(rt; edit(&mut keys, &[port(b"s0", b"p2", 10)?], &[])?, DONE);
-    assert_eq!(rt; keys.port(&name(b"p2")?), Some(3));
+    assert_eq!(rt; keys.port(&p2), Some(3));
     Ok(())
 }
 

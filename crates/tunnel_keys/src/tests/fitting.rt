@@ -1,13 +1,13 @@
 //! Whether an edit fits the keys. Tests ask it, so that they need no proof of the condition of a plan.
-ghost use Rattle.std.specs.Prelude.{◌≡◌, ◌++◌, ◌∷◌, [], IfOk, OnOk, IsTrue, map, not, cond};
+ghost use Rattle.std.specs.Prelude.{◌≡◌, ◌++◌, ◌∷◌, ◌&&◌, [], IfOk, OnOk, IsTrue, map, not, cond};
 ghost use Rattle.std.specs.List.{list_any, list_all, filter};
 ghost use Rattle.tunnel_keys.specs.Same.{same_identity};
 ghost use Rattle.tunnel_keys.specs.Owners.{is_listed};
 ghost use Rattle.tunnel_keys.specs.Keys.{datapath_owner, port_owner, held_datapath};
 ghost use Rattle.tunnel_keys.specs.Edits.{IsEdit};
-ghost use Rattle.tunnel_keys.proofs.Fitting.{clash, are_apart, is_datapath, is_housed, is_new, fits};
+ghost use Rattle.tunnel_keys.specs.Fitting.{clash, are_apart, is_datapath, is_housed, is_new, fits};
 
-use crate::owner::{DatapathKey, Identity, KeyOwner, PortKey, is_listed};
+use crate::owner::{DatapathKey, HeldDatapath, HeldPort, Identity, KeyOwner, PortKey, is_listed};
 use crate::store::KeyStore;
 use ovn_base::list::List;
 use ovn_base::memory::NoMemory;
@@ -35,13 +35,19 @@ fn passes(keys: &KeyStore, added: &[KeyOwner], removed: &[KeyOwner]) -> Result<b
     let alloc = keys.retired_ports.allocator();
     let live = live_owners(alloc, &keys.datapaths, &keys.ports)?;
     let all = owners_after(alloc, live.as_slice(), added, removed)?;
-    Ok(are_apart(removed)
-        && removed
-            .iter()
-            .all(|owner| is_listed(live.as_slice(), owner))
-        && added.iter().all(|owner| is_new(keys, owner))
-        && are_apart(all.as_slice())
-        && all.iter().all(|owner| is_housed(all.as_slice(), owner)))
+    let once = are_apart(removed);
+    let listed = are_listed(live.as_slice(), removed);
+    let new = are_new(keys, added);
+    let apart = are_apart(all.as_slice());
+    let housed = are_housed(all.as_slice());
+    Ok(are_all(once, listed, new, apart, housed))
+}
+
+// Whether all of these hold.
+fn are_all(once: bool, listed: bool, new: bool, apart: bool, housed: bool) -> bool
+    ensures { result ≡ once && listed && new && apart && housed }
+{
+    once && listed && new && apart && housed
 }
 
 // The owners of the live keys.
@@ -118,7 +124,12 @@ fn clash(a: &KeyOwner, b: &KeyOwner) -> bool
 fn clashes(owner: &KeyOwner, others: &[KeyOwner]) -> bool
     ensures { result ≡ list_any (clash owner.now) others.now }
 {
-    others.iter().any(|other| clash(owner, other))
+    for other in others {
+        if clash(owner, other) {
+            return true;
+        }
+    }
+    false
 }
 
 // Whether none clashes with one behind it.
@@ -127,6 +138,18 @@ fn are_apart(owners: &[KeyOwner]) -> bool
 {
     for i in 0..owners.len() {
         if clashes(&owners[i], &owners[i + 1..]) {
+            return false;
+        }
+    }
+    true
+}
+
+// Whether each of the owners is one of the others.
+fn are_listed(others: &[KeyOwner], owners: &[KeyOwner]) -> bool
+    ensures { result ≡ list_all (λ o. is_listed others.now o) owners.now }
+{
+    for owner in owners {
+        if !is_listed(others, owner) {
             return false;
         }
     }
@@ -143,44 +166,38 @@ fn is_datapath(name: &Name, owner: &KeyOwner) -> bool
     }
 }
 
+// Whether one of the owners is the datapath of that name.
+fn has_datapath(owners: &[KeyOwner], name: &Name) -> bool
+    ensures { result ≡ list_any (is_datapath name.now) owners.now }
+{
+    for owner in owners {
+        if is_datapath(name, owner) {
+            return true;
+        }
+    }
+    false
+}
+
 // Whether the owner's datapath is one of them, where it is a port.
 fn is_housed(owners: &[KeyOwner], owner: &KeyOwner) -> bool
     ensures { result ≡ is_housed owners.now owner.now }
 {
     match owner {
         KeyOwner::Datapath { .. } => true,
-        KeyOwner::Port { datapath, .. } => owners.iter().any(|other| is_datapath(datapath, other)),
+        KeyOwner::Port { datapath, .. } => has_datapath(owners, datapath),
     }
 }
 
-// Whether no key, live or retired, is or was one of the owner.
-fn is_new(keys: &KeyStore, owner: &KeyOwner) -> bool
-    ensures { result ≡ is_new keys.now owner.now }
+// Whether the datapath of each port among the owners is one of them.
+fn are_housed(owners: &[KeyOwner]) -> bool
+    ensures { result ≡ list_all (λ o. is_housed owners.now o) owners.now }
 {
-    match owner {
-        KeyOwner::Datapath { name, birth } => {
-            let own = Identity {
-                name: *name,
-                birth: *birth,
-            };
-            !is_live_datapath(&keys.datapaths, &own)
-                && !keys
-                    .retired_datapaths
-                    .iter()
-                    .any(|held| is_same(&held.owner, &own))
-        }
-        KeyOwner::Port { name, birth, .. } => {
-            let own = Identity {
-                name: *name,
-                birth: *birth,
-            };
-            !is_live_port(&keys.ports, &own)
-                && !keys
-                    .retired_ports
-                    .iter()
-                    .any(|held| is_same(&held.owner, &own))
+    for owner in owners {
+        if !is_housed(owners, owner) {
+            return false;
         }
     }
+    true
 }
 
 // Whether the two are one record.
@@ -220,4 +237,64 @@ fn is_live_port(ports: &BTreeMap<Name, PortKey>, own: &Identity) -> bool
         }
     }
     false
+}
+
+// Whether the record is a datapath with a retired key.
+fn is_retired_datapath(retired: &[HeldDatapath], own: &Identity) -> bool
+    ensures { result ≡ list_any (λ h. same_identity h.owner own.now) retired.now }
+{
+    for held in retired {
+        if is_same(&held.owner, own) {
+            return true;
+        }
+    }
+    false
+}
+
+// Whether the record is a port with a retired key.
+fn is_retired_port(retired: &[HeldPort], own: &Identity) -> bool
+    ensures { result ≡ list_any (λ h. same_identity h.owner own.now) retired.now }
+{
+    for held in retired {
+        if is_same(&held.owner, own) {
+            return true;
+        }
+    }
+    false
+}
+
+// Whether no key, live or retired, is or was one of these owners.
+fn are_new(keys: &KeyStore, owners: &[KeyOwner]) -> bool
+    ensures { result ≡ list_all (λ o. is_new keys.now o) owners.now }
+{
+    for owner in owners {
+        if !is_new(keys, owner) {
+            return false;
+        }
+    }
+    true
+}
+
+// Whether no key, live or retired, is or was one of the owner.
+fn is_new(keys: &KeyStore, owner: &KeyOwner) -> bool
+    ensures { result ≡ is_new keys.now owner.now }
+{
+    match owner {
+        KeyOwner::Datapath { name, birth } => {
+            let own = Identity {
+                name: *name,
+                birth: *birth,
+            };
+            !is_live_datapath(&keys.datapaths, &own)
+                && !is_retired_datapath(keys.retired_datapaths.as_slice(), &own)
+        }
+        KeyOwner::Port { name, birth, .. } => {
+            let own = Identity {
+                name: *name,
+                birth: *birth,
+            };
+            !is_live_port(&keys.ports, &own)
+                && !is_retired_port(keys.retired_ports.as_slice(), &own)
+        }
+    }
 }

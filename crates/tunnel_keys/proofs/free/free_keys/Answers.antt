@@ -1,5 +1,4 @@
-use Rattle.std.proofs.Common.{take, ◌∙◌, ap, subst, sym}
-use Rattle.std.specs.List.Sorted.{IsNonDecreasing}
+use Rattle.std.proofs.Common.{take, ◌∙◌, ap}
 use Rattle.tunnel_keys.specs.Keys.{free_in}
 use Rattle.tunnel_keys.proofs.FreeKeys.{free_moved}
 use Rattle.tunnel_keys.proofs.free.free_keys.Goals as goal

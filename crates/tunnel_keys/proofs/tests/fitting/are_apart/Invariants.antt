@@ -1,5 +1,5 @@
 use Rattle.std.proofs.Common.{◌≡◌, drop}
-use Rattle.tunnel_keys.proofs.Fitting.{are_apart}
+use Rattle.tunnel_keys.specs.Fitting.{are_apart}
 use Rattle.tunnel_keys.proofs.tests.fitting.are_apart.Given as goal
 
 abbrev pub invariant-loop-i : goal.invariant-loop-i
