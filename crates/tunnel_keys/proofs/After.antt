@@ -1,0 +1,92 @@
+-- What `plan` makes, step by step, is what an edit does.
+use Rattle.std.specs.Prelude.{◌≡◌, ◌≤◌, ◌<◌, not, List, ◌++◌, length, map}
+use mathlib.Core.Path.{sym, ap, subst, ◌∙◌}
+use Rattle.std.specs.List.{AllByRecursion, filter, filter_map}
+use Rattle.ovn_base.specs.declared.name.Name.{Name}
+use Rattle.tunnel_keys.specs.ByName.{put_all, in_order, IsByName}
+use Rattle.tunnel_keys.specs.Owners.{is_listed, datapaths_in}
+use Rattle.tunnel_keys.specs.Keys.{Keys, IsKeys, retire, datapath_owner, port_owner, held_datapath, held_port, free_datapath_keys}
+use Rattle.tunnel_keys.specs.Edits.{IsEdit, GivesKeys, GivesLeastKeys}
+use Rattle.tunnel_keys.specs.Causes.{IsCause, HasKeys}
+use Rattle.tunnel_keys.specs.Giving.{given_ports, HasEnough, IsDatapathFault, IsPortFault, IsFirstShort}
+use Rattle.tunnel_keys.specs.declared.fault.KeyFault.{KeyFault}
+use Rattle.tunnel_keys.specs.declared.fault.KeyFault.TheVariants.{NoDatapathKey, NoPortKey, Memory}
+use Rattle.tunnel_keys.specs.declared.owner.DatapathKey.{DatapathKey}
+use Rattle.tunnel_keys.specs.declared.owner.PortKey.{PortKey}
+use Rattle.tunnel_keys.specs.declared.owner.HeldDatapath.{HeldDatapath}
+use Rattle.tunnel_keys.specs.declared.owner.HeldPort.{HeldPort}
+use Rattle.tunnel_keys.specs.declared.owner.KeyOwner.{KeyOwner}
+use Rattle.tunnel_keys.proofs.Lists.{in_order_same}
+use Rattle.tunnel_keys.proofs.Planned.{all_datapaths, new_ports, planned, HasRoom, between_sorted, between_ports_sorted, all_datapaths_sorted, planned_gives, planned_least}
+use Rattle.tunnel_keys.proofs.Invariant.{planned_hold}
+use Rattle.tunnel_keys.proofs.Faults.{lacks_datapaths, has_datapaths, first_lacks, has_keys}
+
+-- the keys with other entries
+abbrev pub with_entries : Keys → List (Name × DatapathKey) → List (Name × PortKey) → List HeldDatapath → List HeldPort → Keys
+with_entries keys ds ps rd rp = record keys { datapaths = ds; ports = ps; retired_datapaths = rd; retired_ports = rp }
+
+-- the removed owners' keys were retired
+pub record IsRetired (before : Keys) (removed : List KeyOwner) (st : List (Name × DatapathKey)) (po : List (Name × PortKey)) (rd : List HeldDatapath) (rp : List HeldPort) : Type 0 where
+  pub staying : st ≡ in_order (filter (λ e. not (is_listed removed (datapath_owner e))) before.datapaths)
+  pub staying_ports : po ≡ in_order (filter (λ e. not (is_listed removed (port_owner e))) before.ports)
+  pub retired : rd ≡ before.retired_datapaths ++ map held_datapath (filter (λ e. is_listed removed (datapath_owner e)) before.datapaths)
+  pub retired_ports : rp ≡ before.retired_ports ++ filter_map (held_port before.datapaths) (filter (λ e. is_listed removed (port_owner e)) before.ports)
+
+module _ (before : Keys) (added removed : List KeyOwner) (keys : IsKeys before) (edit : IsEdit before added removed)
+    (st : List (Name × DatapathKey)) (po : List (Name × PortKey)) (rd : List HeldDatapath) (rp : List HeldPort) (r : IsRetired before removed st po rd rp) where
+  between_is : with_entries before st po rd rp ≡ retire before removed
+  between_is =
+      let a = r.staying ∙ in_order_same (filter (λ e. not (is_listed removed (datapath_owner e))) before.datapaths) (between_sorted before added removed keys edit) in
+      let b = r.staying_ports ∙ in_order_same (filter (λ e. not (is_listed removed (port_owner e))) before.ports) (between_ports_sorted before added removed keys edit) in
+      λ i. with_entries before (a i) (b i) (r.retired i) (r.retired_ports i)
+
+  pub datapath_cause : (e : KeyFault) → IsDatapathFault (free_datapath_keys (with_entries before st po rd rp)) (in_order (datapaths_in added)) e → IsCause before added removed e
+  datapath_cause NoDatapathKey h = lacks_datapaths before added removed keys edit (subst (λ k. length (free_datapath_keys k) < length (in_order (datapaths_in added))) between_is h)
+  datapath_cause (NoPortKey d) h = absurd h
+  datapath_cause Memory h = tt
+
+  module _ (few : length (in_order (datapaths_in added)) ≤ length (free_datapath_keys (with_entries before st po rd rp))) (ds : List (Name × DatapathKey)) (made : ds ≡ all_datapaths (with_entries before st po rd rp) added) where
+    enough : length (in_order (datapaths_in added)) ≤ length (free_datapath_keys (retire before removed))
+    enough = subst (λ k. length (in_order (datapaths_in added)) ≤ length (free_datapath_keys k)) between_is few
+
+    datapaths_are : ds ≡ all_datapaths (retire before removed) added
+    datapaths_are = made ∙ ap (λ k. all_datapaths k added) between_is
+
+    pub port_cause : (e : KeyFault) → IsPortFault before.port_range po rp added ds e → IsCause before added removed e
+    port_cause NoDatapathKey h = absurd h
+    port_cause (NoPortKey d) h = (
+      has_datapaths before added removed keys edit enough,
+      first_lacks before added removed keys edit enough d (subst (λ (k : Keys). IsFirstShort k.port_range k.ports k.retired_ports added (all_datapaths (retire before removed) added) d) between_is (subst (λ l. IsFirstShort before.port_range po rp added l d) datapaths_are h)),
+    )
+    port_cause Memory h = tt
+
+    pub datapaths_sorted : IsByName ds
+    datapaths_sorted = subst IsByName (sym datapaths_are) (all_datapaths_sorted before added removed keys edit)
+
+    module _ (all : AllByRecursion (HasEnough before.port_range po rp added) ds) (ps : List (Name × PortKey)) (last : ps ≡ put_all po (given_ports before.port_range po rp added ds)) where
+      room : HasRoom (retire before removed) added
+      room = record {
+        for_datapaths = enough;
+        for_ports = subst (λ (k : Keys). AllByRecursion (HasEnough k.port_range k.ports k.retired_ports added) (all_datapaths (retire before removed) added)) between_is (subst (λ l. AllByRecursion (HasEnough before.port_range po rp added) l) datapaths_are all);
+      }
+
+      ports_are : ps ≡ put_all (retire before removed).ports (new_ports (retire before removed) added)
+      ports_are =
+          last
+          ∙ ap (λ l. put_all po (given_ports before.port_range po rp added l)) datapaths_are
+          ∙ ap (λ (k : Keys). put_all k.ports (given_ports k.port_range k.ports k.retired_ports added (all_datapaths (retire before removed) added))) between_is
+
+      after_is : with_entries before ds ps rd rp ≡ planned (retire before removed) added
+      after_is = λ i. with_entries before (datapaths_are i) (ports_are i) (r.retired i) (r.retired_ports i)
+
+      pub made_hold : IsKeys (with_entries before ds ps rd rp)
+      made_hold = subst IsKeys (sym after_is) (planned_hold before added removed keys edit room)
+
+      pub made_gives : GivesKeys before added removed (with_entries before ds ps rd rp)
+      made_gives = subst (λ k. GivesKeys before added removed k) (sym after_is) (planned_gives before added removed keys edit room)
+
+      pub made_least : GivesLeastKeys before added removed (with_entries before ds ps rd rp)
+      made_least = subst (λ k. GivesLeastKeys before added removed k) (sym after_is) (planned_least before added removed keys edit room)
+
+      pub made_has : HasKeys before added removed
+      made_has = has_keys before added removed keys edit room

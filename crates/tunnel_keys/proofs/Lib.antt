@@ -1,0 +1,15 @@
+-- Lemmas.
+pub mod Puts
+pub mod Lists
+pub mod UnderLaws
+pub mod FreeKeys
+pub mod Taken
+pub mod OwnerLaws
+pub mod Held
+pub mod Planned
+pub mod Invariant
+pub mod Faults
+pub mod Determined
+pub mod Listed
+pub mod Fits
+pub mod After

@@ -1,0 +1,5 @@
+use Rattle.tunnel_keys.proofs.Determined.{live_after}
+use Rattle.tunnel_keys.proofs.laws.owners_after.Goals as goal
+
+pub returns : goal.returns
+returns c = λ keys added removed after. live_after keys added removed after

@@ -1,0 +1,9 @@
+-- Values by the name that they go under.
+use Rattle.std.specs.Prelude.{List, []}
+use Rattle.std.specs.Option.{unwrap_or}
+use Rattle.ovn_base.specs.declared.name.Name.{Name}
+use Rattle.tunnel_keys.specs.ByName.{at}
+
+-- the values under the name, in order
+abbrev pub under : {X : Type 0} → List (Name × List X) → Name → List X
+under groups name = unwrap_or (at groups name) []

@@ -1,0 +1,10 @@
+-- Definitions that contracts cite.
+pub mod ByName
+pub mod Grouped
+pub mod Same
+pub mod Owners
+pub mod Keys
+pub mod Edits
+pub mod Causes
+pub mod Fitting
+pub mod Giving

@@ -1,0 +1,36 @@
+-- Lists of owners.
+use Rattle.std.specs.Prelude.{Bool, List, [], ◌∷◌, Option, Some, None, cond}
+use Rattle.std.specs.List.{list_any, filter_map}
+use Rattle.ovn_base.specs.Among.{Among}
+use Rattle.ovn_base.specs.declared.name.Name.{Name}
+use Rattle.ovn_base.specs.declared.address.Birth.{Birth}
+use Rattle.tunnel_keys.specs.Same.{same_name, same_owner}
+use Rattle.tunnel_keys.specs.declared.owner.KeyOwner.{KeyOwner}
+use Rattle.tunnel_keys.specs.declared.owner.KeyOwner.TheVariants.{Datapath, Port}
+
+-- the owner is one of them
+abbrev pub is_listed : List KeyOwner → KeyOwner → Bool
+is_listed owners owner = list_any (λ o. same_owner o owner) owners
+
+-- each stands once
+abbrev pub IsEachOnce : {X : Type 0} → List X → Type 0
+IsEachOnce [] = Unit {0}
+IsEachOnce (x ∷ xs) = (¬ Among x xs) × IsEachOnce xs
+
+-- the owner's name and birth, where it is a datapath
+abbrev pub as_datapath : KeyOwner → Option (Name × Birth)
+as_datapath (Datapath name birth) = Some (name, birth)
+as_datapath (Port datapath name birth) = None
+
+-- the owner's name and birth, where it is a port of the datapath
+abbrev pub as_port_of : Name → KeyOwner → Option (Name × Birth)
+as_port_of d (Datapath name birth) = None
+as_port_of d (Port datapath name birth) = cond (same_name d datapath) (Some (name, birth)) None
+
+-- the datapaths among the owners
+abbrev pub datapaths_in : List KeyOwner → List (Name × Birth)
+datapaths_in owners = filter_map as_datapath owners
+
+-- the ports of the datapath among the owners
+abbrev pub ports_in : Name → List KeyOwner → List (Name × Birth)
+ports_in d owners = filter_map (as_port_of d) owners
