@@ -147,7 +147,7 @@ one_local f r i = by_token (one_by f r) i (one_each f r i)
 
 -- ---- lists of values
 
-bind_same : {A B : Type 0} (r : Read A) (g h : A × Input → Read B) → ((x : A × Input) → r ≡ Ok x → g x ≡ h x) → (r >>= g) ≡ (r >>= h)
+pub bind_same : {A B : Type 0} (r : Read A) (g h : A × Input → Read B) → ((x : A × Input) → r ≡ Ok x → g x ≡ h x) → (r >>= g) ≡ (r >>= h)
 bind_same (Ok x) g h e = e x refl
 bind_same (Err f) g h e = refl
 
