@@ -72,9 +72,9 @@ module _ {A B : Type 0} (read : Input → Read A) (go : A → Input → Read B) 
     tokens = plus h.tokens g.tokens;
     there = g.there ∙ ap (after g.tokens) h.there ∙ sym (after_plus h.tokens g.tokens i);
     same = λ k e.
-      let first = h.same k (agree_less h.tokens g.tokens i k e) in
-      let moved = subst (λ (l : Input). Agree g.tokens l (after h.tokens k)) (sym h.there) (agree_rest h.tokens g.tokens i k e) in
-      ap (λ (r : Read A). r >>= λ x. go x.0 x.1) first ∙ g.same (after h.tokens k) moved ∙ ap (λ (l : Input). Ok (y.0, l)) (sym (after_plus h.tokens g.tokens k));
+        let first = h.same k (agree_less h.tokens g.tokens i k e) in
+        let moved = subst (λ (l : Input). Agree g.tokens l (after h.tokens k)) (sym h.there) (agree_rest h.tokens g.tokens i k e) in
+        ap (λ (r : Read A). r >>= λ x. go x.0 x.1) first ∙ g.same (after h.tokens k) moved ∙ ap (λ (l : Input). Ok (y.0, l)) (sym (after_plus h.tokens g.tokens k));
   }
   after_stop a j h (Err f) g = record {
     before = plus h.tokens g.before;
@@ -82,17 +82,20 @@ module _ {A B : Type 0} (read : Input → Read A) (go : A → Input → Read B) 
     behind = g.behind;
     shown = subst (ShownAt g.behind) (ap (after g.before) h.there ∙ sym (after_plus h.tokens g.before i)) g.shown;
     same = λ k e.
-      let whole = subst (λ (n : ℕ). Agree n i k) (plus_assoc h.tokens g.before g.behind) e in
-      let first = h.same k (agree_less h.tokens (plus g.before g.behind) i k whole) in
-      let moved = subst (λ (l : Input). Agree (plus g.before g.behind) l (after h.tokens k)) (sym h.there) (agree_rest h.tokens (plus g.before g.behind) i k whole) in
-      let second = g.same (after h.tokens k) moved in
-      (second.0, ap (λ (r : Read A). r >>= λ x. go x.0 x.1) first ∙ second.1);
+        let whole = subst (λ (n : ℕ). Agree n i k) (plus_assoc h.tokens g.before g.behind) e in
+        let first = h.same k (agree_less h.tokens (plus g.before g.behind) i k whole) in
+        let moved = subst (λ (l : Input). Agree (plus g.before g.behind) l (after h.tokens k)) (sym h.there) (agree_rest h.tokens (plus g.before g.behind) i k whole) in
+        let second = g.same (after h.tokens k) moved in
+        (second.0, ap (λ (r : Read A). r >>= λ x. go x.0 x.1) first ∙ second.1);
   }
 
   bind_at : (r : Read A) → LocalAt read i r → ((a : A) (j : Input) → r ≡ Ok (a, j) → LocalAt (go a) j (go a j)) → LocalAt both i (r >>= λ x. go x.0 x.1)
   bind_at (Ok x) h g = after_stop x.0 x.1 h (go x.0 x.1) (g x.0 x.1 refl)
   bind_at (Err f) h g = record {
-    before = h.before; there = h.there; behind = h.behind; shown = h.shown;
+    before = h.before;
+    there = h.there;
+    behind = h.behind;
+    shown = h.shown;
     same = λ k e. let first = h.same k e in (first.0, ap (λ (r : Read A). r >>= λ x. go x.0 x.1) first.1);
   }
 
@@ -106,7 +109,10 @@ bind read go i h g = bind_at read go i (read i) h g
 by_token_at : {A : Type 0} (by : Token → Input → Read A) (i : Input) (r : Read A) → LocalAt (by (token i)) i r → LocalAt (λ k. by (token k) k) i r
 by_token_at by i (Ok x) h = record { tokens = h.tokens; there = h.there; same = λ k e. ap (λ (c : Token). by c k) (sym (agree_head h.tokens i k e).0) ∙ h.same k e }
 by_token_at by i (Err f) h = record {
-  before = h.before; there = h.there; behind = h.behind; shown = h.shown;
+  before = h.before;
+  there = h.there;
+  behind = h.behind;
+  shown = h.shown;
   same = λ k e. let g = h.same k e in (g.0, ap (λ (c : Token). by c k) (sym (agree_head (plus h.before h.behind) i k e).0) ∙ g.1);
 }
 

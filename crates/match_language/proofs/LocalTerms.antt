@@ -76,7 +76,7 @@ module _ (way : Direction) (n : ℕ) (local : (i : Input) → LocalAt (term way 
       let others = bind_same (term way n (next i)) (behind_term m xs) (behind_term l xs) (λ x e.
       let less = term_shorter way n x.0 (next i) x.1 (term_found way n (next i) x e) in
       ap (λ (r : Read (List Expr)). cond (is_operator is_and (token x.1)) r (cond (is_operator (not is_and) (token x.1)) (Err (fault.MixedAndOr x.1.place)) (Ok (xs ++ x.0 ∷ [], x.1))))
-        (fuel m l (xs ++ x.0 ∷ []) x.1 (omega (arith, less, shorter, a)) (omega (arith, less, shorter, b)))) in
+      (fuel m l (xs ++ x.0 ∷ []) x.1 (omega (arith, less, shorter, a)) (omega (arith, less, shorter, b)))) in
       more_suc m xs i ∙ others ∙ sym (more_suc l xs i)
 
   abbrev terms_from : List Expr → Input → Read (List Expr)
@@ -95,7 +95,7 @@ module _ (way : Direction) (n : ℕ) (local : (i : Input) → LocalAt (term way 
       let others = bind_same (term way n (next i)) (behind_term (left i) xs) (λ x. behind_one xs x.0 (token x.1) x.1) (λ x e.
       let less = term_shorter way n x.0 (next i) x.1 (term_found way n (next i) x e) in
       ap (λ (r : Read (List Expr)). cond (is_operator is_and (token x.1)) r (cond (is_operator (not is_and) (token x.1)) (Err (fault.MixedAndOr x.1.place)) (Ok (xs ++ x.0 ∷ [], x.1))))
-        (fuel (left i) (left x.1) (xs ++ x.0 ∷ []) x.1 (omega (arith, less, shorter)) (omega arith))) in
+      (fuel (left i) (left x.1) (xs ++ x.0 ∷ []) x.1 (omega (arith, less, shorter)) (omega arith))) in
       fuel (left i) (suc (left i)) xs i (omega arith) (omega arith) ∙ more_suc (left i) xs i ∙ others
 
   one_behind : (xs : List Expr) (x : Expr) (j : Input) → LocalAt (terms_from (xs ++ x ∷ [])) j (terms_from (xs ++ x ∷ []) j) → LocalAt (λ k. behind_one xs x (token k) k) j (behind_one xs x (token j) j)
@@ -208,8 +208,8 @@ dead_by way text f (Err d) h e =
       behind = h.behind;
       shown = h.shown;
       dead = λ other x agree spells.
-        let fails = h.same (skip 0 other) agree in
-        never fails.0 x (sym (ap value_of fails.1) ∙ sym (whole_value way other) ∙ whole_only way other x spells);
+          let fails = h.same (skip 0 other) agree in
+          never fails.0 x (sym (ap value_of fails.1) ∙ sym (whole_value way other) ∙ whole_only way other x spells);
     }
 
 -- no text goes on with the token that shows the fault

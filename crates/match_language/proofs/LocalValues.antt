@@ -60,8 +60,8 @@ mask_same : (f : Field) (r : Rel) (k : Token) (n place : ℕ) (m : Token) (j : I
 mask_same f r k n place m j =
     cond_through (λ (x : Mask). read_as n place x m j) (is_constant_token m) (cond (is_equality r) (under_out n (mask_of f k m)) misplaced) wrong
     ∙ ap (λ (x : Read Value). cond (is_constant_token m) x (Err (unexpected m j.place)))
-      (cond_through (λ (x : Mask). read_as n place x m j) (is_equality r) (under_out n (mask_of f k m)) misplaced
-      ∙ ap (λ (x : Read Value). cond (is_equality r) x (Err (fault.BadConstant j.place))) (under_same n place (mask_of f k m) m j))
+    (cond_through (λ (x : Mask). read_as n place x m j) (is_equality r) (under_out n (mask_of f k m)) misplaced
+    ∙ ap (λ (x : Read Value). cond (is_equality r) x (Err (fault.BadConstant j.place))) (under_same n place (mask_of f k m) m j))
 
 -- a constant, a slash and what the next token is
 abbrev masked_read : Field → Rel → Token → ℕ → Input → Read Value
@@ -88,15 +88,24 @@ masked_same f r k n i l o slash e second third =
 masked_local : (f : Field) (r : Rel) (k : Token) (n : ℕ) (i : Input) → token (next i) ≡ t.Slash → (o : Mask) → mask_out f r k n (token (next (next i))) ≡ o
     → LocalAt (constant_read f r k n) i (read_as n i.place o (token (next (next i))) (next (next i)))
 masked_local f r k n i slash wrong e = record {
-  before = 2; there = wrong_place (token (next (next i))) (next (next i)).place; behind = 0; shown = itself (next (next i));
+  before = 2;
+  there = wrong_place (token (next (next i))) (next (next i)).place;
+  behind = 0;
+  shown = itself (next (next i));
   same = λ l h. (unexpected (token (next (next l))) (next (next l)).place, masked_same f r k n i l wrong slash e h.1.0.0 h.1.1.0);
 }
 masked_local f r k n i slash misplaced e = record {
-  before = 2; there = refl; behind = 0; shown = itself (next (next i));
+  before = 2;
+  there = refl;
+  behind = 0;
+  shown = itself (next (next i));
   same = λ l h. (fault.BadConstant (next (next l)).place, masked_same f r k n i l misplaced slash e h.1.0.0 h.1.1.0);
 }
 masked_local f r k n i slash outside e = record {
-  before = 0; there = refl; behind = 2; shown = mask_behind i slash;
+  before = 0;
+  there = refl;
+  behind = 2;
+  shown = mask_behind i slash;
   same = λ l h. (fault.BadConstant l.place, masked_same f r k n i l outside slash e h.1.0.0 h.1.1.0);
 }
 masked_local f r k n i slash (inside m) e = record { tokens = 3; there = refl; same = λ l h. masked_same f r k n i l (inside m) slash e h.1.0.0 h.1.1.0.0 }
@@ -108,7 +117,8 @@ constant_local f r k n i t.Slash at =
     let made = masked_local f r k n i at (mask_out f r k n (token (next (next i)))) refl in
     subst (LocalAt (constant_read f r k n) i) (sym (constant_slash f r k n i at) ∙ ap (λ (c : Token). after_constant f r k n i.place c (next i)) at) made
 constant_local f r k n i other at = record {
-  tokens = 1; there = refl;
+  tokens = 1;
+  there = refl;
   same = λ l h. ap (λ (c : Token). after_constant f r k n l.place c (next l)) (sym h.1.0 ∙ at);
 }
 
