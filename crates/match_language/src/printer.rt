@@ -1,5 +1,5 @@
 //! Writes an expression as a text.
-ghost use Rattle.std.specs.Prelude.{◌≡◌, ◌++◌, ℕ, List, map, codes, OnOk};
+ghost use Rattle.std.specs.Prelude.{◌≡◌, ◌++◌, ℕ, List, map, codes, OnOk, OnErr};
 ghost use Rattle.ovn_base.specs.Address.{mac_of};
 ghost use Rattle.match_language.specs.Grammar.{Spells};
 ghost use Rattle.match_language.specs.Nesting.{Fits};
@@ -219,13 +219,17 @@ fn push_expr(expr: &Expr, out: &mut Vec<u8>) -> Result<(), NoMemory>
     }
 }
 
-/// Writes the expression behind what `out` has. Where memory is wanting a part of it may stand there.
+/// Writes the expression behind what `out` has. Where memory is wanting nothing is written.
 pub fn print(expr: &Expr, out: &mut Vec<u8>) -> Result<(), NoMemory>
     ensures text { OnOk result (out.new.items ≡ out.old.items ++ spelling expr.now) }
+    ensures unchanged { OnErr result (out.new.items ≡ out.old.items) }
     // What some text spells is spelled by its own text.
     ensures again { (way : Direction) (text : List ℕ) → Spells way text expr.now → Spells way (spelling expr.now) expr.now }
     // So is what was built, if its values stand with their fields and it nests no deeper than a text may.
     ensures built { (way : Direction) → Fits way 64 expr.now → Spells way (spelling expr.now) expr.now }
 {
-    push_expr(expr, out)
+    let mut text = Vec::new(*out.allocator());
+    push_expr(expr, &mut text)?;
+    out.extend_from_slice(text.as_slice())?;
+    Ok(())
 }
