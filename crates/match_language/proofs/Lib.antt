@@ -1,0 +1,23 @@
+-- Lemmas.
+pub mod Decimals
+pub mod Names
+pub mod Turns
+pub mod Spelled
+pub mod Steps
+pub mod FoundValues
+pub mod Found
+pub mod Shorter
+pub mod OnlyValues
+pub mod Only
+pub mod Prefixes
+pub mod TokenLaws
+pub mod Nested
+pub mod Begins
+pub mod Written
+pub mod AgainValues
+pub mod Again
+pub mod Hexes
+pub mod Named
+pub mod Local
+pub mod LocalValues
+pub mod LocalTerms

@@ -1,0 +1,14 @@
+//! The match language of rules and flows: texts as expressions, and expressions as texts.
+#![tactic(auto)]
+
+mod constant;
+mod cursor;
+pub mod expr;
+pub mod fault;
+pub mod field;
+pub mod printer;
+pub mod reader;
+#[cfg(test)]
+mod tests;
+mod token;
+mod value;

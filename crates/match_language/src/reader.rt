@@ -1,0 +1,223 @@
+//! Reads a text as an expression, by recursive descent: one level for each negation and each pair of parentheses.
+ghost use Rattle.std.specs.Prelude.{◌≡◌, ℕ, List, Ok, IfOk};
+ghost use Rattle.match_language.specs.Grammar.{Spells};
+ghost use Rattle.match_language.specs.Nesting.{Fits};
+ghost use Rattle.match_language.specs.Faults.{place_of};
+ghost use Rattle.match_language.specs.Places.{IsDead, IfBad};
+ghost use Rattle.match_language.specs.Reading as spec;
+ghost use Rattle.match_language.specs.Reading.{Reads};
+
+use crate::cursor::Cursor;
+use crate::expr::Expr;
+use crate::fault::{MatchFault, ParseFault};
+use crate::field::Direction;
+use crate::token::Token;
+use crate::value::{comparison, unexpected};
+use ovn_base::boxed::Boxed;
+use ovn_base::list::List;
+use std::alloc::Global;
+
+const MAX_LEVELS: u8 = 64;
+
+// A term that holds no other.
+#[tactic(auto, unfolding(crate::specs::Reading::leaf))]
+fn leaf(alloc: Global, cursor: &mut Cursor<'_>, way: Direction) -> Result<Expr, ParseFault>
+    ensures { Reads (spec.leaf way cursor.old) result cursor.new }
+{
+    match cursor.peek() {
+        Token::Bit(truth) => {
+            cursor.advance();
+            Ok(Expr::Const(truth))
+        }
+        Token::Predicate(predicate) => {
+            cursor.advance();
+            Ok(Expr::Is(predicate))
+        }
+        Token::Field(field) => {
+            if !field.stands(way) {
+                return Err(ParseFault::Bad(MatchFault::UnknownField(cursor.place())));
+            }
+            cursor.advance();
+            comparison(alloc, cursor, field)
+        }
+        Token::Unknown => Err(ParseFault::Bad(MatchFault::UnknownField(cursor.place()))),
+        other => Err(ParseFault::Bad(unexpected(&other, cursor.place()))),
+    }
+}
+
+fn is_operator(is_and: bool, token: Token) -> bool
+    ensures { result ≡ spec.is_operator is_and token }
+{
+    match (is_and, token) {
+        (true, Token::And) => true,
+        (false, Token::Or) => true,
+        _ => false,
+    }
+}
+
+// The terms that an operator joins, of which the first was read.
+#[cycle(reader)]
+#[tactic(auto, unfolding(crate::specs::Reading::joined, crate::specs::Reading::more))]
+fn joined(
+    alloc: Global,
+    cursor: &mut Cursor<'_>,
+    way: Direction,
+    levels: u8,
+    is_and: bool,
+    first: Expr,
+) -> Result<List<Expr>, ParseFault>
+    ensures { Reads (spec.joined (spec.term way levels) is_and first cursor.old) result cursor.new }
+{
+    let mut terms = List::new(alloc);
+    terms.push(first)?;
+    for turn in 0..cursor.left() {
+        cursor.advance();
+        terms.push(term(alloc, cursor, way, levels)?)?;
+        let token = cursor.peek();
+        if !is_operator(is_and, token) {
+            if is_operator(!is_and, token) {
+                return Err(ParseFault::Bad(MatchFault::MixedAndOr(cursor.place())));
+            }
+            return Ok(terms);
+        }
+    }
+    Err(ParseFault::Bad(MatchFault::Syntax(cursor.place())))
+}
+
+// A term, or terms that one operator joins.
+#[cycle(reader)]
+#[tactic(auto, unfolding(crate::specs::Reading::expression))]
+fn expression(
+    alloc: Global,
+    cursor: &mut Cursor<'_>,
+    way: Direction,
+    levels: u8,
+) -> Result<Expr, ParseFault>
+    ensures { Reads (spec.expression (spec.term way levels) cursor.old) result cursor.new }
+{
+    let first = term(alloc, cursor, way, levels)?;
+    match cursor.peek() {
+        Token::And => Ok(Expr::All(joined(alloc, cursor, way, levels, true, first)?)),
+        Token::Or => Ok(Expr::Any(joined(alloc, cursor, way, levels, false, first)?)),
+        _ => Ok(first),
+    }
+}
+
+// An expression in parentheses.
+#[cycle(reader)]
+#[tactic(auto, unfolding(crate::specs::Reading::group))]
+fn group(
+    alloc: Global,
+    cursor: &mut Cursor<'_>,
+    way: Direction,
+    levels: u8,
+) -> Result<Expr, ParseFault>
+    ensures { Reads (spec.group (spec.term way levels) cursor.old) result cursor.new }
+{
+    cursor.advance();
+    let inner = expression(alloc, cursor, way, levels)?;
+    match cursor.peek() {
+        Token::Close => {
+            cursor.advance();
+            Ok(inner)
+        }
+        other => Err(ParseFault::Bad(unexpected(&other, cursor.place()))),
+    }
+}
+
+// `!` and a term.
+#[cycle(reader)]
+#[tactic(auto, unfolding(crate::specs::Reading::negation))]
+fn negation(
+    alloc: Global,
+    cursor: &mut Cursor<'_>,
+    way: Direction,
+    levels: u8,
+) -> Result<Expr, ParseFault>
+    ensures { Reads (spec.negation (spec.term way levels) cursor.old) result cursor.new }
+{
+    cursor.advance();
+    let inner = term(alloc, cursor, way, levels)?;
+    Ok(Expr::Not(Boxed::new(alloc, inner)?))
+}
+
+// A term where nothing may open a level.
+#[tactic(auto, unfolding(crate::specs::Reading::flat))]
+fn flat(alloc: Global, cursor: &mut Cursor<'_>, way: Direction) -> Result<Expr, ParseFault>
+    ensures { Reads (spec.flat way cursor.old) result cursor.new }
+{
+    match cursor.peek() {
+        Token::Bang | Token::Open => Err(ParseFault::Bad(MatchFault::TooDeep(cursor.place()))),
+        _ => leaf(alloc, cursor, way),
+    }
+}
+
+// A term with one level more than the given.
+#[cycle(reader)]
+#[tactic(auto, unfolding(crate::specs::Reading::deep))]
+fn deep(
+    alloc: Global,
+    cursor: &mut Cursor<'_>,
+    way: Direction,
+    levels: u8,
+) -> Result<Expr, ParseFault>
+    ensures { Reads (spec.deep way (spec.term way levels) cursor.old) result cursor.new }
+{
+    match cursor.peek() {
+        Token::Bang => negation(alloc, cursor, way, levels),
+        Token::Open => group(alloc, cursor, way, levels),
+        _ => leaf(alloc, cursor, way),
+    }
+}
+
+// A term with at most so many levels of negations and parentheses.
+#[cycle(reader)]
+#[tactic(auto, unfolding(crate::specs::Reading::term))]
+fn term(
+    alloc: Global,
+    cursor: &mut Cursor<'_>,
+    way: Direction,
+    levels: u8,
+) -> Result<Expr, ParseFault>
+    ensures { Reads (spec.term way levels cursor.old) result cursor.new }
+{
+    if levels == 0 {
+        flat(alloc, cursor, way)
+    } else {
+        deep(alloc, cursor, way, levels - 1)
+    }
+}
+
+/// The expression that the text spells, or its first fault.
+#[tactic(auto, unfolding(crate::specs::Reading::whole))]
+pub(crate) fn whole(alloc: Global, text: &[u8], way: Direction) -> Result<Expr, ParseFault>
+    ensures { spec.Gives result (spec.whole way text.now) }
+{
+    let mut cursor = Cursor::new(text);
+    let expr = expression(alloc, &mut cursor, way, MAX_LEVELS)?;
+    match cursor.peek() {
+        Token::End => Ok(expr),
+        other => Err(ParseFault::Bad(unexpected(&other, cursor.place()))),
+    }
+}
+
+/// The expression that the text spells in a rule of the direction, or the first fault of the text.
+pub fn parse(alloc: Global, text: &[u8], way: Direction) -> Result<Expr, ParseFault>
+    // What is read is in the grammar.
+    ensures found { IfOk result (λ x. Spells way text.now x) }
+    // What is in the grammar is read, unless memory runs out.
+    ensures only { (x : Expr) → Spells way text.now x → spec.Gives result (Ok x) }
+    // It nests no deeper than 64 levels, and each value stands with its field.
+    ensures fits { IfOk result (λ x. Fits way 64 x) }
+    // No text goes on with the token that shows the fault.
+    ensures place { IfBad result (λ f. IsDead way text.now (place_of f)) }
+    // Which fault it is, and where.
+    ensures exact { spec.Gives result (spec.whole way text.now) }
+{
+    whole(alloc, text, way)
+}
+
+/// A text spells at most one expression.
+pub fn one_expression()
+    ensures { (way : Direction) (text : List ℕ) (x y : Expr) → Spells way text x → Spells way text y → x ≡ y }
+{}
