@@ -36,7 +36,7 @@ switch_comes m zones s k old absent few room birth same free = record {
   within = record { switches = omega (arith, few, few_put m.net.switches s.name s); ports = old.within.ports };
   keys = switch_keys m.net s.name s m.keys k old.keys same free.low free.high free.free;
   bound = bound_kept m n zones old.bound refl (λ q h. h) (λ c h. h) old.bound.one_chassis;
-  born = born_switch m n old.born (omega arith) s.name s refl (omega (arith, birth));
+  born = born_switch m n old.born (omega arith) (λ h. omega arith) s.name s refl (omega (arith, birth));
   few = omega (arith, room);
 }
   where
@@ -51,7 +51,7 @@ port_comes m zones p k old absent few on new room birth same of free = record {
   within = record { switches = old.within.switches; ports = omega (arith, few, few_put m.net.ports p.name p) };
   keys = port_keys m.net p.name p m.keys k old.keys same of free.low free.high free.free;
   bound = bound_kept m n zones old.bound refl (λ q h. some_kept m.net.ports p.name p q h) (λ c h. h) old.bound.one_chassis;
-  born = born_port m n old.born (omega arith) p.name p refl (omega (arith, birth));
+  born = born_port m n old.born (omega arith) (λ h. omega arith) p.name p refl (omega (arith, birth));
   few = omega (arith, room);
 }
   where
@@ -64,7 +64,7 @@ chassis_comes m zones c old none room = record {
   within = old.within;
   keys = old.keys;
   bound = bound_kept m n zones old.bound refl (λ q h. h) (λ d h. absurd (elim (subst (λ cs. Among d cs) none h) [ ])) (omega arith);
-  born = born_kept m n old.born (omega arith) refl;
+  born = born_kept m n old.born (omega arith) (λ h. absurd (omega arith)) refl;
   few = omega (arith, room);
 }
   where
@@ -79,7 +79,7 @@ port_bound m zones p c zone old there known room low high free = record {
   within = old.within;
   keys = old.keys;
   bound = bound_fresh m n zones p c zone old.bound refl refl refl there known low high free;
-  born = born_kept m n old.born (omega arith) refl;
+  born = born_kept m n old.born (omega arith) (λ h. absurd (omega arith)) refl;
   few = omega (arith, room);
 }
   where

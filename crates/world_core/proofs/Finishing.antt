@@ -64,7 +64,7 @@ packet_done old new p frame effects walks taken room sent count counts is =
           within = now.within;
           keys = now.keys;
           bound = bound_kept m (counted m) old.zones now.bound refl (λ q h. h) (λ c h. h) now.bound.one_chassis;
-          born = born_kept m (counted m) now.born (omega arith) refl;
+          born = born_kept m (counted m) now.born (omega arith) (λ h. absurd (omega arith)) refl;
           few = omega (arith, room);
         };
         compiled = record { exact = taken.compiled.exact };
@@ -84,7 +84,7 @@ refused_taken w taken room =
         within = now.within;
         keys = now.keys;
         bound = bound_kept m n w.zones now.bound refl (λ q h. h) (λ c h. h) now.bound.one_chassis;
-        born = born_kept m n now.born (omega arith) refl;
+        born = born_kept m n now.born (omega arith) (λ h. h) refl;
         few = omega (arith, room);
       };
       compiled = record { exact = taken.compiled.exact };

@@ -269,14 +269,16 @@ no_zone m zones p bound free = by (at zones p) refl
 -- ---- births
 
 module _ (m n : State) (born : AreBorn m) (later : events_of m ≤ events_of n) where
-  pub born_kept : n.net ≡ m.net → AreBorn n
-  born_kept net = record {
+  pub born_kept : (n.accepted ≡ 0 → m.accepted ≡ 0) → n.net ≡ m.net → AreBorn n
+  born_kept fresh net = record {
+    none = λ h. net ∙ born.none (fresh h);
     switches = λ a s e. let old : s.birth.0 ≤ events_of m = born.switches a s (ap (λ (w : Network). at w.switches a) (sym net) ∙ e) in omega (arith, old, later);
     ports = λ q p e. let old : p.birth.0 ≤ events_of m = born.ports q p (ap (λ (w : Network). at w.ports q) (sym net) ∙ e) in omega (arith, old, later);
   }
 
-  pub born_switch : (name : Name) (switch : Switch) → n.net ≡ record m.net { switches = put m.net.switches name switch } → switch.birth.0 ≤ events_of n → AreBorn n
-  born_switch name switch net in_time = record {
+  pub born_switch : n.accepted ≢ 0 → (name : Name) (switch : Switch) → n.net ≡ record m.net { switches = put m.net.switches name switch } → switch.birth.0 ≤ events_of n → AreBorn n
+  born_switch some name switch net in_time = record {
+    none = λ h. absurd (some h);
     switches = λ a s e. elim (put_cases m.net.switches name switch a s (ap (λ (w : Network). at w.switches a) (sym net) ∙ e)) [
       | inl is ↦ subst (λ (w : Switch). w.birth.0 ≤ events_of n) (sym is.1) in_time
       | inr rest ↦ let old : s.birth.0 ≤ events_of m = born.switches a s rest.1 in omega (arith, old, later)
@@ -284,8 +286,9 @@ module _ (m n : State) (born : AreBorn m) (later : events_of m ≤ events_of n) 
     ports = λ q p e. let old : p.birth.0 ≤ events_of m = born.ports q p (ap (λ (w : Network). at w.ports q) (sym net) ∙ e) in omega (arith, old, later);
   }
 
-  pub born_port : (name : Name) (port : SwitchPort) → n.net ≡ record m.net { ports = put m.net.ports name port } → port.birth.0 ≤ events_of n → AreBorn n
-  born_port name port net in_time = record {
+  pub born_port : n.accepted ≢ 0 → (name : Name) (port : SwitchPort) → n.net ≡ record m.net { ports = put m.net.ports name port } → port.birth.0 ≤ events_of n → AreBorn n
+  born_port some name port net in_time = record {
+    none = λ h. absurd (some h);
     switches = λ a s e. let old : s.birth.0 ≤ events_of m = born.switches a s (ap (λ (w : Network). at w.switches a) (sym net) ∙ e) in omega (arith, old, later);
     ports = λ q p e. elim (put_cases m.net.ports name port q p (ap (λ (w : Network). at w.ports q) (sym net) ∙ e)) [
       | inl is ↦ subst (λ (w : SwitchPort). w.birth.0 ≤ events_of n) (sym is.1) in_time

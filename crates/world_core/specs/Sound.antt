@@ -11,7 +11,7 @@ use Rattle.ovn_base.specs.declared.address.Mac.{Mac}
 use Rattle.ovn_base.specs.declared.name.Name.{Name}
 use Rattle.flow_table.specs.Change.{EachOnce}
 use Rattle.flow_table.specs.declared.flow.Flow.{Flow}
-use Rattle.nb_records.specs.Network.{Network, at}
+use Rattle.nb_records.specs.Network.{Network, at, empty_network}
 use Rattle.nb_records.specs.declared.record.PortAddress.{PortAddress}
 use Rattle.nb_records.specs.declared.record.Switch.{Switch}
 use Rattle.nb_records.specs.declared.record.SwitchPort.{SwitchPort}
@@ -71,10 +71,11 @@ pub record AreBound (m : State) (zones : List (Name × ℕ)) : Type 0 where
   pub zone_fits : (q : Name) (z : ℕ) → at zones q ≡ Some z → (1 ≤ z) × (z < 2 ^ 16)
   pub zones_apart : (p q : Name) (z : ℕ) → at zones p ≡ Some z → at zones q ≡ Some z → p ≡ q
 
--- no record is younger than the last event
+-- no record is younger than the last event, and where no event was accepted there is none
 pub record AreBorn (m : State) : Type 0 where
   pub switches : (a : Name) (switch : Switch) → at m.net.switches a ≡ Some switch → switch.birth.0 ≤ events_of m
   pub ports : (q : Name) (port : SwitchPort) → at m.net.ports q ≡ Some port → port.birth.0 ≤ events_of m
+  pub none : m.accepted ≡ 0 → m.net ≡ empty_network
 
 -- the flows are exactly those of the set, each once
 pub record AreExactly (Wanted : Flow → Type 0) (held : List Flow) : Type 0 where
