@@ -1,6 +1,6 @@
 -- An event that a line asks for is one that a world takes.
-use Rattle.std.proofs.Common.{◌<◌, ℕ, List, [], ◌∷◌, refl, arith, subst, sym}
-use Rattle.std.specs.List.{All, AllZip}
+use Rattle.std.proofs.Common.{◌≡◌, ◌<◌, ℕ, List, [], ◌∷◌, refl, arith, subst, sym, inl, inr}
+use Rattle.std.specs.List.{All, AllByRecursion, AllZip}
 use Rattle.std.proofs.lemmas.List.{get_or_default}
 use Rattle.std.proofs.lemmas.List.Elements.{All-cons, All-nil}
 use Rattle.hex.proofs.HexLemmas.{decode_of-ok}
@@ -16,6 +16,7 @@ use Rattle.edit_reader.specs.declared.event.Event.{Event}
 use Rattle.serde_json.specs.Data.{Data}
 use Rattle.world_core.specs.Addresses.{mac_of}
 use Rattle.world_core.specs.Admitted.{IsAdmitted, IsAdmittedRecord}
+use Rattle.ovnsim.specs.Events.{AreEvents, AsksFor, is_too_long, is_no_json, is_read}
 
 abbrev IsByte : ℕ → Type 0
 IsByte b = b < 256
@@ -57,3 +58,15 @@ value_is d event (is_none none e) = subst IsAdmitted (sym e) tt
 -- a line asks for an event that a world takes
 pub line_admits : (line : List ℕ) (event : Event) → ReadsLine line event → IsAdmitted event
 line_admits line event h = value_is h.value event h.event_of
+
+-- whatever a line asks for
+pub asked_admits : (line : List ℕ) (event : Event) → AsksFor line event → IsAdmitted event
+asked_admits line event (is_too_long long e) = subst IsAdmitted (sym e) tt
+asked_admits line event (is_no_json short blank none e) = subst IsAdmitted (sym e) tt
+asked_admits line event (is_read short blank reads) = line_admits line event reads
+
+-- and whatever lines ask for
+pub all_admitted : (lines : List (List ℕ)) (events : List Event) → AreEvents lines events → AllByRecursion IsAdmitted events
+all_admitted [] events h = subst (λ es. AllByRecursion IsAdmitted es) (sym h) tt
+all_admitted (line ∷ lines) events (inl h) = all_admitted lines events h.1
+all_admitted (line ∷ lines) events (inr h) = subst (λ es. AllByRecursion IsAdmitted es) (sym h.all) (asked_admits line h.first h.asks, all_admitted lines h.others h.after)

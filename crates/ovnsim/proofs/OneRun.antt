@@ -17,8 +17,9 @@ use Rattle.world_core.specs.Step as net
 use Rattle.world_core.specs.Zones.{zones_after}
 use Rattle.world_core.proofs.OneStep.{step_with}
 use Rattle.world_core.proofs.OneWalk.{same_walks}
-use Rattle.ovnsim.specs.Runs.{Runs, RunsLines, Takes, accepts, refuses}
+use Rattle.ovnsim.specs.Runs.{Runs, RunsLines, Takes, accepts, refuses, IsTextOf, AreTexts}
 use Rattle.ovnsim.proofs.OneReading.{same_events}
+use Rattle.ovnsim.proofs.Taken.{step_counts}
 
 -- the empty world is sound
 new_sound : IsSound new_world
@@ -60,7 +61,8 @@ new_sound = record {
       zone_fits = λ q z e. absurd (none-some z e);
       zones_apart = λ p q z e f. absurd (none-some z e);
     };
-    born = record { switches = λ a switch e. absurd (none-some switch e); ports = λ q port e. absurd (none-some port e) };
+    born = record {
+      none = λ e. refl; switches = λ a switch e. absurd (none-some switch e); ports = λ q port e. absurd (none-some port e) };
     few = omega arith;
   };
   compiled = record { exact = λ c among. absurd (among_none c among) };
@@ -130,17 +132,46 @@ pub one_run_of_lines : (lines : List (List ℕ)) (picks : List Pick) (text other
 one_run_of_lines lines picks text other last end h k =
     one_run k.events picks text other last end (subst (λ es. Runs new_world es picks text last) (same_events lines h.events k.events h.are k.are) h.run) k.run
 
--- a run of the world is one of the network
-happens : (old : Seen) (event : Event) (own : List Pick) (text : List ℕ) (new : Seen) → Takes old event own text new → (fate : Fate) × network.Happens old.state event own fate new.state
-happens old event own text new (accepts h e) = (was_accepted h.effects, network.Happens.accepts h.effects h.admitted h.step e refl)
-happens old event own text new (refuses why h e) = (was_refused why, network.Happens.refuses why h.first e refl (ap (λ (w : Seen). w.state) h.kept))
+-- what became of an event, with its text
+record IsFate (n : ℕ) (m : State) (event : Event) (own : List Pick) (text : List ℕ) (after : State) : Type 0 where
+  fate : Fate
+  happens : network.Happens m event own fate after
+  text : IsTextOf n fate text
 
-run_from : (old : Seen) (events : List Event) (picks : List Pick) (text : List ℕ) (last : Seen) → Runs old events picks text last → (fates : List Fate) × Run old.state events picks fates last.state
-run_from old [] picks text last h = ([], (h.0, refl, ap (λ (w : Seen). w.state) h.2))
-run_from old (event ∷ events) picks text last h =
-    let one = happens old event h.own h.first h.mid h.takes in
-    let rest = run_from h.mid events h.left h.rest last h.others in
-    (one.0 ∷ rest.0, record { mid = h.mid.state; own = h.own; left = h.left; fate = one.0; others = rest.0; picked = h.picked; all = refl; happens = one.1; after = rest.1 })
+-- an event is counted
+one_more : (old : Seen) (event : Event) (own : List Pick) (text : List ℕ) (new : Seen) → Takes old event own text new → events_of new.state ≡ events_of old.state + 1
+one_more old event own text new (accepts h e) = let counts = step_counts old.state event h.effects new.state h.step in omega (arith, counts.0, counts.1)
+one_more old event own text new (refuses why h e) =
+    let accepted : new.state.accepted ≡ old.state.accepted = ap (λ (w : Seen). w.state.accepted) h.kept in
+    let refused : new.state.refused ≡ old.state.refused + 1 = ap (λ (w : Seen). w.state.refused) h.kept in
+    omega (arith, accepted, refused)
 
-pub network_run : (events : List Event) (picks : List Pick) (text : List ℕ) (last : Seen) → Runs new_world events picks text last → (fates : List Fate) × Run new_world.state events picks fates last.state
-network_run events picks text last h = run_from new_world events picks text last h
+-- a run of the world is one of the network, and its text is that of what became of the events
+fate_of : (old : Seen) (event : Event) (own : List Pick) (text : List ℕ) (new : Seen) → Takes old event own text new → (n : ℕ) → n ≡ events_of old.state + 1 → IsFate n old.state event own text new.state
+fate_of old event own text new (accepts h e) n is = record {
+  fate = was_accepted h.effects;
+  happens = network.Happens.accepts h.effects h.admitted h.step e refl;
+  text = (matched new.walks, h.text ∙ ap (λ k. lines_of k h.effects (matched new.walks)) (sym is));
+}
+fate_of old event own text new (refuses why h e) n is = record {
+  fate = was_refused why;
+  happens = network.Happens.refuses why h.first e refl (ap (λ (w : Seen). w.state) h.kept);
+  text = h.text ∙ ap (λ k. refused_line k why) (sym is);
+}
+
+more_texts : (n : ℕ) (fate : Fate) (fates : List Fate) (first rest text : List ℕ) → IsTextOf n fate first → text ≡ first ++ rest → AreTexts (n + 1) fates rest → AreTexts n (fate ∷ fates) text
+more_texts n fate fates first rest text is whole others = record { first = first; rest = rest; whole = whole; is = is; others = others }
+
+run_from : (old : Seen) (events : List Event) (picks : List Pick) (text : List ℕ) (last : Seen) → Runs old events picks text last → (n : ℕ) → n ≡ events_of old.state + 1
+    → (fates : List Fate) × Run old.state events picks fates last.state × AreTexts n fates text
+run_from old [] picks text last h n is = ([], (h.0, refl, ap (λ (w : Seen). w.state) h.2), h.1)
+run_from old (event ∷ events) picks text last h n is =
+    let one = fate_of old event h.own h.first h.mid h.takes n is in
+    let rest = run_from h.mid events h.left h.rest last h.others (n + 1) (ap (λ k. k + 1) is ∙ ap (λ k. k + 1) (sym (one_more old event h.own h.first h.mid h.takes))) in (
+      one.fate ∷ rest.0,
+      record { mid = h.mid.state; own = h.own; left = h.left; fate = one.fate; others = rest.0; picked = h.picked; all = refl; happens = one.happens; after = rest.1 },
+      more_texts n one.fate rest.0 h.first h.rest text one.text h.whole rest.2,
+    )
+
+pub network_run : (events : List Event) (picks : List Pick) (text : List ℕ) (last : Seen) → Runs new_world events picks text last → (fates : List Fate) × Run new_world.state events picks fates last.state × AreTexts 1 fates text
+network_run events picks text last h = run_from new_world events picks text last h 1 refl

@@ -15,7 +15,7 @@ use Rattle.ovnsim.specs.Runs.{Takes, accepts, refuses}
 use Rattle.ovnsim.specs.Taking.{TakesWith, WasCut}
 
 -- a step counts one event that was accepted
-step_counts : (m : State) (event : Event) (effects : List NetEffect) (after : State) → Step m event effects after → (after.accepted ≡ m.accepted + 1) × (after.refused ≡ m.refused)
+pub step_counts : (m : State) (event : Event) (effects : List NetEffect) (after : State) → Step m event effects after → (after.accepted ≡ m.accepted + 1) × (after.refused ≡ m.refused)
 step_counts m (Edit ops) effects after h = (ap (λ (s : State). s.accepted) h.state, ap (λ (s : State). s.refused) h.state)
 step_counts m (Bind port chassis) effects after h = (ap (λ (s : State). s.accepted) h.1, ap (λ (s : State). s.refused) h.1)
 step_counts m (AddChassis chassis) effects after h = (ap (λ (s : State). s.accepted) h.1, ap (λ (s : State). s.refused) h.1)

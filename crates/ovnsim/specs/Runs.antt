@@ -1,10 +1,12 @@
 -- Runs of the network.
-use Rattle.std.specs.Prelude.{◌≡◌, ◌++◌, ℕ, List, [], ◌∷◌}
+use Rattle.std.specs.Prelude.{◌≡◌, ◌+◌, ◌++◌, ℕ, List, [], ◌∷◌}
 use Rattle.edit_reader.specs.declared.event.Event.{Event}
+use Rattle.event_lines.specs.Lines.{lines_of, refused_line}
 use Rattle.event_lines.specs.Picks.{Pick, picks_of}
 use Rattle.event_lines.specs.declared.refusal.Refusal.{Refusal}
 use Rattle.world_core.specs.Outcome.{IsAccepted, IsRefused}
 use Rattle.world_core.specs.Parts.{new_world}
+use Rattle.world_core.specs.Picks.{Fate, was_refused, was_accepted}
 use Rattle.world_core.specs.Seen.{Seen, IsSound}
 use Rattle.ovnsim.specs.Events.{AreEvents}
 
@@ -37,3 +39,21 @@ pub record RunsLines (lines : List (List ℕ)) (picks : List Pick) (text : List 
   pub events : List Event
   pub are : AreEvents lines events
   pub run : Runs new_world events picks text last
+
+-- the lines of what became of the event of this number: an accepted one also tells how many flows were matched
+abbrev pub IsTextOf : ℕ → Fate → List ℕ → Type 0
+IsTextOf n (was_refused why) text = text ≡ refused_line n why
+IsTextOf n (was_accepted effects) text = (walks : ℕ) × (text ≡ lines_of n effects walks)
+
+-- the lines of the first, and then those of the others
+pub record HasText (n : ℕ) (fate : Fate) (text : List ℕ) (Others : List ℕ → Type 0) : Type 0 where
+  pub first : List ℕ
+  pub rest : List ℕ
+  pub whole : text ≡ first ++ rest
+  pub is : IsTextOf n fate first
+  pub others : Others rest
+
+-- the text is the lines of what became of the events, which are numbered from this number on
+abbrev pub AreTexts : ℕ → List Fate → List ℕ → Type 0
+AreTexts n [] text = text ≡ []
+AreTexts n (fate ∷ fates) text = HasText n fate text (λ rest. AreTexts (n + 1) fates rest)

@@ -16,8 +16,10 @@ pub struct StdSource<R> {
 }
 
 impl<R: Read + Drop> StdSource<R> {
-    /// A source that takes what the reader gives.
-    pub fn new(inner: R) -> StdSource<R> {
+    /// A source that takes what the reader gives. It has not failed yet.
+    pub fn new(inner: R) -> StdSource<R>
+        ensures { result.faults ≡ 0 }
+    {
         StdSource { inner, faults: 0 }
     }
 }
@@ -49,8 +51,10 @@ pub struct StdSink<W> {
 }
 
 impl<W: Write + Drop> StdSink<W> {
-    /// A sink that gives its pieces to the writer.
-    pub fn new(inner: W) -> StdSink<W> {
+    /// A sink that gives its pieces to the writer. It has not failed yet.
+    pub fn new(inner: W) -> StdSink<W>
+        ensures { result.faults ≡ 0 }
+    {
         StdSink { inner, faults: 0 }
     }
 }

@@ -1,3 +1,4 @@
+use Rattle.ovnsim.proofs.Admits.{all_admitted}
 use Rattle.ovnsim.proofs.OneReading.{same_asked, same_events}
 use Rattle.ovnsim.proofs.OneRun as one
 use Rattle.ovnsim.proofs.one_run.one_run.Goals as goal
@@ -16,3 +17,6 @@ returns-clause-of_input c = one.one_run_of_lines
 
 pub returns-clause-network : goal.returns-clause-network
 returns-clause-network c = one.network_run
+
+pub returns-clause-admitted : goal.returns-clause-admitted
+returns-clause-admitted c = all_admitted
