@@ -62,7 +62,10 @@ new_sound = record {
       zones_apart = λ p q z e f. absurd (none-some z e);
     };
     born = record {
-      none = λ e. refl; switches = λ a switch e. absurd (none-some switch e); ports = λ q port e. absurd (none-some port e) };
+      none = λ e. refl;
+      switches = λ a switch e. absurd (none-some switch e);
+      ports = λ q port e. absurd (none-some port e);
+    };
     few = omega arith;
   };
   compiled = record { exact = λ c among. absurd (among_none c among) };
