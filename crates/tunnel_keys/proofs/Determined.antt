@@ -1,5 +1,5 @@
 -- An edit determines who has keys, and which.
-use Rattle.std.specs.Prelude.{not, ◌≡◌, ◌≢◌, ℕ, suc, ◌↔◌, List, [], ◌∷◌, length, map, take, Option, Some, refl}
+use Rattle.std.specs.Prelude.{not, ◌≡◌, ◌≢◌, ℕ, suc, ◌↔◌, List, [], ◌∷◌, length, map, take, Some, refl}
 use mathlib.Core.Path.{sym, ap, subst, ◌∙◌}
 use mathlib.Core.Logic.{inl, inr}
 use native.Mathlib.Omega.{arith}
