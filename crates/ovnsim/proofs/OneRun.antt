@@ -139,7 +139,7 @@ one_run_of_lines lines picks text other last end h k =
 record IsFate (n : ℕ) (m : State) (event : Event) (own : List Pick) (text : List ℕ) (after : State) : Type 0 where
   fate : Fate
   happens : network.Happens m event own fate after
-  text : IsTextOf n fate text
+  is : IsTextOf n fate text
 
 -- an event is counted
 one_more : (old : Seen) (event : Event) (own : List Pick) (text : List ℕ) (new : Seen) → Takes old event own text new → events_of new.state ≡ events_of old.state + 1
@@ -151,15 +151,15 @@ one_more old event own text new (refuses why h e) =
 
 -- a run of the world is one of the network, and its text is that of what became of the events
 fate_of : (old : Seen) (event : Event) (own : List Pick) (text : List ℕ) (new : Seen) → Takes old event own text new → (n : ℕ) → n ≡ events_of old.state + 1 → IsFate n old.state event own text new.state
-fate_of old event own text new (accepts h e) n is = record {
+fate_of old event own text new (accepts h e) n number = record {
   fate = was_accepted h.effects;
   happens = network.Happens.accepts h.effects h.admitted h.step e refl;
-  text = (matched new.walks, h.text ∙ ap (λ k. lines_of k h.effects (matched new.walks)) (sym is));
+  is = (matched new.walks, h.text ∙ ap (λ k. lines_of k h.effects (matched new.walks)) (sym number));
 }
-fate_of old event own text new (refuses why h e) n is = record {
+fate_of old event own text new (refuses why h e) n number = record {
   fate = was_refused why;
   happens = network.Happens.refuses why h.first e refl (ap (λ (w : Seen). w.state) h.kept);
-  text = h.text ∙ ap (λ k. refused_line k why) (sym is);
+  is = h.text ∙ ap (λ k. refused_line k why) (sym number);
 }
 
 more_texts : (n : ℕ) (fate : Fate) (fates : List Fate) (first rest text : List ℕ) → IsTextOf n fate first → text ≡ first ++ rest → AreTexts (n + 1) fates rest → AreTexts n (fate ∷ fates) text
@@ -173,7 +173,7 @@ run_from old (event ∷ events) picks text last h n is =
     let rest = run_from h.mid events h.left h.rest last h.others (n + 1) (ap (λ k. k + 1) is ∙ ap (λ k. k + 1) (sym (one_more old event h.own h.first h.mid h.takes))) in (
       one.fate ∷ rest.0,
       record { mid = h.mid.state; own = h.own; left = h.left; fate = one.fate; others = rest.0; picked = h.picked; all = refl; happens = one.happens; after = rest.1 },
-      more_texts n one.fate rest.0 h.first h.rest text one.text h.whole rest.2,
+      more_texts n one.fate rest.0 h.first h.rest text one.is h.whole rest.2,
     )
 
 pub network_run : (events : List Event) (picks : List Pick) (text : List ℕ) (last : Seen) → Runs new_world events picks text last → (fates : List Fate) × Run new_world.state events picks fates last.state × AreTexts 1 fates text
