@@ -1,0 +1,50 @@
+# Sourced by the scripts beside it that time one call in a loop. It makes a program over copies of crates, in a folder of
+# its own that goes at the end.
+top=$(cd "$(dirname "${BASH_SOURCE[0]}")/.." && pwd)
+work=$(mktemp -d)
+trap 'rm -rf "$work"' EXIT
+
+# Builds a program over the crates that are named. Its main.rt comes on standard input, and takes three words: what to do
+# in each round, how long the frame is, and how many rounds there are.
+build_loop() {
+  local crate folder=$work/crates/timed
+  mkdir -p "$folder/src"
+  cat >"$folder/src/main.rt"
+  cp "$top/HANDLES" "$work"
+  for crate in "$@"; do
+    cp -r "$top/crates/$crate" "$work/crates"
+    grep "^$crate:" "$top/crates.txt" >>"$work/crates.txt"
+  done
+  echo "timed: $*" >>"$work/crates.txt"
+  if ! (cd "$folder" && "${RT:-rt}" run -- nothing 64 1) >"$work/log" 2>&1; then
+    cat "$work/log" >&2
+    exit 70
+  fi
+}
+
+# The least ns that five runs take: what, length, rounds, and what the program is to say.
+least() {
+  local start taken best= said
+  for _ in 1 2 3 4 5; do
+    start=$(date +%s%N)
+    said=$("$work/crates/timed/out/timed" "$1" "$2" "$3")
+    taken=$(($(date +%s%N) - start))
+    if [[ $said != "$4" ]]; then
+      echo "$1 of $2 bytes says $said in the place of $4" >&2
+      exit 70
+    fi
+    if [[ -z $best || $taken -lt $best ]]; then
+      best=$taken
+    fi
+  done
+  echo "$best"
+}
+
+# The ns that a round takes, over what a round of nothing takes: what, length, what the program is to say, and rounds, an
+# odd number.
+each() {
+  local full empty
+  full=$(least "$1" "$2" "$4" "$3")
+  empty=$(least nothing "$2" "$4" "$2")
+  awk -v full="$full" -v empty="$empty" -v rounds="$4" 'BEGIN { printf "%.1f", (full - empty) / rounds }'
+}
