@@ -21,3 +21,4 @@ pub mod Named
 pub mod Local
 pub mod LocalValues
 pub mod LocalTerms
+pub mod Ways

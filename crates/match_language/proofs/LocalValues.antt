@@ -1,7 +1,9 @@
 -- Reading values depends on the tokens up to the one at which it stops.
-use Rattle.std.specs.Prelude.{◌≡◌, ◌⊎◌, ◌≤◌, ◌+◌, ℕ, zero, suc, Bool, true, false, cond, ◌&&◌, ◌==◌, List, [], ◌∷◌, ◌++◌, Option, Some, None, Result, Ok, Err, bit_and}
+use Rattle.std.specs.Prelude.{◌≡◌, ◌≢◌, ◌⊎◌, ◌≤◌, ◌+◌, ℕ, zero, suc, Bool, true, false, cond, ◌&&◌, ◌==◌, List, [], ◌∷◌, ◌++◌, Option, Some, None, Result, Ok, Err, bit_and}
 use Rattle.std.proofs.Common.{refl, ap, ◌∙◌, sym, subst, inl, inr, arith}
 use Rattle.std.proofs.lemmas.Bool.{cond-true, cond-false}
+use Rattle.std.proofs.lemmas.Bool.Decides.{Decides-eqb}
+use mathlib.Core.Bool.{true≢false}
 use Rattle.match_language.specs.declared.expr.Expr.{Expr}
 use Rattle.match_language.specs.declared.expr.Expr.TheVariants as ex
 use Rattle.match_language.specs.declared.expr.Value.{Value}
@@ -63,6 +65,32 @@ mask_same f r k n place m j =
     (cond_through (λ (x : Mask). read_as n place x m j) (is_equality r) (under_out n (mask_of f k m)) misplaced
     ∙ ap (λ (x : Read Value). cond (is_equality r) x (Err (fault.BadConstant j.place))) (under_same n place (mask_of f k m) m j))
 
+none_outside : misplaced ≡ outside → ⊥
+none_outside e = absurd cc
+
+wrong_outside : wrong ≡ outside → ⊥
+wrong_outside e = absurd cc
+
+inside_outside : (k : ℕ) → inside k ≡ outside → ⊥
+inside_outside k e = absurd cc
+
+-- the mask of a constant that has bits outside
+under_is : (n : ℕ) (o : Option ℕ) → under_out n o ≡ outside → (m : ℕ) × (o ≡ Some m) × (bit_and n m ≢ n)
+under_is n None e = absurd (none_outside e)
+under_is n (Some m) e = elim (chosen (bit_and n m == n) (inside m) outside outside e) [
+  | inl h ↦ absurd (inside_outside m h.1)
+  | inr h ↦ (m, refl, λ same. true≢false (sym ((Decides-eqb (bit_and n m) n).1 same) ∙ h.0))
+]
+
+outside_is : (f : Field) (r : Rel) (k : Token) (n : ℕ) (m : Token) → mask_out f r k n m ≡ outside → (l : ℕ) × (mask_of f k m ≡ Some l) × (bit_and n l ≢ n)
+outside_is f r k n m e = elim (chosen (is_constant_token m) (cond (is_equality r) (under_out n (mask_of f k m)) misplaced) wrong outside e) [
+  | inl h ↦ elim (chosen (is_equality r) (under_out n (mask_of f k m)) misplaced outside h.1) [
+    | inl g ↦ under_is n (mask_of f k m) g.1
+    | inr g ↦ absurd (none_outside g.1)
+  ]
+  | inr h ↦ absurd (wrong_outside h.1)
+]
+
 -- a constant, a slash and what the next token is
 abbrev masked_read : Field → Rel → Token → ℕ → Input → Read Value
 masked_read f r k n i = read_as n i.place (mask_out f r k n (token (next (next i)))) (token (next (next i))) (next (next i))
@@ -85,50 +113,52 @@ masked_same f r k n i l o slash e second third =
     constant_slash f r k n l (sym second ∙ slash)
     ∙ ap (λ (m : Mask). read_as n l.place m (token (next (next l))) (next (next l))) (ap (mask_out f r k n) (sym third) ∙ e)
 
-masked_local : (f : Field) (r : Rel) (k : Token) (n : ℕ) (i : Input) → token (next i) ≡ t.Slash → (o : Mask) → mask_out f r k n (token (next (next i))) ≡ o
+masked_local : (f : Field) (r : Rel) (k : Token) (n : ℕ) (i : Input) → token i ≡ k → constant_of f k ≡ Some n → token (next i) ≡ t.Slash → (o : Mask) → mask_out f r k n (token (next (next i))) ≡ o
     → LocalAt (constant_read f r k n) i (read_as n i.place o (token (next (next i))) (next (next i)))
-masked_local f r k n i slash wrong e = record {
+masked_local f r k n i at is slash wrong e = record {
   before = 2;
   there = wrong_place (token (next (next i))) (next (next i)).place;
   behind = 0;
   shown = itself (next (next i));
   same = λ l h. (unexpected (token (next (next l))) (next (next l)).place, masked_same f r k n i l wrong slash e h.1.0.0 h.1.1.0);
 }
-masked_local f r k n i slash misplaced e = record {
+masked_local f r k n i at is slash misplaced e = record {
   before = 2;
   there = refl;
   behind = 0;
   shown = itself (next (next i));
   same = λ l h. (fault.BadConstant (next (next l)).place, masked_same f r k n i l misplaced slash e h.1.0.0 h.1.1.0);
 }
-masked_local f r k n i slash outside e = record {
+masked_local f r k n i at is slash outside e = record {
   before = 0;
   there = refl;
   behind = 2;
-  shown = mask_behind i slash;
+  shown =
+      let out = outside_is f r k n (token (next (next i))) e in
+      mask_behind i f n out.0 (ap (constant_of f) at ∙ is) slash (ap (λ (c : Token). mask_of f c (token (next (next i)))) at ∙ out.1) out.2;
   same = λ l h. (fault.BadConstant l.place, masked_same f r k n i l outside slash e h.1.0.0 h.1.1.0);
 }
-masked_local f r k n i slash (inside m) e = record { tokens = 3; there = refl; same = λ l h. masked_same f r k n i l (inside m) slash e h.1.0.0 h.1.1.0.0 }
+masked_local f r k n i at is slash (inside m) e = record { tokens = 3; there = refl; same = λ l h. masked_same f r k n i l (inside m) slash e h.1.0.0 h.1.1.0.0 }
 
 -- ---- constants
 
-constant_local : (f : Field) (r : Rel) (k : Token) (n : ℕ) (i : Input) (c : Token) → token (next i) ≡ c → LocalAt (constant_read f r k n) i (after_constant f r k n i.place c (next i))
-constant_local f r k n i t.Slash at =
-    let made = masked_local f r k n i at (mask_out f r k n (token (next (next i)))) refl in
+constant_local : (f : Field) (r : Rel) (k : Token) (n : ℕ) (i : Input) → token i ≡ k → constant_of f k ≡ Some n → (c : Token) → token (next i) ≡ c → LocalAt (constant_read f r k n) i (after_constant f r k n i.place c (next i))
+constant_local f r k n i here is t.Slash at =
+    let made = masked_local f r k n i here is at (mask_out f r k n (token (next (next i)))) refl in
     subst (LocalAt (constant_read f r k n) i) (sym (constant_slash f r k n i at) ∙ ap (λ (c : Token). after_constant f r k n i.place c (next i)) at) made
-constant_local f r k n i other at = record {
+constant_local f r k n i here is other at = record {
   tokens = 1;
   there = refl;
   same = λ l h. ap (λ (c : Token). after_constant f r k n l.place c (next l)) (sym h.1.0 ∙ at);
 }
 
-number_by_local : (f : Field) (r : Rel) (k : Token) (o : Option ℕ) (i : Input) → LocalAt (number_by f r k o) i (number_by f r k o i)
-number_by_local f r k None i = fail_here fault.BadConstant (λ p. refl) i
-number_by_local f r k (Some n) i = constant_local f r k n i (token (next i)) refl
+number_by_local : (f : Field) (r : Rel) (k : Token) (i : Input) → token i ≡ k → (o : Option ℕ) → constant_of f k ≡ o → LocalAt (number_by f r k o) i (number_by f r k o i)
+number_by_local f r k i at None is = fail_here fault.BadConstant (λ p. refl) i
+number_by_local f r k i at (Some n) is = constant_local f r k n i at is (token (next i)) refl
 
-number_local : (f : Field) (r : Rel) (k : Token) (i : Input) → LocalAt (number f r k) i (number f r k i)
+number_local : (f : Field) (r : Rel) (k : Token) (i : Input) → token i ≡ k → LocalAt (number f r k) i (number f r k i)
 unfolding number
-number_local f r k i = number_by_local f r k (constant_of f k) i
+number_local f r k i at = number_by_local f r k i at (constant_of f k) refl
 
 -- ---- one value
 
@@ -143,12 +173,12 @@ one_each : (f : Field) (r : Rel) (i : Input) (c : Token) → token i ≡ c → L
 one_each f r i t.Text at = text_local (is_port f && is_equality r) i at
 one_each f r i (t.Group name) at = taken_local (is_port f && is_equality r) (v.Group name) i
 one_each f r i (t.Set name) at = taken_local (is_address f && is_equality r) (v.Set name) i
-one_each f r i (t.Bit b) at = number_local f r (t.Bit b) i
-one_each f r i (t.Number n) at = number_local f r (t.Number n) i
-one_each f r i (t.Hex n) at = number_local f r (t.Hex n) i
-one_each f r i (t.Dotted n) at = number_local f r (t.Dotted n) i
-one_each f r i (t.Ether n) at = number_local f r (t.Ether n) i
-one_each f r i t.BadConstant at = number_local f r t.BadConstant i
+one_each f r i (t.Bit b) at = number_local f r (t.Bit b) i at
+one_each f r i (t.Number n) at = number_local f r (t.Number n) i at
+one_each f r i (t.Hex n) at = number_local f r (t.Hex n) i at
+one_each f r i (t.Dotted n) at = number_local f r (t.Dotted n) i at
+one_each f r i (t.Ether n) at = number_local f r (t.Ether n) i at
+one_each f r i t.BadConstant at = number_local f r t.BadConstant i at
 one_each f r i other at = fail_unexpected other i
 
 one_local : (f : Field) (r : Rel) (i : Input) → LocalAt (one f r) i (one f r i)

@@ -1,12 +1,14 @@
 -- What the place of a fault says of the text.
-use Rattle.std.specs.Prelude.{◌≡◌, ℕ, zero, suc, List, Result, Ok, Err}
+use Rattle.std.specs.Prelude.{◌≡◌, ◌≢◌, ℕ, zero, suc, List, Some, Result, Ok, Err, bit_and}
 use Rattle.match_language.specs.declared.expr.Expr.{Expr}
 use Rattle.match_language.specs.declared.fault.MatchFault.{MatchFault}
 use Rattle.match_language.specs.declared.fault.ParseFault.{ParseFault}
 use Rattle.match_language.specs.declared.fault.ParseFault.TheVariants as pf
 use Rattle.match_language.specs.declared.field.Direction.{Direction}
+use Rattle.match_language.specs.declared.field.Field.{Field}
 use Rattle.match_language.specs.declared.token.Token.TheVariants as t
 use Rattle.match_language.specs.Input.{Input, token, next, quoted, skip}
+use Rattle.match_language.specs.Values.{constant_of, mask_of}
 use Rattle.match_language.specs.Grammar.{Spells}
 
 -- behind n tokens
@@ -28,11 +30,12 @@ abbrev pub plus : ℕ → ℕ → ℕ
 plus zero n = n
 plus (suc m) n = suc (plus m n)
 
--- Where the token that shows a fault stands, counted from the fault's place: it is the token there, or, for bits outside a mask,
--- the mask behind the constant there and a slash.
+-- Where the token that shows a fault stands, counted from the fault's place: it is the token there, or a mask, behind the constant
+-- there and a slash, outside which the constant has bits.
 pub data ShownAt : ℕ → Input → Type 0 where
   itself : (i : Input) → ShownAt 0 i
-  mask_behind : (i : Input) → token (next i) ≡ t.Slash → ShownAt 2 i
+  mask_behind : (i : Input) (f : Field) (n m : ℕ) → constant_of f (token i) ≡ Some n → token (next i) ≡ t.Slash → mask_of f (token i) (token (next (next i))) ≡ Some m → bit_and n m ≢ n
+      → ShownAt 2 i
 
 -- No text that begins with the same tokens, up to the one that shows the fault at the place, spells an expression.
 pub record IsDead (way : Direction) (text : List ℕ) (place : ℕ) : Type 0 where

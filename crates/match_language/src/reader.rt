@@ -2,6 +2,7 @@
 ghost use Rattle.std.specs.Prelude.{◌≡◌, ℕ, List, Ok, IfOk};
 ghost use Rattle.match_language.specs.Grammar.{Spells};
 ghost use Rattle.match_language.specs.Nesting.{Fits};
+ghost use Rattle.match_language.specs.declared.field.Direction.TheVariants.{FromLport, ToLport};
 ghost use Rattle.match_language.specs.Faults.{place_of};
 ghost use Rattle.match_language.specs.Places.{IsDead, IfBad};
 ghost use Rattle.match_language.specs.Reading as spec;
@@ -220,4 +221,14 @@ pub fn parse(alloc: Global, text: &[u8], way: Direction) -> Result<Expr, ParseFa
 /// A text spells at most one expression.
 pub fn one_expression()
     ensures { (way : Direction) (text : List ℕ) (x y : Expr) → Spells way text x → Spells way text y → x ≡ y }
+{}
+
+/// What a text spells nests at most 64 levels, and each of its values stands with its field.
+pub fn spelled_fits()
+    ensures { (way : Direction) (text : List ℕ) (x : Expr) → Spells way text x → Fits way 64 x }
+{}
+
+/// What fits in a from-lport rule fits in a to-lport rule.
+pub fn fits_to_lport()
+    ensures { (n : ℕ) (x : Expr) → Fits FromLport n x → Fits ToLport n x }
 {}
