@@ -8,7 +8,8 @@ use Rattle.ovn_base.specs.Among.{Among, here, there}
 use Rattle.ovn_base.specs.declared.delta.Delta.{Delta}
 use Rattle.ovn_base.proofs.AmongLaws.{among_append, among_map, among_cases, among_left, among_right, map_among, among_filter, filter_among, among_any, any_among, among_none}
 use Rattle.flow_table.specs.declared.flow.Flow.{Flow}
-use Rattle.flow_table.specs.Change.{EachOnce, IsDeltaOf, IsReplaced}
+use Rattle.ovn_base.specs.Once.{EachOnce}
+use Rattle.flow_table.specs.Change.{IsDeltaOf, IsReplaced}
 
 module _ {X : Type 0} where
   -- one list behind another, with no element in common

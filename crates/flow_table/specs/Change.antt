@@ -1,13 +1,9 @@
 -- How the flows of a chassis change.
-use Rattle.std.specs.Prelude.{◌⊎◌, ◌↔◌, List, [], ◌∷◌}
+use Rattle.std.specs.Prelude.{◌⊎◌, ◌↔◌, List}
 use Rattle.ovn_base.specs.Among.{Among}
+use Rattle.ovn_base.specs.Once.{EachOnce}
 use Rattle.ovn_base.specs.declared.delta.Delta.{Delta}
 use Rattle.flow_table.specs.declared.flow.Flow.{Flow}
-
--- the list has each of its elements once
-abbrev pub EachOnce : {X : Type 0} → List X → Type 0
-EachOnce [] = Unit {0}
-EachOnce (x ∷ xs) = ¬ Among x xs × EachOnce xs
 
 -- what comes isn't there, unless it goes as well, and comes once
 pub record IsDeltaOf (flows : List Flow) (delta : Delta Flow) : Type 0 where

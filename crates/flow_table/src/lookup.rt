@@ -2,7 +2,8 @@ ghost use Rattle.std.specs.Prelude.{◌≡◌, ◌≤◌, ℕ, List, IfSome, IfN
 ghost use Rattle.std.specs.Option.{option_copied};
 ghost use Rattle.flow_table.specs.declared.flow.Flow.{Flow};
 ghost use Rattle.flow_table.specs.Matching.{IsBest, NoneMatches};
-ghost use Rattle.flow_table.specs.Change.{EachOnce, IsDeltaOf, IsReplaced};
+ghost use Rattle.ovn_base.specs.Once.{EachOnce};
+ghost use Rattle.flow_table.specs.Change.{IsDeltaOf, IsReplaced};
 
 use crate::flow::Flow;
 use inet_packet::packet::Packet;

@@ -3,7 +3,8 @@ ghost use Rattle.std.specs.Prelude.{◌≡◌, ◌≤◌, ◌↔◌, IfOk, IfSom
 ghost use Rattle.std.specs.Vec.{vec_capacity};
 ghost use Rattle.ovn_base.specs.Among.{Among};
 ghost use Rattle.flow_table.specs.declared.flow.Flow.{Flow};
-ghost use Rattle.flow_table.specs.Change.{EachOnce};
+ghost use Rattle.ovn_base.specs.Once.{EachOnce};
+    ghost use Rattle.ovn_base.specs.Once.{EachOnce};
 ghost use Rattle.flow_table.specs.Matching.{IsBest, NoneMatches};
 
 use crate::exact::exact_flow;
@@ -28,7 +29,6 @@ impl Model for Tables {
     ghost use Rattle.std.specs.Prelude.{◌-◌, vec_len};
     ghost use Rattle.std.specs.Vec.{vec_capacity};
     ghost use Rattle.flow_table.specs.Held.{Held};
-    ghost use Rattle.flow_table.specs.Change.{EachOnce};
 
     ghost Value = { Held };
 

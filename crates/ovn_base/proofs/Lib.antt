@@ -1,5 +1,6 @@
 -- Lemmas.
 pub mod AmongLaws
+pub mod Puts
 pub mod AddressLemmas
 pub mod DecimalLemmas
 pub mod JoinedLemmas

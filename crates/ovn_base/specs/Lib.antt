@@ -1,6 +1,8 @@
 -- Definitions that contracts cite.
 pub mod formers
 pub mod Among
+pub mod Once
+pub mod ByName
 pub mod ByCode
 pub mod Address
 pub mod AddressText

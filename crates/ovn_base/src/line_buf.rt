@@ -3,6 +3,7 @@ ghost use Rattle.ovn_base.specs.Causes.{Rose};
 ghost use Rattle.ovn_base.specs.Cuts.{CutsEnded};
 ghost use Rattle.ovn_base.specs.Lines.{HasNoFeed};
 ghost use Rattle.ovn_base.specs.Reading.{taken, unread};
+ghost use Rattle.std.specs.Io.KnownBytes.{IsAtEnd};
 ghost use Rattle.std.specs.Prelude.{
   false,
   is_err,
@@ -157,6 +158,7 @@ impl LineBuf {
         ensures given { self.new.given ≡ self.old.given }
         ensures progress { OnOk result
             (MatchBool self.new.ended (self.new.held ≡ self.old.held) (length self.old.held < length self.new.held)) }
+        ensures at_end { self.new.ended ≡ true → IsAtEnd (S.left source.new) }
         ensures err { OnErr result ((self.new.held ≡ self.old.held) × (self.new.ended ≡ false)) }
         ensures read_fault { result ≡ Err LineFault.ReadFault → Rose (S.faults source.old) (S.faults source.new) }
         ensures too_long { result ≡ Err LineFault.InputTooLong → taken self.new ≡ 2 ^ 40 }

@@ -3,6 +3,7 @@ ghost use Rattle.ovn_base.specs.Causes.{Rose};
 ghost use Rattle.ovn_base.specs.Lines.{ended_lines};
 ghost use Rattle.ovn_base.specs.Reading.{Gives, Stops, taken, unread};
 ghost use Rattle.ovn_base.specs.Told.{WhereTold};
+ghost use Rattle.std.specs.Io.KnownBytes.{IsAtEnd};
 ghost use Rattle.std.specs.Prelude.{
   false,
   if◌then◌else◌,
@@ -73,8 +74,10 @@ pub fn next_line<S: Source>(source: &mut S, buf: &mut LineBuf) -> Result<Line, L
     ensures short { result ≡ Ok Line.Text → length buf.new.text ≤ LINE_LIMIT }
     ensures progress { IfOk result (λ line. line ≢ Line.End → buf.old.given < buf.new.given) }
 
-    // It takes more only while it holds no whole line.
-    ensures patient { ended_lines buf.old.held ≢ [] → S.left source.new ≡ S.left source.old }
+    // It takes more only while it holds no whole line and the end wasn't seen. The end is seen where nothing is left.
+    ensures patient { ended_lines buf.old.held ≢ [] → source.new ≡ source.old }
+    ensures after_end { buf.old.ended ≡ true → source.new ≡ source.old }
+    ensures at_end { buf.old.ended ≡ false → buf.new.ended ≡ true → IsAtEnd (S.left source.new) }
 
     // A fault leaves out no line that was taken whole.
     ensures fault { OnErr result

@@ -10,8 +10,10 @@ use Rattle.ovn_base.specs.Among.{Among, here, there}
 use Rattle.ovn_base.proofs.AmongLaws.{among_cases, among_any, any_among, among_left, among_right, among_append, among_map, map_among, among_filter, filter_among, filter_map_among}
 use Rattle.ovn_base.specs.declared.name.Name.{Name}
 use Rattle.ovn_base.specs.declared.address.Birth.{Birth}
-use Rattle.tunnel_keys.specs.Same.{same_name, same_identity, name_exact, name_own, identity_own}
-use Rattle.tunnel_keys.specs.Owners.{is_listed, IsEachOnce, as_datapath}
+use Rattle.ovn_base.specs.SameName.{same_name}
+use Rattle.ovn_base.specs.Once.{EachOnce}
+use Rattle.tunnel_keys.specs.Same.{same_identity, name_exact, name_own, identity_own}
+use Rattle.tunnel_keys.specs.Owners.{is_listed, as_datapath}
 use Rattle.tunnel_keys.specs.Keys.{Keys, IsKeys, datapath_owner, port_owner, held_datapath, held_port}
 use Rattle.tunnel_keys.specs.Edits.{IsEdit, IsLive, IsNew, IsThereAfter}
 use Rattle.tunnel_keys.specs.Fitting.{live_owners, owners_after, clash, are_apart, is_datapath, is_housed, is_new, fits}
@@ -20,7 +22,7 @@ use Rattle.tunnel_keys.specs.declared.owner.HeldDatapath.{HeldDatapath}
 use Rattle.tunnel_keys.specs.declared.owner.HeldPort.{HeldPort}
 use Rattle.tunnel_keys.specs.declared.owner.KeyOwner.{KeyOwner}
 use Rattle.tunnel_keys.specs.declared.owner.KeyOwner.TheVariants.{Datapath, Port}
-use Rattle.tunnel_keys.proofs.Puts.{at_among, among_at}
+use Rattle.ovn_base.proofs.Puts.{at_among, among_at}
 use Rattle.tunnel_keys.proofs.Held.{held_port_is}
 use Rattle.tunnel_keys.proofs.FreeKeys.{not_true}
 use Rattle.tunnel_keys.proofs.OwnerLaws.{listed_among, unlisted_not, not_unlisted}
@@ -34,7 +36,7 @@ module _ {X : Type 0} where
   none_pass : (test : X → Bool) (xs : List X) → not (list_any test xs) ≡ true → (x : X) → Among x xs → test x ≢ true
   none_pass test xs h x m e = true≢false (sym (among_any test x xs m e) ∙ not_true (list_any test xs) h)
 
-  once_behind : (xs ys : List X) → IsEachOnce (xs ++ ys) → IsEachOnce ys
+  once_behind : (xs ys : List X) → EachOnce (xs ++ ys) → EachOnce ys
   once_behind [] ys o = o
   once_behind (x ∷ xs) ys o = once_behind xs ys o.1
 
@@ -51,7 +53,7 @@ clash_both (Port d n b) (Port e m c) h = same_both n m h
 clash_both (Datapath n b) (Port e m c) h = absurd (false≢true h)
 clash_both (Port d n b) (Datapath m c) h = absurd (false≢true h)
 
-apart_once : (os : List KeyOwner) → are_apart os ≡ true → IsEachOnce os
+apart_once : (os : List KeyOwner) → are_apart os ≡ true → EachOnce os
 apart_once [] h = tt
 apart_once (o ∷ os) h = (
   (λ m. none_pass (clash o) os (first_so (not (list_any (clash o) os)) (are_apart os) h) o m (clash_own o)),

@@ -24,8 +24,8 @@ use Rattle.ovn_base.specs.Among.{Among, here, there}
 use Rattle.ovn_base.proofs.AmongLaws.{among_same, among_none, among_cases, among_append, filter_among, among_member, member_among, all_among, among_take, get_among, among_get}
 use Rattle.ovn_base.specs.declared.name.Name.{Name}
 use Rattle.ovn_base.specs.declared.address.Birth.{Birth}
-use Rattle.tunnel_keys.specs.ByName.{IsByName}
-use Rattle.tunnel_keys.specs.Owners.{IsEachOnce}
+use Rattle.ovn_base.specs.ByName.{IsByName}
+use Rattle.ovn_base.specs.Once.{EachOnce}
 use Rattle.std.proofs.Common.{append_assoc, length-append}
 use Rattle.tunnel_keys.specs.Keys.{numbers_to, free_in, free_one, IsFreeIn}
 use Rattle.tunnel_keys.specs.Giving.{with_keys}
@@ -41,7 +41,7 @@ in_numbers (suc n) k m = elim (among_append k (numbers_to n) (suc n ∷ []) m) [
   | inr b ↦ elim (among_cases k (suc n) [] b) [ inl e ↦ (omega (arith, e), omega (arith, e)) | inr c ↦ absurd (among_none k c) ]
 ]
 
-numbers_once : (n : ℕ) → IsEachOnce (numbers_to n)
+numbers_once : (n : ℕ) → EachOnce (numbers_to n)
 unfolding numbers_to
 numbers_once zero = tt
 numbers_once (suc n) = once_more (numbers_to n) (suc n) (numbers_once n) (λ m. let r = in_numbers n (suc n) m in absurd (omega (arith, r.1)))
@@ -69,7 +69,7 @@ free_is_free range taken k m =
       free = λ a. absurd (true≢false (sym (among_member nat_eq nat_own k taken a) ∙ not_true (is_member nat_eq taken k) r.1));
     }
 
-pub free_once : (range : ℕ) (taken : List ℕ) → IsEachOnce (free_in range taken)
+pub free_once : (range : ℕ) (taken : List ℕ) → EachOnce (free_in range taken)
 free_once range taken = once_filter (λ key. not (is_member nat_eq taken key)) (numbers_to range) (numbers_once range)
 
 pub free_below : (range : ℕ) (taken : List ℕ) → AllByRecursion (λ k. k ≤ range) (free_in range taken)
@@ -130,7 +130,7 @@ module _ {X : Type 0} (make : Birth → ℕ → X) where
         subst (λ k. Among k keys) (sym (ap (λ (f : Name × X). key_of f.1) r.4 ∙ told r.0.1 r.1)) r.3
 
     -- no two have one key
-    pub with_keys_apart : (as' : List (Name × Birth)) (keys : List ℕ) → IsEachOnce keys → (e f : Name × X) → Among e (with_keys make as' keys) → Among f (with_keys make as' keys) → key_of e.1 ≡ key_of f.1 → e ≡ f
+    pub with_keys_apart : (as' : List (Name × Birth)) (keys : List ℕ) → EachOnce keys → (e f : Name × X) → Among e (with_keys make as' keys) → Among f (with_keys make as' keys) → key_of e.1 ≡ key_of f.1 → e ≡ f
     with_keys_apart [] keys once e f m n same = absurd (among_none e m)
     with_keys_apart (b ∷ bs) [] once e f m n same = absurd (among_none e m)
     with_keys_apart (b ∷ bs) (k ∷ ks) once e f m n same = elim (among_cases e (b.0, make b.1 k) (with_keys make bs ks) m) [

@@ -8,7 +8,7 @@ use Rattle.std.proofs.lemmas.Option.{none-some, same_Some}
 use Rattle.ovn_base.specs.Among.{Among}
 use Rattle.ovn_base.proofs.AmongLaws.{among_left, among_filter_map}
 use Rattle.ovn_base.specs.declared.name.Name.{Name}
-use Rattle.tunnel_keys.specs.ByName.{at}
+use Rattle.ovn_base.specs.ByName.{at}
 use Rattle.tunnel_keys.specs.Keys.{Keys, IsKeys, held_port, held_ports}
 use Rattle.tunnel_keys.specs.declared.owner.DatapathKey.{DatapathKey}
 use Rattle.tunnel_keys.specs.declared.owner.PortKey.{PortKey}

@@ -1,5 +1,4 @@
 -- Lemmas.
-pub mod Puts
 pub mod Lists
 pub mod UnderLaws
 pub mod FreeKeys

@@ -15,9 +15,9 @@ use Rattle.std.proofs.lemmas.Option.{none-some}
 use Rattle.ovn_base.specs.Among.{Among, here, there}
 use Rattle.ovn_base.proofs.AmongLaws.{among_same, among_none, among_cases, among_append, among_filter, filter_among}
 use Rattle.ovn_base.specs.declared.name.Name.{Name}
-use Rattle.tunnel_keys.specs.ByName.{at, put, put_all, in_order, IsByName}
-use Rattle.tunnel_keys.specs.Owners.{IsEachOnce}
-use Rattle.tunnel_keys.proofs.Puts.{one_or_two, at_head, at_tail, put_there, put_other, put_cases, put_length, put_sorted, at_among, among_at}
+use Rattle.ovn_base.specs.ByName.{at, put, put_all, in_order, IsByName}
+use Rattle.ovn_base.specs.Once.{EachOnce}
+use Rattle.ovn_base.proofs.Puts.{one_or_two, at_head, at_tail, put_there, put_other, put_cases, put_length, put_sorted, at_among, among_at}
 
 -- ---- each once
 
@@ -27,7 +27,7 @@ module _ {X : Type 0} where
   append_none (x ∷ xs) = ap (λ ys. x ∷ ys) (append_none xs)
 
   -- one more behind the others
-  pub once_more : (xs : List X) (x : X) → IsEachOnce xs → (¬ Among x xs) → IsEachOnce (xs ++ x ∷ [])
+  pub once_more : (xs : List X) (x : X) → EachOnce xs → (¬ Among x xs) → EachOnce (xs ++ x ∷ [])
   once_more [] x o n = ((λ m. among_none x m), tt)
   once_more (y ∷ ys) x o n = (
     (λ m. elim (among_append y ys (x ∷ []) m) [ inl a ↦ o.0 a | inr b ↦ elim (among_cases y x [] b) [ inl e ↦ n (among_same x y ys (sym e)) | inr c ↦ among_none y c ] ]),
@@ -35,11 +35,11 @@ module _ {X : Type 0} where
   )
 
   -- those that pass a test
-  pub once_filter : (p : X → Bool) (xs : List X) → IsEachOnce xs → IsEachOnce (filter p xs)
+  pub once_filter : (p : X → Bool) (xs : List X) → EachOnce xs → EachOnce (filter p xs)
   once_filter p [] o = tt
   once_filter p (x ∷ xs) o = by (p x) (once_filter p xs o.1)
     where
-      by : (b : Bool) → IsEachOnce (filter p xs) → IsEachOnce (cond b (x ∷ filter p xs) (filter p xs))
+      by : (b : Bool) → EachOnce (filter p xs) → EachOnce (cond b (x ∷ filter p xs) (filter p xs))
       by true ih = ((λ m. o.0 (filter_among p x xs m).0), ih)
       by false ih = ih
 

@@ -8,8 +8,10 @@ use Rattle.ovn_base.specs.Among.{Among, here, there}
 use Rattle.ovn_base.proofs.AmongLaws.{among_any, any_among, filter_map_among, among_filter_map}
 use Rattle.ovn_base.specs.declared.name.Name.{Name}
 use Rattle.ovn_base.specs.declared.address.Birth.{Birth}
-use Rattle.tunnel_keys.specs.Same.{same_name, same_owner, owner_exact, owner_own, name_exact, name_own}
-use Rattle.tunnel_keys.specs.Owners.{is_listed, IsEachOnce, as_datapath, as_port_of, datapaths_in, ports_in}
+use Rattle.ovn_base.specs.SameName.{same_name}
+use Rattle.ovn_base.specs.Once.{EachOnce}
+use Rattle.tunnel_keys.specs.Same.{same_owner, owner_exact, owner_own, name_exact, name_own}
+use Rattle.tunnel_keys.specs.Owners.{is_listed, as_datapath, as_port_of, datapaths_in, ports_in}
 use Rattle.tunnel_keys.specs.declared.owner.KeyOwner.{KeyOwner}
 use Rattle.tunnel_keys.specs.declared.owner.KeyOwner.TheVariants.{Datapath, Port}
 use Rattle.tunnel_keys.proofs.Lists.{NamesOnce}
@@ -49,7 +51,7 @@ in_datapaths owners n b m =
 pub datapaths_have : (owners : List KeyOwner) (n : Name) (b : Birth) → Among (Datapath n b) owners → Among (n, b) (datapaths_in owners)
 datapaths_have owners n b m = among_filter_map as_datapath (Datapath n b) (n, b) owners m refl
 
-pub datapaths_once : (owners : List KeyOwner) → IsEachOnce owners → ((n : Name) (b c : Birth) → Among (Datapath n b) owners → Among (Datapath n c) owners → b ≡ c) → NamesOnce (datapaths_in owners)
+pub datapaths_once : (owners : List KeyOwner) → EachOnce owners → ((n : Name) (b c : Birth) → Among (Datapath n b) owners → Among (Datapath n c) owners → b ≡ c) → NamesOnce (datapaths_in owners)
 datapaths_once [] once one = tt
 datapaths_once (Port d n b ∷ os) once one = datapaths_once os once.1 (λ m a c p q. one m a c (there p) (there q))
 datapaths_once (Datapath n b ∷ os) once one = (
@@ -82,7 +84,7 @@ in_ports owners d n b m =
 pub ports_have : (owners : List KeyOwner) (d n : Name) (b : Birth) → Among (Port d n b) owners → Among (n, b) (ports_in d owners)
 ports_have owners d n b m = among_filter_map (as_port_of d) (Port d n b) (n, b) owners m (ap (λ t. cond {A = Option (Name × Birth)} t (Some (n, b)) None) (name_own d))
 
-pub ports_once : (d : Name) (owners : List KeyOwner) → IsEachOnce owners → ((n : Name) (b c : Birth) → Among (Port d n b) owners → Among (Port d n c) owners → b ≡ c) → NamesOnce (ports_in d owners)
+pub ports_once : (d : Name) (owners : List KeyOwner) → EachOnce owners → ((n : Name) (b c : Birth) → Among (Port d n b) owners → Among (Port d n c) owners → b ≡ c) → NamesOnce (ports_in d owners)
 ports_once d [] once one = tt
 ports_once d (Datapath n b ∷ os) once one = ports_once d os once.1 (λ m a c p q. one m a c (there p) (there q))
 ports_once d (Port f n b ∷ os) once one = by (same_name d f) refl (ports_once d os once.1 (λ m a c p q. one m a c (there p) (there q)))

@@ -3,8 +3,8 @@ use Rattle.std.specs.Prelude.{◌≡◌, ◌≢◌, ℕ, ◌⊎◌, List, map, l
 use Rattle.ovn_base.specs.Among.{Among}
 use Rattle.ovn_base.specs.declared.name.Name.{Name}
 use Rattle.ovn_base.specs.declared.address.Birth.{Birth}
-use Rattle.tunnel_keys.specs.ByName.{at, IsByName}
-use Rattle.tunnel_keys.specs.Owners.{IsEachOnce}
+use Rattle.ovn_base.specs.ByName.{at, IsByName}
+use Rattle.ovn_base.specs.Once.{EachOnce}
 use Rattle.tunnel_keys.specs.Keys.{Keys, retire, held_datapaths, held_ports, IsLegalDatapathKey, IsLegalPortKey, free_datapath_keys, free_port_keys}
 use Rattle.tunnel_keys.specs.declared.owner.Identity.{Identity}
 use Rattle.tunnel_keys.specs.declared.owner.DatapathKey.{DatapathKey}
@@ -33,8 +33,8 @@ IsThereAfter keys added removed owner = (IsLive keys owner × (¬ Among owner re
 -- the edit fits the keys
 pub record IsEdit (keys : Keys) (added removed : List KeyOwner) : Type 0 where
   -- no owner stands twice
-  pub added_once : IsEachOnce added
-  pub removed_once : IsEachOnce removed
+  pub added_once : EachOnce added
+  pub removed_once : EachOnce removed
   -- those that go are there, and those that come never had a key
   pub removed_live : (owner : KeyOwner) → Among owner removed → IsLive keys owner
   pub added_new : (owner : KeyOwner) → Among owner added → IsNew keys owner

@@ -2,7 +2,8 @@
 use Rattle.std.specs.Prelude.{Bool, true, false, not, ◌&&◌, List, [], ◌∷◌, ◌++◌, map}
 use Rattle.std.specs.List.{list_any, list_all, filter}
 use Rattle.ovn_base.specs.declared.name.Name.{Name}
-use Rattle.tunnel_keys.specs.Same.{same_name, same_identity}
+use Rattle.ovn_base.specs.SameName.{same_name}
+use Rattle.tunnel_keys.specs.Same.{same_identity}
 use Rattle.tunnel_keys.specs.Owners.{is_listed}
 use Rattle.tunnel_keys.specs.Keys.{Keys, datapath_owner, port_owner, held_datapath}
 use Rattle.tunnel_keys.specs.declared.owner.Identity.{Identity}

@@ -6,8 +6,9 @@ use Rattle.std.specs.Set.{is_member}
 use Rattle.std.proofs.Math.Dec.{eqb as nat_eq}
 use Rattle.ovn_base.specs.Among.{Among}
 use Rattle.ovn_base.specs.declared.name.Name.{Name}
-use Rattle.tunnel_keys.specs.ByName.{at, IsByName}
-use Rattle.tunnel_keys.specs.Same.{same_name, same_identity}
+use Rattle.ovn_base.specs.ByName.{at, IsByName}
+use Rattle.ovn_base.specs.SameName.{same_name}
+use Rattle.tunnel_keys.specs.Same.{same_identity}
 use Rattle.tunnel_keys.specs.Owners.{is_listed}
 use Rattle.tunnel_keys.specs.declared.owner.Identity.{Identity}
 use Rattle.tunnel_keys.specs.declared.owner.DatapathKey.{DatapathKey}

@@ -1,5 +1,4 @@
 -- Definitions that contracts cite.
-pub mod ByName
 pub mod Grouped
 pub mod Same
 pub mod Owners

@@ -4,18 +4,14 @@ use Rattle.std.specs.List.{list_any, filter_map}
 use Rattle.ovn_base.specs.Among.{Among}
 use Rattle.ovn_base.specs.declared.name.Name.{Name}
 use Rattle.ovn_base.specs.declared.address.Birth.{Birth}
-use Rattle.tunnel_keys.specs.Same.{same_name, same_owner}
+use Rattle.ovn_base.specs.SameName.{same_name}
+use Rattle.tunnel_keys.specs.Same.{same_owner}
 use Rattle.tunnel_keys.specs.declared.owner.KeyOwner.{KeyOwner}
 use Rattle.tunnel_keys.specs.declared.owner.KeyOwner.TheVariants.{Datapath, Port}
 
 -- the owner is one of them
 abbrev pub is_listed : List KeyOwner → KeyOwner → Bool
 is_listed owners owner = list_any (λ o. same_owner o owner) owners
-
--- each stands once
-abbrev pub IsEachOnce : {X : Type 0} → List X → Type 0
-IsEachOnce [] = Unit {0}
-IsEachOnce (x ∷ xs) = (¬ Among x xs) × IsEachOnce xs
 
 -- the owner's name and birth, where it is a datapath
 abbrev pub as_datapath : KeyOwner → Option (Name × Birth)

@@ -7,17 +7,13 @@ use Rattle.std.proofs.Math.Dec.{eqb as nat_eq}
 use Rattle.std.proofs.lemmas.Bool.{false≢true}
 use Rattle.std.proofs.lemmas.Bool.Decides.{Decides-eqb}
 use mathlib.Core.Path.{ap, subst, ◌∙◌}
-use Rattle.ovn_base.specs.SameName.{bytes_decides}
+use Rattle.ovn_base.specs.SameName.{same_name, bytes_decides}
 use Rattle.ovn_base.specs.ByCode.{equiv_from_decides}
 use Rattle.ovn_base.specs.declared.name.Name.{Name}
 use Rattle.ovn_base.specs.declared.address.Birth.{Birth}
 use Rattle.tunnel_keys.specs.declared.owner.Identity.{Identity}
 use Rattle.tunnel_keys.specs.declared.owner.KeyOwner.{KeyOwner}
 use Rattle.tunnel_keys.specs.declared.owner.KeyOwner.TheVariants.{Datapath, Port}
-
--- the same name
-abbrev pub same_name : Name → Name → Bool
-same_name a b = pointwise nat_eq a b
 
 -- the same birth
 abbrev pub same_birth : Birth → Birth → Bool

@@ -1,7 +1,7 @@
 //! What becomes of the keys of removed owners.
 ghost use Rattle.std.specs.Prelude.{◌≡◌, ◌++◌, ◌∷◌, [], IfOk, OnOk, cond, map, not};
 ghost use Rattle.std.specs.List.{filter, filter_map, cons_option};
-ghost use Rattle.tunnel_keys.specs.ByName.{put_all, in_order};
+ghost use Rattle.ovn_base.specs.ByName.{put_all, in_order};
 ghost use Rattle.tunnel_keys.specs.Owners.{is_listed};
 ghost use Rattle.tunnel_keys.specs.Keys.{datapath_owner, port_owner, held_datapath, held_port};
 

@@ -1,7 +1,7 @@
 //! The keys of all datapaths and ports.
 ghost use Rattle.std.specs.Prelude.{◌≡◌, ◌≤◌, IfOk, IfErr};
 ghost use Rattle.std.specs.Option.{option_copied, option_map};
-ghost use Rattle.tunnel_keys.specs.ByName.{at};
+ghost use Rattle.ovn_base.specs.ByName.{at};
 ghost use Rattle.tunnel_keys.specs.Keys.{IsKeys, no_keys, settled, ports_on};
 ghost use Rattle.tunnel_keys.specs.Edits.{IsEdit, GivesKeys, GivesLeastKeys, IsPlanFor};
 ghost use Rattle.tunnel_keys.specs.Causes.{IsCause, HasKeys};

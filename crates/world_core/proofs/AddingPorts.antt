@@ -3,8 +3,8 @@ use Rattle.std.specs.Prelude.{◌≡◌, ◌≤◌, ◌<◌, ◌+◌, ◌^◌, �
 use Rattle.std.proofs.Common.{arith, sym, ap, subst, ◌∙◌}
 use mathlib.Core.Logic.{inl, inr}
 use Rattle.ovn_base.specs.declared.name.Name.{Name}
-use Rattle.nb_records.specs.Network.{at, put}
-use Rattle.nb_records.proofs.Puts.{put_cases, one_or_two}
+use Rattle.ovn_base.specs.ByName.{at, put}
+use Rattle.ovn_base.proofs.Puts.{put_cases, one_or_two}
 use Rattle.nb_records.specs.declared.record.Op.TheVariants.{Add}
 use Rattle.nb_records.specs.declared.record.Record.TheVariants as record_of
 use Rattle.nb_records.specs.declared.record.SwitchPort.{SwitchPort}

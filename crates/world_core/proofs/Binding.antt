@@ -3,7 +3,7 @@ use Rattle.std.specs.Prelude.{◌≡◌, ◌≢◌, ◌≤◌, ◌<◌, ◌+◌,
 use Rattle.std.proofs.Common.{arith, ap, ◌∙◌}
 use Rattle.ovn_base.specs.Among.{Among}
 use Rattle.ovn_base.specs.declared.name.Name.{Name}
-use Rattle.nb_records.specs.Network.{at, put}
+use Rattle.ovn_base.specs.ByName.{at, put}
 use Rattle.world_core.specs.Editing.{counted}
 use Rattle.world_core.specs.Seen.{IsConsistent}
 use Rattle.world_core.specs.Sound.{AreBound, AreSorted}

@@ -6,7 +6,7 @@ use Rattle.std.specs.Ordering.{nat_cmp, match_ordering}
 use Rattle.std.specs.declared.cmp.Ordering.TheVariants.{Less, Equal, Greater}
 use Rattle.ovn_base.specs.Among.{Among}
 use Rattle.ovn_base.specs.declared.name.Name.{Name}
-use Rattle.nb_records.specs.Network.{at, put}
+use Rattle.ovn_base.specs.ByName.{at, put}
 use Rattle.nb_records.specs.declared.record.Switch.{Switch}
 use Rattle.nb_records.specs.declared.record.SwitchPort.{SwitchPort}
 use Rattle.world_core.specs.declared.keys.DatapathKey.{DatapathKey}

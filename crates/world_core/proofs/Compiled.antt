@@ -4,17 +4,16 @@ use mathlib.Core.Path.{sym, ap, subst, ◌∙◌}
 use mathlib.Core.Logic.{inl, inr}
 use Rattle.std.proofs.lemmas.Bool.{cases_Bool}
 use Rattle.ovn_base.specs.Among.{Among, here, there}
-use Rattle.ovn_base.specs.SameName.{bytes_decides}
+use Rattle.ovn_base.specs.ByName.{at}
+use Rattle.ovn_base.specs.SameName.{bytes_decides, same_name}
 use Rattle.ovn_base.specs.declared.name.Name.{Name}
 use Rattle.ovn_base.proofs.AmongLaws.{among_append, among_cases, among_none, among_all, among_left, among_right, among_map, map_among, among_flat_map, flat_map_among}
 use Rattle.flow_table.specs.declared.flow.Flow.{Flow}
-use Rattle.nb_records.specs.Network.{at}
-use Rattle.nb_records.proofs.Puts.{among_at, at_among}
+use Rattle.ovn_base.proofs.Puts.{among_at, at_among}
 use Rattle.nb_records.specs.declared.record.Switch.{Switch}
 use Rattle.nb_records.specs.declared.record.SwitchPort.{SwitchPort}
 use Rattle.world_core.specs.declared.keys.DatapathKey.{DatapathKey}
 use Rattle.world_core.specs.declared.keys.PortKey.{PortKey}
-use Rattle.world_core.specs.State.{same_name}
 use Rattle.world_core.specs.Addresses.{mac_of}
 use Rattle.world_core.specs.Rows.{entry_row, pass_row, address_row, unknown_row, stay_row, home_row, return_row, leave_row, output_row}
 use Rattle.world_core.specs.Sound.{IsValid, HaveKeys, AreExactly}

@@ -6,8 +6,9 @@ use mathlib.Core.Logic.{inl, inr}
 use native.Mathlib.Omega.{arith}
 use Rattle.std.proofs.lemmas.Option.{none-some}
 use Rattle.ovn_base.specs.declared.name.Name.{Name}
-use Rattle.nb_records.specs.Network.{Network, at, put}
-use Rattle.nb_records.proofs.Puts.{put_there, put_other, put_cases, put_length, one_or_two}
+use Rattle.ovn_base.specs.ByName.{at, put}
+use Rattle.nb_records.specs.Network.{Network}
+use Rattle.ovn_base.proofs.Puts.{put_there, put_other, put_cases, put_length, one_or_two}
 use Rattle.world_core.specs.declared.keys.DatapathKey.{DatapathKey}
 use Rattle.world_core.specs.declared.keys.PortKey.{PortKey}
 use Rattle.world_core.specs.State.{Keys}

@@ -10,9 +10,10 @@ use Rattle.ovn_base.specs.declared.address.Ip4.{Ip4}
 use Rattle.ovn_base.specs.declared.address.Mac.{Mac}
 use Rattle.ovn_base.specs.declared.name.Name.{Name}
 use Rattle.ovn_base.proofs.AmongLaws.{among_cases, among_none}
-use Rattle.flow_table.specs.Change.{EachOnce}
-use Rattle.nb_records.specs.Network.{Network, at, put}
-use Rattle.nb_records.proofs.Puts.{put_there, put_other, put_cases, put_sorted, one_or_two}
+use Rattle.ovn_base.specs.Once.{EachOnce}
+use Rattle.ovn_base.specs.ByName.{at, put}
+use Rattle.nb_records.specs.Network.{Network}
+use Rattle.ovn_base.proofs.Puts.{put_there, put_other, put_cases, put_sorted, one_or_two}
 use Rattle.nb_records.specs.declared.record.PortAddress.{PortAddress}
 use Rattle.nb_records.specs.declared.record.Switch.{Switch}
 use Rattle.nb_records.specs.declared.record.SwitchPort.{SwitchPort}

@@ -6,7 +6,8 @@ use Rattle.std.proofs.Math.Dec.{eqb as nat_eq}
 use Rattle.std.proofs.lemmas.Bool.{cases_Bool, false≢true}
 use Rattle.std.proofs.lemmas.Bool.Decides.{Decides-eqb}
 use Rattle.std.proofs.lemmas.Option.{same_Some}
-use Rattle.ovn_base.specs.SameName.{bytes_decides}
+use Rattle.ovn_base.specs.ByName.{at}
+use Rattle.ovn_base.specs.SameName.{bytes_decides, same_name}
 use Rattle.ovn_base.specs.declared.name.Name.{Name}
 use Rattle.inet_packet.specs.declared.packet.Packet.{Packet}
 use Rattle.flow_table.specs.declared.flow.Cause.{Cause}
@@ -16,12 +17,11 @@ use Rattle.switch_engine.specs.declared.effect.Effect.{Effect}
 use Rattle.switch_engine.specs.declared.effect.Effect.TheVariants as effect
 use Rattle.switch_engine.specs.declared.effect.NetEffect.{NetEffect}
 use Rattle.switch_engine.specs.declared.effect.NetEffect.TheVariants as net
-use Rattle.nb_records.specs.Network.{at}
 use Rattle.nb_records.specs.declared.record.SwitchPort.{SwitchPort}
 use Rattle.world_core.specs.declared.keys.PortKey.{PortKey}
 use Rattle.world_core.specs.Naming.{IsNamed}
 use Rattle.world_core.specs.Shown.{shown}
-use Rattle.world_core.specs.State.{State, same_name}
+use Rattle.world_core.specs.State.{State}
 use Rattle.world_core.specs.Sound.{IsValid, HaveKeys, AreExactly, basis_at}
 use Rattle.world_core.specs.Stages.{Basis, IsPort}
 use Rattle.world_core.specs.Tables.{TableFlow}

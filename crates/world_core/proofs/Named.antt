@@ -6,13 +6,15 @@ use Rattle.ovn_base.specs.NameText.{IsName}
 use Rattle.ovn_base.specs.declared.name.Name.{Name}
 use Rattle.inet_packet.specs.declared.packet.Packet as inet
 use Rattle.flow_table.specs.declared.flow.Cause.TheVariants.{Loopback, Unbound}
-use Rattle.nb_records.specs.Network.{Network, at, with_record}
+use Rattle.ovn_base.specs.ByName.{at}
+use Rattle.ovn_base.specs.SameName.{same_name}
+use Rattle.nb_records.specs.Network.{Network, with_record}
 use Rattle.nb_records.specs.declared.record.Op.{Op}
 use Rattle.nb_records.specs.declared.record.Op.TheVariants.{Add}
 use Rattle.nb_records.specs.declared.record.Record.{Record}
 use Rattle.nb_records.specs.declared.record.Record.TheVariants as record_of
 use Rattle.nb_records.specs.declared.record.SwitchPort.{SwitchPort}
-use Rattle.nb_records.proofs.Puts.{put_cases}
+use Rattle.ovn_base.proofs.Puts.{put_cases}
 use Rattle.edit_reader.specs.declared.event.Event.{Event}
 use Rattle.edit_reader.specs.declared.event.Event.TheVariants.{Edit, Bind, AddChassis, Packet, Unread, NotBuilt}
 use Rattle.event_lines.specs.declared.refusal.Refusal.{Refusal}
@@ -22,7 +24,7 @@ use Rattle.switch_engine.specs.declared.effect.NetEffect.{NetEffect}
 use Rattle.switch_engine.specs.declared.effect.NetEffect.TheVariants as effect
 use Rattle.world_core.specs.Editing.{GivesKeys, IsLegalPick, Owner, datapath_owner, port_owner, owner_of, owners_of, with_key, key_effect, accepted, born}
 use Rattle.world_core.specs.Refusing.{refusal, refusal_of_record, is_chassis}
-use Rattle.world_core.specs.State.{State, Keys, events_of, same_name}
+use Rattle.world_core.specs.State.{State, Keys, events_of}
 use Rattle.world_core.specs.Step.{Step}
 use Rattle.world_core.specs.Unbuilt.{is_unbuilt_port}
 use Rattle.world_core.specs.Visit.{HasTarget, Target, Visit, ends_at, to_none, to_port, known, unknown}

@@ -6,12 +6,12 @@ use Rattle.std.proofs.Math.Dec.{eqb as nat_eq}
 use Rattle.std.proofs.lemmas.Bool.{cases_Bool, false≢true}
 use Rattle.std.proofs.lemmas.Bool.Decides.{Decides-eqb}
 use Rattle.ovn_base.specs.Among.{Among, here, there}
-use Rattle.ovn_base.specs.SameName.{bytes_decides}
+use Rattle.ovn_base.specs.SameName.{bytes_decides, same_name}
 use Rattle.ovn_base.specs.declared.name.Name.{Name}
 use Rattle.ovn_base.proofs.AmongLaws.{among_none, among_cases}
 use Rattle.flow_table.specs.declared.flow.Flow.{Flow}
 use Rattle.nb_records.specs.Network.{Network}
-use Rattle.nb_records.proofs.Puts.{at_among, among_at}
+use Rattle.ovn_base.proofs.Puts.{at_among, among_at}
 use Rattle.nb_records.specs.declared.record.SwitchPort.{SwitchPort}
 use Rattle.switch_engine.specs.declared.effect.Effect.{Effect}
 use Rattle.switch_engine.specs.declared.effect.Effect.TheVariants as effect
@@ -21,7 +21,7 @@ use Rattle.world_core.specs.declared.keys.DatapathKey.{DatapathKey}
 use Rattle.world_core.specs.declared.keys.PortKey.{PortKey}
 use Rattle.world_core.specs.Naming.{HasDatapathKey, HasPortKey, IsNamed}
 use Rattle.world_core.specs.Shown.{name_or_dash, datapath_named, port_named, shown}
-use Rattle.world_core.specs.State.{State, Keys, same_name}
+use Rattle.world_core.specs.State.{State, Keys}
 use Rattle.world_core.specs.Sound.{IsValid, HaveKeys, AreExactly, basis_at}
 use Rattle.world_core.specs.Stages.{Basis, IsDatapath, IsPort}
 use Rattle.world_core.specs.Tables.{TableFlow}

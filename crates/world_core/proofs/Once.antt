@@ -10,13 +10,13 @@ use Rattle.ovn_base.specs.Address.{IsMac}
 use Rattle.ovn_base.specs.declared.name.Name.{Name}
 use Rattle.ovn_base.proofs.AmongLaws.{among_append, among_cases, among_none, among_all, map_among, flat_map_among}
 use Rattle.ovn_base.proofs.MacLemmas.{same_mac_number}
-use Rattle.flow_table.specs.Change.{EachOnce}
+use Rattle.ovn_base.specs.Once.{EachOnce}
+use Rattle.ovn_base.specs.ByName.{at}
 use Rattle.flow_table.proofs.ChangeLaws.{once_append}
 use Rattle.flow_table.specs.declared.flow.Flow.{Flow}
 use Rattle.flow_table.specs.declared.flow.FlowOp.{FlowOp}
 use Rattle.flow_table.specs.declared.flow.FlowOp.TheVariants.{Set, Go, Drop, Output}
-use Rattle.nb_records.specs.Network.{at}
-use Rattle.nb_records.proofs.Puts.{among_at}
+use Rattle.ovn_base.proofs.Puts.{among_at}
 use Rattle.nb_records.specs.declared.record.PortAddress.{PortAddress}
 use Rattle.nb_records.specs.declared.record.SwitchPort.{SwitchPort}
 use Rattle.world_core.specs.declared.keys.DatapathKey.{DatapathKey}

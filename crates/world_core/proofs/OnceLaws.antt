@@ -10,10 +10,10 @@ use Rattle.std.specs.declared.cmp.Ordering.TheVariants.{Less}
 use Rattle.ovn_base.specs.Among.{Among, here, there}
 use Rattle.ovn_base.specs.declared.name.Name.{Name}
 use Rattle.ovn_base.proofs.AmongLaws.{among_map, map_among, flat_map_among, among_all}
-use Rattle.flow_table.specs.Change.{EachOnce}
+use Rattle.ovn_base.specs.Once.{EachOnce}
+use Rattle.ovn_base.specs.ByName.{IsByName}
 use Rattle.flow_table.proofs.ChangeLaws.{once_append}
-use Rattle.nb_records.specs.Network.{IsByName}
-use Rattle.nb_records.proofs.Puts.{below_apart}
+use Rattle.ovn_base.proofs.Puts.{below_apart}
 
 module _ {X Y : Type 0} where
   -- where what they have stands once, so do they

@@ -8,7 +8,9 @@ use Rattle.ovn_base.specs.declared.name.Name.{Name}
 use Rattle.inet_packet.specs.declared.packet.Packet as inet
 use Rattle.inet_packet.proofs.OnePacket.{one_packet_at_most}
 use Rattle.flow_table.specs.declared.flow.Cause.TheVariants.{Loopback, Unbound}
-use Rattle.nb_records.specs.Network.{Network, at}
+use Rattle.ovn_base.specs.ByName.{at}
+use Rattle.ovn_base.specs.SameName.{same_name}
+use Rattle.nb_records.specs.Network.{Network}
 use Rattle.nb_records.specs.declared.record.Op.TheVariants.{Add}
 use Rattle.nb_records.specs.declared.record.Record.{Record}
 use Rattle.nb_records.specs.declared.record.Record.TheVariants as record_of
@@ -26,7 +28,7 @@ use Rattle.world_core.specs.Editing.{GivesKeys, Owner, datapath_owner, port_owne
 use Rattle.world_core.specs.Picks.{Fate, was_refused, was_accepted, Happens, Run}
 use Rattle.world_core.specs.Refusing.{refusal, refusal_of_record}
 use Rattle.world_core.specs.Sound.{IsValid}
-use Rattle.world_core.specs.State.{State, Keys, events_of, same_name}
+use Rattle.world_core.specs.State.{State, Keys, events_of}
 use Rattle.world_core.specs.Step.{Step}
 use Rattle.world_core.specs.Unbuilt.{is_unbuilt_port}
 use Rattle.world_core.specs.Visit.{HasTarget, Target, Visit, ends_at, to_none, to_port, known, unknown}

@@ -23,7 +23,7 @@ use Rattle.switch_engine.specs.declared.walk.Start.TheVariants.{Port}
 use Rattle.switch_engine.specs.declared.walk.Step.{Step}
 use Rattle.switch_engine.specs.declared.walk.Walk.{Walk}
 use Rattle.switch_engine.proofs.Ranges.{IsInRange, proper_in_range}
-use Rattle.nb_records.specs.Network.{at}
+use Rattle.ovn_base.specs.ByName.{at}
 use Rattle.nb_records.specs.declared.record.SwitchPort.{SwitchPort}
 use Rattle.edit_reader.specs.declared.event.Event.{Event}
 use Rattle.edit_reader.specs.declared.event.Event.TheVariants as event_of

@@ -6,7 +6,9 @@ use Rattle.std.specs.List.{list_any}
 use Rattle.ovn_base.specs.Among.{Among}
 use Rattle.ovn_base.proofs.NameLemmas.{same_bytes}
 use Rattle.ovn_base.specs.declared.name.Name.{Name}
-use Rattle.nb_records.specs.Network.{Network, at}
+use Rattle.ovn_base.specs.ByName.{at}
+use Rattle.ovn_base.specs.SameName.{same_name}
+use Rattle.nb_records.specs.Network.{Network}
 use Rattle.nb_records.specs.declared.record.Record.TheVariants as record_of
 use Rattle.nb_records.specs.declared.record.SwitchPort.{SwitchPort}
 use Rattle.edit_reader.specs.declared.event.Event.TheVariants as event_of
@@ -14,7 +16,7 @@ use Rattle.event_lines.specs.declared.refusal.Refusal.{Refusal}
 use Rattle.world_core.specs.Admitted.{IsAdmittedRecord}
 use Rattle.world_core.specs.New.{AreNew}
 use Rattle.world_core.specs.Refusing.{refusal, refusal_of_record, is_chassis}
-use Rattle.world_core.specs.State.{State, same_name}
+use Rattle.world_core.specs.State.{State}
 use Rattle.world_core.specs.Unbuilt.{is_unbuilt_port}
 use Rattle.world_core.proofs.Kept.{new_entry}
 use Rattle.world_core.proofs.Unheld.{built, IsBuilt, all_of_stations}

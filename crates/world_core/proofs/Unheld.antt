@@ -7,17 +7,17 @@ use Rattle.std.proofs.lemmas.Bool.{cases_Bool, false≢true, or_parts, or_right,
 use Rattle.std.proofs.lemmas.Bool.Decides.{Decides-eqb}
 use Rattle.ovn_base.specs.Among.{Among}
 use Rattle.ovn_base.specs.Address.{is_multicast_mac}
-use Rattle.ovn_base.specs.SameName.{bytes_decides}
+use Rattle.ovn_base.specs.ByName.{at}
+use Rattle.ovn_base.specs.SameName.{bytes_decides, same_name}
 use Rattle.ovn_base.specs.declared.address.Ip4.{Ip4}
 use Rattle.ovn_base.specs.declared.address.Mac.{Mac}
 use Rattle.ovn_base.specs.declared.name.Name.{Name}
 use Rattle.ovn_base.proofs.AmongLaws.{among_any}
-use Rattle.nb_records.specs.Network.{Network, at}
-use Rattle.nb_records.proofs.Puts.{at_among}
+use Rattle.nb_records.specs.Network.{Network}
+use Rattle.ovn_base.proofs.Puts.{at_among}
 use Rattle.nb_records.specs.declared.record.PortAddress.{PortAddress}
 use Rattle.nb_records.specs.declared.record.PortAddress.TheVariants.{Ether}
 use Rattle.nb_records.specs.declared.record.SwitchPort.{SwitchPort}
-use Rattle.world_core.specs.State.{same_name}
 use Rattle.world_core.specs.Addresses.{mac_of, ips_of, HasMac, HasIp, IsOfStation}
 use Rattle.world_core.specs.Unbuilt.{same_mac, is_zero_mac, is_among, repeats, is_no_entry, clash, clashes, share, has_common, has_no_entry, is_held, is_unbuilt_port}
 

@@ -14,7 +14,7 @@ use Rattle.switch_engine.specs.Actions.{outcome}
 use Rattle.switch_engine.specs.Walk.{IsWalk, Follows}
 use Rattle.switch_engine.specs.declared.effect.Effect.{Effect}
 use Rattle.switch_engine.specs.declared.walk.Step.{Step}
-use Rattle.nb_records.specs.Network.{at}
+use Rattle.ovn_base.specs.ByName.{at}
 use Rattle.nb_records.specs.declared.record.SwitchPort.{SwitchPort}
 use Rattle.world_core.specs.declared.keys.PortKey.{PortKey}
 use Rattle.world_core.specs.Rows.{pass_row}

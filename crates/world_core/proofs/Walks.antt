@@ -20,7 +20,7 @@ use Rattle.switch_engine.specs.Walk.{IsWalk}
 use Rattle.switch_engine.specs.declared.effect.Effect.{Effect}
 use Rattle.switch_engine.specs.declared.effect.Effect.TheVariants as effect
 use Rattle.switch_engine.specs.declared.walk.Step.{Step}
-use Rattle.nb_records.specs.Network.{at}
+use Rattle.ovn_base.specs.ByName.{at}
 use Rattle.nb_records.specs.declared.record.SwitchPort.{SwitchPort}
 use Rattle.world_core.specs.Addresses.{mac_of}
 use Rattle.world_core.specs.Rows.{entry_row, address_row, unknown_row, stay_row, home_row, return_row, leave_row, output_row}

@@ -1,7 +1,7 @@
 -- How a world is kept: its view, and what holds of its keys and zones.
 use Rattle.std.specs.Prelude.{◌≡◌, ◌≤◌, ℕ, List, [], ◌∷◌, Some, None, Option, unwrap_or, length, true}
 use Rattle.ovn_base.specs.declared.name.Name.{Name}
-use Rattle.nb_records.specs.Network.{at}
+use Rattle.ovn_base.specs.ByName.{at}
 use Rattle.world_core.specs.declared.keys.DatapathKey.{DatapathKey}
 use Rattle.world_core.specs.declared.keys.PortKey.{PortKey}
 use Rattle.world_core.specs.declared.world.World.TheInside.{Inside}

@@ -5,8 +5,9 @@ use Rattle.ovn_base.specs.Address.{IsMac}
 use Rattle.ovn_base.specs.declared.address.Ip4.{Ip4}
 use Rattle.ovn_base.specs.declared.address.Mac.{Mac}
 use Rattle.ovn_base.specs.declared.name.Name.{Name}
-use Rattle.flow_table.specs.Change.{EachOnce}
-use Rattle.nb_records.specs.Network.{Network, at}
+use Rattle.ovn_base.specs.Once.{EachOnce}
+use Rattle.ovn_base.specs.ByName.{at}
+use Rattle.nb_records.specs.Network.{Network}
 use Rattle.nb_records.specs.declared.record.PortAddress.{PortAddress}
 use Rattle.nb_records.specs.declared.record.SwitchPort.{SwitchPort}
 use Rattle.world_core.specs.Addresses.{mac_of, HasMac, HasIp, IsOfStation}

@@ -6,7 +6,7 @@ use Rattle.inet_packet.specs.declared.packet.Packet as inet
 use Rattle.inet_packet.specs.Frame.{frame_of}
 use Rattle.inet_packet.specs.Whole.{IsWhole}
 use Rattle.flow_table.specs.declared.flow.Flow.{Flow}
-use Rattle.nb_records.specs.Network.{at}
+use Rattle.ovn_base.specs.ByName.{at}
 use Rattle.edit_reader.specs.declared.event.Event.{Event}
 use Rattle.edit_reader.specs.declared.event.Event.TheVariants.{Edit, Bind, AddChassis, Packet, Unread, NotBuilt}
 use Rattle.switch_engine.specs.declared.effect.Effect.{Effect}

@@ -5,7 +5,7 @@ use Rattle.inet_packet.specs.declared.packet.Packet as inet
 use Rattle.inet_packet.specs.Frame.{frame_of}
 use Rattle.inet_packet.specs.Whole.{IsWhole}
 use Rattle.flow_table.specs.declared.flow.Flow.{Flow}
-use Rattle.nb_records.specs.Network.{at}
+use Rattle.ovn_base.specs.ByName.{at}
 use Rattle.edit_reader.specs.declared.event.Event.{Event}
 use Rattle.event_lines.specs.declared.refusal.StepFault.{StepFault}
 use Rattle.event_lines.specs.declared.refusal.StepFault.TheVariants.{Refused, Memory}

@@ -2,7 +2,9 @@
 use Rattle.std.specs.Prelude.{◌||◌, Bool, List, [], ◌∷◌, Some, None, Option, if◌then◌else◌, is_some, nat_le, nat_lt, length}
 use Rattle.std.specs.List.{list_any}
 use Rattle.ovn_base.specs.declared.name.Name.{Name}
-use Rattle.nb_records.specs.Network.{Network, at}
+use Rattle.ovn_base.specs.ByName.{at}
+use Rattle.ovn_base.specs.SameName.{same_name}
+use Rattle.nb_records.specs.Network.{Network}
 use Rattle.nb_records.specs.declared.record.Op.{Op}
 use Rattle.nb_records.specs.declared.record.Op.TheVariants.{Add}
 use Rattle.nb_records.specs.declared.record.Record.{Record}
@@ -11,7 +13,7 @@ use Rattle.edit_reader.specs.declared.event.Event.{Event}
 use Rattle.edit_reader.specs.declared.event.Event.TheVariants.{Edit, Bind, AddChassis, Packet, Unread, NotBuilt}
 use Rattle.event_lines.specs.declared.refusal.Refusal.{Refusal}
 use Rattle.event_lines.specs.declared.refusal.Refusal.TheVariants as why
-use Rattle.world_core.specs.State.{State, same_name}
+use Rattle.world_core.specs.State.{State}
 use Rattle.world_core.specs.Unbuilt.{is_unbuilt_port}
 
 -- why an added record is refused

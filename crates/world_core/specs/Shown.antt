@@ -7,7 +7,8 @@ use Rattle.switch_engine.specs.declared.effect.Effect.{Effect}
 use Rattle.switch_engine.specs.declared.effect.Effect.TheVariants as effect
 use Rattle.switch_engine.specs.declared.effect.NetEffect.{NetEffect}
 use Rattle.switch_engine.specs.declared.effect.NetEffect.TheVariants as net
-use Rattle.world_core.specs.State.{Keys, same_name}
+use Rattle.ovn_base.specs.SameName.{same_name}
+use Rattle.world_core.specs.State.{Keys}
 
 -- the name of an entry that was found, and `-` where none was
 abbrev pub name_or_dash : {X : Type 0} → Option (Name × X) → Name

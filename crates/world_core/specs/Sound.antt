@@ -9,9 +9,10 @@ use Rattle.ovn_base.specs.Address.{IsMac}
 use Rattle.ovn_base.specs.declared.address.Ip4.{Ip4}
 use Rattle.ovn_base.specs.declared.address.Mac.{Mac}
 use Rattle.ovn_base.specs.declared.name.Name.{Name}
-use Rattle.flow_table.specs.Change.{EachOnce}
+use Rattle.ovn_base.specs.Once.{EachOnce}
+use Rattle.ovn_base.specs.ByName.{at}
 use Rattle.flow_table.specs.declared.flow.Flow.{Flow}
-use Rattle.nb_records.specs.Network.{Network, at, empty_network}
+use Rattle.nb_records.specs.Network.{Network, empty_network}
 use Rattle.nb_records.specs.declared.record.PortAddress.{PortAddress}
 use Rattle.nb_records.specs.declared.record.Switch.{Switch}
 use Rattle.nb_records.specs.declared.record.SwitchPort.{SwitchPort}

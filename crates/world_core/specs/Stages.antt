@@ -3,7 +3,8 @@ use Rattle.std.specs.Prelude.{◌≡◌, ℕ, List, Some}
 use Rattle.ovn_base.specs.Among.{Among}
 use Rattle.ovn_base.specs.declared.name.Name.{Name}
 use Rattle.flow_table.specs.declared.flow.Flow.{Flow}
-use Rattle.nb_records.specs.Network.{Network, at}
+use Rattle.ovn_base.specs.ByName.{at}
+use Rattle.nb_records.specs.Network.{Network}
 use Rattle.nb_records.specs.declared.record.PortAddress.{PortAddress}
 use Rattle.nb_records.specs.declared.record.Switch.{Switch}
 use Rattle.nb_records.specs.declared.record.SwitchPort.{SwitchPort}

@@ -1,7 +1,5 @@
 -- The state of the network: its records, its chassis, the bindings of its ports, and the tunnel keys.
-use Rattle.std.specs.Prelude.{ℕ, ◌+◌, List, [], Bool}
-use Rattle.std.specs.Cmp.Lexicographic.{pointwise}
-use Rattle.std.proofs.Math.Dec.{eqb as nat_eq}
+use Rattle.std.specs.Prelude.{ℕ, ◌+◌, List, []}
 use Rattle.ovn_base.specs.declared.name.Name.{Name}
 use Rattle.nb_records.specs.Network.{Network, empty_network}
 use Rattle.world_core.specs.declared.keys.DatapathKey.{DatapathKey}
@@ -34,7 +32,3 @@ no_keys = record { datapaths = []; ports = [] }
 -- no record, no chassis, no event
 abbrev pub empty : State
 empty = record { net = empty_network; chassis = []; bindings = []; keys = no_keys; accepted = 0; refused = 0 }
-
--- the names are one
-abbrev pub same_name : Name → Name → Bool
-same_name a b = pointwise nat_eq a b

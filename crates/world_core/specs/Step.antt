@@ -4,7 +4,7 @@ use Rattle.ovn_base.specs.declared.name.Name.{Name}
 use Rattle.inet_packet.specs.declared.packet.Packet as inet
 use Rattle.inet_packet.specs.Frame.{frame_of}
 use Rattle.inet_packet.specs.Whole.{IsWhole}
-use Rattle.nb_records.specs.Network.{put}
+use Rattle.ovn_base.specs.ByName.{put}
 use Rattle.edit_reader.specs.declared.event.Event.{Event}
 use Rattle.edit_reader.specs.declared.event.Event.TheVariants.{Edit, Bind, AddChassis, Packet, Unread, NotBuilt}
 use Rattle.switch_engine.specs.declared.effect.NetEffect.{NetEffect}

@@ -4,12 +4,14 @@ use Rattle.ovn_base.specs.declared.address.Mac.{Mac}
 use Rattle.ovn_base.specs.declared.name.Name.{Name}
 use Rattle.inet_packet.specs.declared.packet.Packet.{Packet}
 use Rattle.flow_table.specs.declared.flow.Cause.TheVariants.{UnknownAddress, Loopback, Unbound}
-use Rattle.nb_records.specs.Network.{Network, at}
+use Rattle.ovn_base.specs.ByName.{at}
+use Rattle.ovn_base.specs.SameName.{same_name}
+use Rattle.nb_records.specs.Network.{Network}
 use Rattle.nb_records.specs.declared.record.SwitchPort.{SwitchPort}
 use Rattle.switch_engine.specs.declared.effect.NetEffect.{NetEffect}
 use Rattle.switch_engine.specs.declared.effect.NetEffect.TheVariants.{Out, Drop}
 use Rattle.world_core.specs.Addresses.{HasMac}
-use Rattle.world_core.specs.State.{State, same_name}
+use Rattle.world_core.specs.State.{State}
 
 -- the port is one of the switch, and has the address
 pub record IsTarget (net : Network) (switch : Name) (mac : Mac) (q : Name) (port : SwitchPort) : Type 0 where

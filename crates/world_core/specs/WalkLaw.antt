@@ -10,7 +10,7 @@ use Rattle.switch_engine.specs.declared.effect.Entry.TheVariants.{Vif}
 use Rattle.switch_engine.specs.declared.effect.NetEffect.{NetEffect}
 use Rattle.switch_engine.specs.declared.walk.Step.{Step}
 use Rattle.switch_engine.specs.Walk.{IsWalk, start_regs}
-use Rattle.nb_records.specs.Network.{at}
+use Rattle.ovn_base.specs.ByName.{at}
 use Rattle.world_core.specs.Naming.{IsNamed}
 use Rattle.world_core.specs.State.{State}
 use Rattle.world_core.specs.Sound.{IsValid, HaveKeys, AreBound, AreExactly, basis_at}

@@ -1,7 +1,7 @@
 -- The numbers of the zones of bound ports.
 use Rattle.std.specs.Prelude.{◌+◌, ℕ, List, unwrap_or, length}
 use Rattle.ovn_base.specs.declared.name.Name.{Name}
-use Rattle.nb_records.specs.Network.{at, put}
+use Rattle.ovn_base.specs.ByName.{at, put}
 use Rattle.edit_reader.specs.declared.event.Event.{Event}
 use Rattle.edit_reader.specs.declared.event.Event.TheVariants.{Edit, Bind, AddChassis, Packet, Unread, NotBuilt}
 

@@ -1,8 +1,8 @@
 //! The flows of a chassis, from its records, keys and homes.
 ghost use Rattle.std.specs.Prelude.{◌≡◌, ◌++◌, IfOk, OnOk};
-ghost use Rattle.nb_records.specs.Network.{at};
+ghost use Rattle.ovn_base.specs.ByName.{at};
+ghost use Rattle.ovn_base.specs.Once.{EachOnce};
 ghost use Rattle.world_core.specs.Tables.{TableFlow, table_flows, zone_here, switch_part, port_part};
-ghost use Rattle.flow_table.specs.Change.{EachOnce};
 ghost use Rattle.world_core.specs.Compiling.{basis_of};
 ghost use Rattle.world_core.specs.Holding.{HaveSame};
 ghost use Rattle.world_core.specs.Sound.{IsValid, HaveKeys, AreExactly};

@@ -1,8 +1,8 @@
 //! The state of the network and of its chassis, and its steps.
 ghost use Rattle.std.specs.Prelude.{◌-◌, min, ◌++◌, ◌↔◌, IsTrue, OnErr, slice_get, ◌≡◌, ◌+◌, ◌<◌, ◌^◌, [], ◌∷◌, None, Some, false, IfOk, OnOk, length};
 ghost use Rattle.ovn_base.specs.declared.name.Name.{Name};
-ghost use Rattle.flow_table.specs.Change.{EachOnce};
-ghost use Rattle.nb_records.specs.Network.{at, put};
+ghost use Rattle.ovn_base.specs.Once.{EachOnce};
+ghost use Rattle.ovn_base.specs.ByName.{at, put};
 ghost use Rattle.nb_records.specs.declared.record.Op.TheVariants.{Add};
 ghost use Rattle.nb_records.specs.declared.record.Record.TheVariants as record_of;
 ghost use Rattle.world_core.specs.Editing.{Edits, counted, with_name};

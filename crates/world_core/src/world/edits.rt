@@ -1,6 +1,6 @@
 //! Records that come into a world.
 ghost use Rattle.std.specs.Prelude.{◌≡◌, ◌+◌, ◌<◌, ◌^◌, [], ◌∷◌, None, Some, false, IfOk, OnOk, IsSome, length};
-ghost use Rattle.nb_records.specs.Network.{at, put};
+ghost use Rattle.ovn_base.specs.ByName.{at, put};
 ghost use Rattle.nb_records.specs.declared.record.Op.TheVariants.{Add};
 ghost use Rattle.nb_records.specs.declared.record.Record.TheVariants as record_of;
 ghost use Rattle.world_core.specs.Editing.{Edits};

@@ -1,7 +1,7 @@
 //! Where ports are bound.
 ghost use Rattle.std.specs.Prelude.{◌≡◌, ◌<◌, ◌^◌, [], false, OnOk, IsSome};
 ghost use Rattle.ovn_base.specs.Among.{Among};
-ghost use Rattle.nb_records.specs.Network.{at, put};
+ghost use Rattle.ovn_base.specs.ByName.{at, put};
 ghost use Rattle.world_core.specs.Editing.{counted, with_name};
 ghost use Rattle.world_core.specs.Seen.{IsConsistent};
 ghost use Rattle.world_core.specs.State.{events_of};

@@ -1,6 +1,6 @@
 //! Packets that go through the tables of a world.
 ghost use Rattle.std.specs.Prelude.{◌≡◌, ◌<◌, ◌^◌, List, IfOk, IsSome};
-ghost use Rattle.nb_records.specs.Network.{at};
+ghost use Rattle.ovn_base.specs.ByName.{at};
 ghost use Rattle.inet_packet.specs.Frame.{frame_of};
 ghost use Rattle.inet_packet.specs.Whole.{IsWhole};
 ghost use Rattle.edit_reader.specs.Reads.{IsPlainFrame};

@@ -3,7 +3,7 @@ use mathlib.Core.Path.{subst, sym, ap, ◌∙◌}
 use mathlib.Core.Logic.{inl, inr}
 use Rattle.ovn_base.specs.Among.{Among}
 use Rattle.ovn_base.proofs.AmongLaws.{among_none, among_cases}
-use Rattle.flow_table.specs.Change.{EachOnce}
+use Rattle.ovn_base.specs.Once.{EachOnce}
 use Rattle.flow_table.specs.declared.flow.Flow.{Flow}
 use Rattle.flow_table.proofs.ChangeLaws.{once_from_map}
 use Rattle.flow_table.proofs.Numbers.{number_apart}

@@ -1,4 +1,4 @@
-use Rattle.std.proofs.Common.{◌≡◌, ◌+◌, ◌<◌, ⊎_elim, ℕ, [], true, length, List, arith, ap, sym, ◌∙◌, subst}
+use Rattle.std.proofs.Common.{◌≡◌, ◌+◌, ◌<◌, ⊎_elim, ℕ, [], true, length, List, arith, ap, sym, ◌∙◌, subst, true≢false}
 use Rattle.std.proofs.lemmas.Result.{err_from_is_err_and}
 use Rattle.ovn_base.specs.Lines.{HasNoFeed, ended_lines}
 use Rattle.ovn_base.specs.Reading.{Reading}
@@ -51,6 +51,8 @@ line-preserved g c =
       seen = searched-front _ _ _ searched.none searched.all more.front;
       sound = more.faulted ∙ searched.faulted;
       ended = λ _. c.line.invariant.ended ended;
+      after_end = λ h. absurd (true≢false (sym h ∙ c.line.invariant.ended ended));
+      at_end = λ _ h. more.at_end h;
       patient = λ h. absurd (impatient c.line.buf.held c.args.buf.now.held cut.1 (c.line.invariant.patient h).1 h);
       faults = omega arith;
     }
@@ -59,6 +61,12 @@ pub returns-in_err-refill-clause-patient : goal.returns-in_err-refill-clause-pat
 returns-in_err-refill-clause-patient g c = λ h.
     let cut = c.if-cut_line.ensures.cut in
     absurd (impatient c.line.buf.held c.args.buf.now.held cut.1 (c.line.invariant.patient h).1 h)
+
+pub returns-in_err-refill-clause-after_end : goal.returns-in_err-refill-clause-after_end
+returns-in_err-refill-clause-after_end g c = λ h.
+    let cut = c.if-cut_line.ensures.cut in
+    let ended = ap (λ (x : Reading). x.ended) (sym cut.0) ∙ sym c.if-ended.ensures in
+    absurd (true≢false (sym h ∙ c.line.invariant.ended ended))
 
 pub returns-in_err-refill-clause-fault : goal.returns-in_err-refill-clause-fault
 returns-in_err-refill-clause-fault g c =

@@ -1,4 +1,5 @@
-use Rattle.std.proofs.Common.{◌≡◌, ◌≢◌, ◌+◌, ◌-◌, ◌≤◌, ◌^◌, false, cond, [], length, take}
+use Rattle.std.proofs.Common.{◌≡◌, ◌≢◌, ◌+◌, ◌-◌, ◌≤◌, ◌^◌, false, true, cond, [], length, take}
+use Rattle.std.specs.Io.KnownBytes.{IsAtEnd}
 use Rattle.ovn_base.specs.Lines.{HasNoFeed, ended_lines}
 use Rattle.ovn_base.specs.Reading.{taken}
 use Rattle.ovn_base.proofs.Going.{Going}
@@ -11,7 +12,9 @@ invariant-line g l = record {
   seen : HasNoFeed (take l.scanned l.buf.held);
   sound : l.buf.faulted ≡ false;
   ended : l.buf.ended ≡ false → l.fn.buf.ended ≡ false;
-  patient : ended_lines l.fn.buf.held ≢ [] → (g.S.Source.left l.source ≡ g.S.Source.left l.fn.source) × (l.buf.held ≡ l.fn.buf.held);
+  patient : ended_lines l.fn.buf.held ≢ [] → (l.source ≡ l.fn.source) × (l.buf.held ≡ l.fn.buf.held);
+  after_end : l.fn.buf.ended ≡ true → l.source ≡ l.fn.source;
+  at_end : l.fn.buf.ended ≡ false → l.buf.ended ≡ true → IsAtEnd (g.S.Source.left l.source);
   faults : g.S.Source.faults l.fn.source ≤ g.S.Source.faults l.source;
 }
 

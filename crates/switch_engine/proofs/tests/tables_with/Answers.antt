@@ -2,7 +2,8 @@ use Rattle.std.proofs.Common.{◌≡◌, List, [], ◌∷◌, ◌++◌, sym, ◌
 use Rattle.ovn_base.specs.Among.{Among}
 use Rattle.ovn_base.proofs.AmongLaws.{among_none, among_cases}
 use Rattle.flow_table.specs.declared.flow.Flow.{Flow}
-use Rattle.flow_table.specs.Change.{EachOnce, IsDeltaOf, IsReplaced}
+use Rattle.ovn_base.specs.Once.{EachOnce}
+use Rattle.flow_table.specs.Change.{IsDeltaOf, IsReplaced}
 use Rattle.switch_engine.proofs.tests.tables_with.Goals as goal
 
 one_comes : (flow : Flow) (flows added removed : List Flow) → flows ≡ [] → added ≡ flow ∷ [] → IsDeltaOf flows (record { added = added; removed = removed })

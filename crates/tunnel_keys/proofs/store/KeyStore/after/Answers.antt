@@ -1,6 +1,6 @@
 use Rattle.std.proofs.Common.{sym, ◌∙◌, ap, subst}
 use Rattle.std.proofs.lemmas.Result.{err_from_is_err_and}
-use Rattle.tunnel_keys.specs.ByName.{put_all}
+use Rattle.ovn_base.specs.ByName.{put_all}
 use Rattle.tunnel_keys.specs.Keys.{Keys}
 use Rattle.tunnel_keys.specs.Edits.{IsEdit, GivesKeys, GivesLeastKeys}
 use Rattle.tunnel_keys.specs.Causes.{IsCause, HasKeys}

@@ -1,6 +1,6 @@
 use Rattle.std.proofs.Common.{◌≡◌, ◌++◌, ◌∷◌}
 use Rattle.std.specs.Prelude.{flat_map}
-use Rattle.nb_records.specs.Network.{at}
+use Rattle.ovn_base.specs.ByName.{at}
 use Rattle.world_core.specs.Compiling.{basis_of}
 use Rattle.world_core.specs.Rows.{stay_row, leave_row}
 use Rattle.world_core.specs.Tables.{table_flows, switch_part, port_part, zone_here}

@@ -1,7 +1,7 @@
 use Rattle.std.proofs.Common.{◌≡◌, ◌&&◌}
 use Rattle.std.specs.List.{find}
 use Rattle.std.proofs.Math.Dec.{eqb as nat_eq}
-use Rattle.world_core.specs.State.{same_name}
+use Rattle.ovn_base.specs.SameName.{same_name}
 use Rattle.world_core.proofs.naming.Numbers.port.Given as goal
 
 -- it is among those that are left

@@ -1,9 +1,10 @@
 use Rattle.std.proofs.Common.{◌≡◌, ◌≤◌, ◌<◌, ◌+◌, ◌^◌, ◌++◌, suc, length, IsSome, None, unwrap_or, subst, sym, ap, arith, ◌∙◌, ◌∷◌, []}
 use Rattle.std.proofs.lemmas.Bool.{false≢true}
-use Rattle.nb_records.specs.Network.{Network, at, put}
+use Rattle.ovn_base.specs.ByName.{at, put}
+use Rattle.nb_records.specs.Network.{Network}
 use Rattle.nb_records.specs.declared.record.Op.TheVariants.{Add}
 use Rattle.nb_records.specs.declared.record.Record.TheVariants as record_of
-use Rattle.nb_records.proofs.Puts.{put_length}
+use Rattle.ovn_base.proofs.Puts.{put_length}
 use Rattle.switch_engine.specs.declared.effect.NetEffect.TheVariants as effect
 use Rattle.world_core.specs.Editing.{Edits, IsFreePortKey, counted}
 use Rattle.world_core.specs.Inside.{seen_of}

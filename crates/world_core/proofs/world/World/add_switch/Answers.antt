@@ -1,7 +1,8 @@
 use Rattle.std.proofs.Common.{◌≡◌, ◌≤◌, ◌<◌, ◌+◌, ◌^◌, ◌++◌, ℕ, length, Some, None, subst, sym, ap, arith, ◌∙◌, ◌∷◌, []}
 use Rattle.std.proofs.lemmas.Bool.{false≢true}
 use Rattle.ovn_base.specs.declared.name.Name.{Name}
-use Rattle.nb_records.specs.Network.{Network, at}
+use Rattle.ovn_base.specs.ByName.{at}
+use Rattle.nb_records.specs.Network.{Network}
 use Rattle.nb_records.specs.declared.record.Op.TheVariants.{Add}
 use Rattle.nb_records.specs.declared.record.Record.TheVariants as record_of
 use Rattle.switch_engine.specs.declared.effect.NetEffect.TheVariants as effect

@@ -1,6 +1,6 @@
 use Rattle.std.proofs.Common.{◌≡◌, ◌≤◌, ◌<◌, ◌+◌, ◌^◌, length, IsSome, unwrap_or, subst, sym, ap, arith, ◌∙◌}
 use Rattle.ovn_base.specs.Among.{Among}
-use Rattle.nb_records.specs.Network.{at, put}
+use Rattle.ovn_base.specs.ByName.{at, put}
 use Rattle.world_core.specs.Editing.{counted}
 use Rattle.world_core.specs.Inside.{seen_of}
 use Rattle.world_core.specs.Seen.{IsConsistent}

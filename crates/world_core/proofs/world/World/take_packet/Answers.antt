@@ -1,5 +1,5 @@
 use Rattle.std.proofs.Common.{◌≡◌, ◌+◌, subst, refl}
-use Rattle.nb_records.specs.Network.{at}
+use Rattle.ovn_base.specs.ByName.{at}
 use Rattle.world_core.specs.Editing.{counted}
 use Rattle.world_core.specs.Inside.{seen_of}
 use Rattle.world_core.proofs.Finishing.{proper_flows, packet_done}

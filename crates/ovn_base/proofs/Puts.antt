@@ -18,7 +18,7 @@ use Rattle.ovn_base.specs.Among.{Among, here, there}
 use Rattle.ovn_base.proofs.AmongLaws.{among_same}
 use Rattle.ovn_base.specs.SameName.{bytes_decides}
 use Rattle.ovn_base.specs.declared.name.Name.{Name}
-use Rattle.nb_records.specs.Network.{at, put, IsByName}
+use Rattle.ovn_base.specs.ByName.{at, put, IsByName}
 
 -- ---- names
 
@@ -159,7 +159,7 @@ module _ {X : Type 0} where
   ]
 
   -- the names of the entries are among the names
-  above_among : (a : Name) (q : Name) (w : X) (es : List (Name × X)) → AllByRecursion (λ y. slice_cmp nat_cmp a y ≡ Less) (keys_of es) → Among (q, w) es → slice_cmp nat_cmp a q ≡ Less
+  pub above_among : (a : Name) (q : Name) (w : X) (es : List (Name × X)) → AllByRecursion (λ y. slice_cmp nat_cmp a y ≡ Less) (keys_of es) → Among (q, w) es → slice_cmp nat_cmp a q ≡ Less
   above_among a q w es h here = h.0
   above_among a q w es h (there m) = above_among a q w _ h.1 m
 
