@@ -1,7 +1,7 @@
 -- What stands where a run stops.
 use Rattle.std.proofs.Common.{◌≡◌, ◌+◌, ◌-◌, ◌^◌, ◌<◌, ◌≤◌, ◌++◌, ℕ, Bool, true, false, List, [], ◌∷◌, length, nat_lt, Option, Some, None, IfSome, refl, sym, ap, ◌∙◌, subst, append_assoc, append-nil, arith, lt-ltb, le-ltb, cond}
 use Rattle.std.proofs.lemmas.Bool.{cond-true, cond-false}
-use Rattle.std.specs.Io.KnownBytes.{append_known}
+use Rattle.std.specs.Io.KnownBytes.{append_known, IsAtEnd}
 use Rattle.ovn_base.specs.Lines.{lines_within}
 use Rattle.ovn_base.specs.Reading.{Reading, GivesLine, Stops, taken}
 use Rattle.ovn_base.specs.Told.{WhereTold}
@@ -41,12 +41,13 @@ left_some m w e = let l = w.below e in omega arith
 pub record IsStart (m : Reading) (world : Seen) : Type 0 where
   pub within : IsWithin m
   pub unbroken : m.faulted ≡ false
+  pub not_ended : m.ended ≡ true → ⊥
   pub events : events_of world.state ≤ m.given
   pub accepted : 0 ≡ world.state.accepted
   pub refused : 0 ≡ world.state.refused
 
 fresh_start : IsStart fresh new_world
-fresh_start = record { within = record { limit = omega arith; below = λ e. cc e }; unbroken = refl; events = omega arith; accepted = refl; refused = refl }
+fresh_start = record { within = record { limit = omega arith; below = λ e. cc e }; unbroken = refl; not_ended = λ e. cc e; events = omega arith; accepted = refl; refused = refl }
 
 pub starts : (m : Reading) (world : Seen) → m ≡ fresh → world ≡ new_world → IsStart m world
 starts m world e f = rw (e, f) fresh_start
@@ -131,19 +132,22 @@ at_read X Y Z before sent m k world open' h s =
 
 -- the input has no end
 pub at_limit : (X Y Z before sent : Option (List ℕ)) (m k : Reading) (world : Seen) → m.ended ≡ false → taken k ≡ 2 ^ 40 → WhereTold X Y (Ran m world before sent) → WhereTold Y Z (Stops m k)
-    → IfSome X (GainsToLimit before sent)
+    → WhereTold X Z (GainsToLimit before sent)
 at_limit X Y Z before sent m k world open' full h s =
-    let R : List ℕ → List ℕ → Type 0 = λ x z. GainsToLimit before sent x in
-    told_some X Z R (GainsToLimit before sent) (
-    told_then X Y Z (Ran m world before sent) (Stops m k) R h s (λ x y z p q.
+    told_then X Y Z (Ran m world before sent) (Stops m k) (GainsToLimit before sent) h s (λ x y z p q.
     let all = p.count in
     let taken_is = q.count in record {
-      long = omega arith;
+      taken = omega arith;
       text = p.text;
       last = world;
       run = subst (λ ls. RunsLines ls (picks_in p.text) p.text world) (sym (ap (λ i. lines_within i x) (sym full) ∙ stop_lines m k world before sent x y z open' p q)) p.run;
       gone = p.gone;
-    })) (λ x z p. p)
+    })
+
+-- with the end seen, nothing is left
+pub stays_at_end : (b c : Bool) (X Z : Option (List ℕ)) → (b ≡ true → IsAtEnd X) → (b ≡ true → Z ≡ X) → (b ≡ false → c ≡ true → IsAtEnd Z) → c ≡ true → IsAtEnd Z
+stays_at_end true c X Z was same seen e = subst IsAtEnd (sym (same refl)) (was refl)
+stays_at_end false c X Z was same seen e = seen refl e
 
 -- the input ended
 pub at_end : (X Y Z before sent : Option (List ℕ)) (m k : Reading) (world : Seen) → IsWithin m → WhereTold X Y (Ran m world before sent) → WhereTold Y Z (GivesNext End m k)
@@ -237,9 +241,10 @@ answers_whole X before now refused h = map_some X (GainsWhole refused before now
 })
 
 -- and so is one without
-pub answers_limit : (X before now : Option (List ℕ)) → IfSome X (GainsToLimit before now) → IfSome X (Answers 8 before now)
-answers_limit X before now h = map_some X (GainsToLimit before now) (Answers 8 before now) h (λ x p.
-    let over = le-ltb (length x) (2 ^ 40) p.long in
+pub answers_limit : (X Z before now : Option (List ℕ)) → WhereTold X Z (GainsToLimit before now) → IfSome X (Answers 8 before now)
+answers_limit X Z before now h = told_some X Z (GainsToLimit before now) (Answers 8 before now) h (λ x z p.
+    let all = p.taken in
+    let over = le-ltb (length x) (2 ^ 40) (omega arith) in
     let none : end_within x p.last ≡ [] = cond-false _ _ _ over in record {
       written = p.text ++ end_within x p.last;
       gone = p.gone ∙ ap (append_known before) (sym (append-nil p.text) ∙ ap (λ y. p.text ++ y) (sym none));

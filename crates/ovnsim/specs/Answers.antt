@@ -1,5 +1,5 @@
 -- What is written for an input, and the status.
-use Rattle.std.specs.Prelude.{◌≡◌, ◌≤◌, ◌<◌, ◌++◌, ◌-◌, ◌^◌, ℕ, Bool, List, [], ◌∷◌, length, Option, nat_lt, if◌then◌else◌}
+use Rattle.std.specs.Prelude.{◌≡◌, ◌<◌, ◌+◌, ◌++◌, ◌-◌, ◌^◌, ℕ, Bool, List, [], ◌∷◌, length, Option, nat_lt, if◌then◌else◌}
 use Rattle.std.specs.Io.KnownBytes.{append_known}
 use Rattle.ovn_base.specs.Lines.{lines_within}
 use Rattle.event_lines.specs.Lines.{end_line}
@@ -75,9 +75,9 @@ pub record GainsRead (before after : Option (List ℕ)) (input left : List ℕ) 
   pub run : RunsLines (lines_within (length input - length left) input) (picks_in text) text last
   pub gone : after ≡ append_known before text
 
--- the input has no end within the limit, and the sink gained the texts of its events
-pub record GainsToLimit (before after : Option (List ℕ)) (input : List ℕ) : Type 0 where
-  pub long : 2 ^ 40 ≤ length input
+-- exactly 2^40 bytes of the input were taken, `left` were not, and the sink gained the texts of its events
+pub record GainsToLimit (before after : Option (List ℕ)) (input left : List ℕ) : Type 0 where
+  pub taken : length input ≡ 2 ^ 40 + length left
   pub text : List ℕ
   pub last : Seen
   pub run : RunsLines (lines_in input) (picks_in text) text last

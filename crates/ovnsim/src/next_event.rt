@@ -2,6 +2,7 @@
 ghost use Rattle.ovn_base.specs.Causes.{Rose};
 ghost use Rattle.ovn_base.specs.Reading.{Stops, taken, unread};
 ghost use Rattle.ovn_base.specs.Told.{WhereTold};
+ghost use Rattle.std.specs.Io.KnownBytes.{IsAtEnd};
 ghost use Rattle.std.specs.List.{AllPass};
 ghost use Rattle.std.specs.Prelude.{◌≡◌, ◌≢◌, ◌<◌, ◌≤◌, ◌↔◌, ◌^◌, false, true, Err, IfOk, IsTrue, length};
 ghost use Rattle.ovnsim.specs.Events.{AskedBy, GivesNext, is_blank};
@@ -72,6 +73,9 @@ pub fn next_event<S: Source>(alloc: Global, source: &mut S, buf: &mut LineBuf) -
     ensures no_write { result ≢ Err Stop.WriteFault }
     ensures limit { taken buf.new ≤ 2 ^ 40 }
     ensures below { buf.new.ended ≡ true → taken buf.new < 2 ^ 40 }
+    ensures after_end { buf.old.ended ≡ true → source.new ≡ source.old }
+    ensures at_end { buf.old.ended ≡ false → buf.new.ended ≡ true → IsAtEnd (S.left source.new) }
+    ensures ended { IfOk result (λ next. next ≡ Next.End → buf.new.ended ≡ true) }
     ensures faults { S.faults source.old ≤ S.faults source.new }
 {
     match next_line(source, buf) {

@@ -1,6 +1,6 @@
 //! The events of an input, taken one after another.
 ghost use Rattle.ovn_base.specs.Causes.{Rose};
-ghost use Rattle.std.specs.Io.KnownBytes.{append_known};
+ghost use Rattle.std.specs.Io.KnownBytes.{append_known, IsAtEnd};
 ghost use Rattle.std.specs.Prelude.{◌≡◌, ◌≢◌, ◌<◌, ◌≤◌, ◌+◌, ◌^◌, [], cond, false, Err, IfOk, IfSome, OnOk};
 ghost use Rattle.event_lines.specs.Lines.{end_line};
 ghost use Rattle.world_core.specs.Admitted.{IsAdmitted};
@@ -159,7 +159,8 @@ fn run_lines<S: Source, K: Sink>(
         → WhereTold (S.left source.old) (S.left source.new) (GainsRead (K.gone sink.old) (K.gone sink.new)) }
     ensures read_rose { result ≡ Err Stop.ReadFault → Rose (S.faults source.old) (S.faults source.new) }
     ensures too_long { result ≡ Err Stop.InputTooLong
-        → IfSome (S.left source.old) (GainsToLimit (K.gone sink.old) (K.gone sink.new)) }
+        → WhereTold (S.left source.old) (S.left source.new) (GainsToLimit (K.gone sink.old) (K.gone sink.new)) }
+    ensures at_end { OnOk result (IsAtEnd (S.left source.new)) }
     ensures reads { S.faults source.old ≤ S.faults source.new }
     ensures writes { K.faults sink.old ≤ K.faults sink.new }
 {
@@ -226,7 +227,8 @@ fn run_whole<S: Source, K: Sink>(
         → WhereTold (S.left source.old) (S.left source.new) (GainsRead (K.gone sink.old) (K.gone sink.new)) }
     ensures read_rose { result ≡ Err Stop.ReadFault → Rose (S.faults source.old) (S.faults source.new) }
     ensures too_long { result ≡ Err Stop.InputTooLong
-        → IfSome (S.left source.old) (GainsToLimit (K.gone sink.old) (K.gone sink.new)) }
+        → WhereTold (S.left source.old) (S.left source.new) (GainsToLimit (K.gone sink.old) (K.gone sink.new)) }
+    ensures at_end { OnOk result (IsAtEnd (S.left source.new)) }
     ensures reads { S.faults source.old ≤ S.faults source.new }
     ensures writes { K.faults sink.old ≤ K.faults sink.new }
 {
@@ -253,7 +255,8 @@ pub fn replay<S: Source, K: Sink>(alloc: Global, source: &mut S, sink: &mut K) -
         → WhereTold (S.left source.old) (S.left source.new) (GainsRead (K.gone sink.old) (K.gone sink.new)) }
     ensures read_rose { result ≡ Err Stop.ReadFault → Rose (S.faults source.old) (S.faults source.new) }
     ensures too_long { result ≡ Err Stop.InputTooLong
-        → IfSome (S.left source.old) (GainsToLimit (K.gone sink.old) (K.gone sink.new)) }
+        → WhereTold (S.left source.old) (S.left source.new) (GainsToLimit (K.gone sink.old) (K.gone sink.new)) }
+    ensures at_end { OnOk result (IsAtEnd (S.left source.new)) }
     ensures reads { S.faults source.old ≤ S.faults source.new }
     ensures writes { K.faults sink.old ≤ K.faults sink.new }
 {

@@ -1,7 +1,8 @@
 //! The program as one call.
 ghost use Rattle.ovn_base.specs.Causes.{Rose};
 ghost use Rattle.ovn_base.specs.Told.{WhereTold};
-ghost use Rattle.std.specs.Prelude.{◌≡◌, ◌≢◌, ◌==◌, ◌↔◌, ◌∷◌, [], IfSome, IsTrue, codes, false, map, string_bytes, true};
+ghost use Rattle.std.specs.Prelude.{◌≡◌, ◌≢◌, ◌==◌, ◌⊎◌, ◌↔◌, ◌∷◌, [], IfSome, IsTrue, codes, false, map, string_bytes, true};
+ghost use Rattle.std.specs.Io.KnownBytes.{IsAtEnd};
 ghost use Rattle.std.specs.List.{list_any};
 ghost use Rattle.ovnsim.specs.Answers.{Answers, GainsEvents, GainsFront, GainsRead, GainsToLimit, GainsWhole};
 
@@ -68,8 +69,9 @@ pub fn ovnsim<S: Source, K: Sink>(
         → IfSome (S.left source.old) (GainsFront (K.gone sink.old) (K.gone sink.new)) }
     ensures memory { result ≡ 6
         → IfSome (S.left source.old) (GainsEvents (K.gone sink.old) (K.gone sink.new)) }
+    ensures at_end { (result ≡ 0) ⊎ (result ≡ 3) → IsAtEnd (S.left source.new) }
     ensures too_long { result ≡ 8
-        → IfSome (S.left source.old) (GainsToLimit (K.gone sink.old) (K.gone sink.new)) }
+        → WhereTold (S.left source.old) (S.left source.new) (GainsToLimit (K.gone sink.old) (K.gone sink.new)) }
     ensures statuses { IsTrue (list_any (λ status. status == result) (0 ∷ 2 ∷ 3 ∷ 4 ∷ 5 ∷ 6 ∷ 8 ∷ [])) }
 {
     if !is_replay(words) {

@@ -1,7 +1,7 @@
 use Rattle.std.proofs.Common.{◌≡◌, ◌+◌, cond, Err, ap, refl, sym, ◌∙◌, arith}
 use Rattle.ovnsim.specs.declared.run.Stop.TheVariants.{ReadFault, WriteFault, Memory, InputTooLong}
 use Rattle.ovnsim.proofs.Running.{ran_start, turn_event, turn_passed}
-use Rattle.ovnsim.proofs.Stopped.{IsWithin, at_end, at_give, at_limit, at_memory, at_read, starts}
+use Rattle.ovnsim.proofs.Stopped.{IsWithin, at_end, at_give, at_limit, at_memory, at_read, starts, stays_at_end}
 use Rattle.ovnsim.proofs.Taken.{one_more_event, passed_on}
 use Rattle.ovnsim.proofs.run.run_lines.Goals as goal
 
@@ -11,6 +11,7 @@ lines-init g c =
       ran = ran_start _ _ _ _ c.requires.unread c.requires.empty;
       within = start.within;
       unbroken = start.unbroken;
+      at_end = λ h. absurd (start.not_ended h);
       sound = c.requires.sound;
       events = start.events;
       accepted = start.accepted;
@@ -59,6 +60,7 @@ lines-preserved-in-Found g c =
       ran = turn_event _ _ _ _ _ _ c.lines.buf c.next_event.new.buf c.lines.world c.run_event.new.world c.in-Found.event ok more before.ran found.next text;
       within = within;
       unbroken = found.sound;
+      at_end = stays_at_end _ _ _ _ before.at_end (λ h. ap (λ s. g.S.Source.left s) (c.next_event.ensures.after_end h)) c.next_event.ensures.at_end;
       sound = text.taken.sound;
       events = omega arith;
       accepted = c.add.ensures.accepted ∙ ap (λ n. n + cond ok 1 0) before.accepted ∙ sym text.taken.accepted;
@@ -77,6 +79,7 @@ lines-preserved g c =
       ran = turn_passed _ _ _ _ _ c.lines.buf c.next_event.new.buf c.lines.world more before.ran blank.next;
       within = within;
       unbroken = blank.sound;
+      at_end = stays_at_end _ _ _ _ before.at_end (λ h. ap (λ s. g.S.Source.left s) (c.next_event.ensures.after_end h)) c.next_event.ensures.at_end;
       sound = before.sound;
       events = omega arith;
       accepted = before.accepted;
@@ -89,3 +92,8 @@ pub returns-in-End-clause-texts : goal.returns-in-End-clause-texts
 returns-in-End-clause-texts g c =
     let end = rw c.in-End.is at c.in_ok-event.ensures in
     at_end _ _ _ _ _ c.lines.buf c.next_event.new.buf c.lines.world c.lines.invariant.within c.lines.invariant.ran end.next
+
+pub returns-in-End-clause-at_end : goal.returns-in-End-clause-at_end
+returns-in-End-clause-at_end g c =
+    let end = rw c.in-End.is at c.in_ok-event.ensures in
+    stays_at_end _ _ _ _ c.lines.invariant.at_end (λ h. ap (λ s. g.S.Source.left s) (c.next_event.ensures.after_end h)) c.next_event.ensures.at_end (end.ended refl)

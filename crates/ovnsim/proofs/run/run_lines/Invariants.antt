@@ -1,4 +1,5 @@
-use Rattle.std.proofs.Common.{◌≡◌, ◌-◌, ◌≤◌, ◌^◌, false}
+use Rattle.std.proofs.Common.{◌≡◌, ◌-◌, ◌≤◌, ◌^◌, false, true}
+use Rattle.std.specs.Io.KnownBytes.{IsAtEnd}
 use Rattle.ovn_base.specs.Reading.{unread}
 use Rattle.ovn_base.specs.Told.{WhereTold}
 use Rattle.world_core.specs.Seen.{IsSound}
@@ -12,6 +13,7 @@ invariant-lines g l = record {
   ran : WhereTold (g.S.Source.left l.fn.source) (unread l.buf (g.S.Source.left l.source)) (Ran l.buf l.world (g.K.Sink.gone l.fn.sink) (g.K.Sink.gone l.sink));
   within : IsWithin l.buf;
   unbroken : l.buf.faulted ≡ false;
+  at_end : l.buf.ended ≡ true → IsAtEnd (g.S.Source.left l.source);
   sound : IsSound l.world;
   events : events_of l.world.state ≤ l.buf.given;
   accepted : l.counts.accepted ≡ l.world.state.accepted;
