@@ -1,4 +1,5 @@
 ghost use Rattle.std.specs.Prelude.{IsTrue, IfOk};
+ghost use Rattle.std.specs.List.{AllByRecursion};
 ghost use Rattle.switch_engine.specs.Proper.{IsEntry, IsProper, IsProperFlow, Rises};
 
 use crate::effect::{Effect, Entry, NetEffect};
@@ -117,6 +118,18 @@ fn rises(table: u8, op: &FlowOp) -> bool
     }
 }
 
+// Whether all of them may.
+fn all_rise(table: u8, ops: &[FlowOp]) -> bool
+    ensures { IsTrue result → AllByRecursion (Rises table) ops.now }
+{
+    'ops: for op in ops {
+        if !rises(table, op) {
+            return false;
+        }
+    }
+    true
+}
+
 // Adds a proper flow.
 fn put(tables: &mut Tables, flow: Flow) -> Result<(), NoMemory>
     requires tables { IsProper tables.old.flows }
@@ -145,10 +158,8 @@ fn add<const N: usize>(
     ensures { IsProper tables.new.flows }
 {
     let ops = List::from_vec(Vec::from_array(alloc, ops)?);
-    'ops: for op in ops.as_slice() {
-        if !rises(table, op) {
-            return Ok(());
-        }
+    if !all_rise(table, ops.as_slice()) {
+        return Ok(());
     }
     let flow = Flow {
         table,
