@@ -4,7 +4,6 @@ ghost use Rattle.std.specs.Vec.{vec_capacity};
 ghost use Rattle.ovn_base.specs.Among.{Among};
 ghost use Rattle.flow_table.specs.declared.flow.Flow.{Flow};
 ghost use Rattle.ovn_base.specs.Once.{EachOnce};
-    ghost use Rattle.ovn_base.specs.Once.{EachOnce};
 ghost use Rattle.flow_table.specs.Matching.{IsBest, NoneMatches};
 
 use crate::exact::exact_flow;
@@ -28,6 +27,7 @@ pub struct Tables {
 impl Model for Tables {
     ghost use Rattle.std.specs.Prelude.{◌-◌, vec_len};
     ghost use Rattle.std.specs.Vec.{vec_capacity};
+    ghost use Rattle.ovn_base.specs.Once.{EachOnce};
     ghost use Rattle.flow_table.specs.Held.{Held};
 
     ghost Value = { Held };
