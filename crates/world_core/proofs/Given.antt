@@ -64,8 +64,7 @@ module _ (net : Network) (keys after : Keys) (have : HaveKeys net keys) (hold : 
     ];
     port_has = λ q port found. elim (put_cases net.ports p.name p q port found) [
       | inl new ↦
-          let given = gives.port_given p.switch p.name p.birth here in
-          (
+          let given = gives.port_given p.switch p.name p.birth here in (
             record { birth = p.birth; datapath = p.switch; key = given.0 },
             ap (λ n. at after.ports n) new.0 ∙ given.2,
             ap (λ (w : SwitchPort). w.birth) (sym new.1),

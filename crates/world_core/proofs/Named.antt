@@ -164,8 +164,7 @@ pub record IsNamedState (m : State) : Type 0 where
 pub step_named : (m : State) (event : Event) (effects : List NetEffect) (after : State) → IsNamedState m → IsNamedEvent event → Step m event effects after → AreNamed effects × IsNamedState after
 step_named m (Edit ops) effects after named fine h =
     let owners = owners_of ops (events_of m + 1) in
-    let between : AreRanged (retire m.keys []) = record { datapaths = named.keys.datapaths; ports = named.keys.ports } in
-    (
+    let between : AreRanged (retire m.keys []) = record { datapaths = named.keys.datapaths; ports = named.keys.ports } in (
       subst AreNamed (sym h.effects_are) (keys_named (retire m.keys []) h.keys owners between (owners_named ops (events_of m + 1) fine) h.given),
       subst (λ (s : State). IsNamedState s) (sym h.state) (record {
         ports = accepted_named m.net ops (events_of m + 1) named.ports fine;

@@ -89,8 +89,7 @@ same_picks : (f g : Name × Birth → Pick) (owners : List (Name × Birth)) (lef
 same_picks f g [] left more e = ((λ o among. absurd (among_none o among)), e)
 same_picks f g (o ∷ os) left more e =
     let first : f o ≡ g o = ap (λ ps. head_or (f o) ps) e in
-    let rest = same_picks f g os left more (ap rest_of e) in
-    (
+    let rest = same_picks f g os left more (ap rest_of e) in (
       (λ p among. elim (among_cases p o os among) [ inl is ↦ ap f is ∙ first ∙ ap g (sym is) | inr later ↦ rest.0 p later ]),
       rest.1,
     )
@@ -172,8 +171,7 @@ module _ (between : Keys) (owners : List KeyOwner) where
         let datapath_range = ga.datapath_range ∙ sym gb.datapath_range in
         let port_range = ga.port_range ∙ sym gb.port_range in
         let retired_datapaths = ga.retired_datapaths ∙ sym gb.retired_datapaths in
-        let retired_ports = ga.retired_ports ∙ sym gb.retired_ports in
-        (
+        let retired_ports = ga.retired_ports ∙ sym gb.retired_ports in (
           (λ i. record { datapath_range = datapath_range i; port_range = port_range i; datapaths = datapaths i; ports = ports i; retired_datapaths = retired_datapaths i; retired_ports = retired_ports i }),
           second.1,
         )
