@@ -1,36 +1,31 @@
 -- What holds of the state of a world after every event, and of the flows that its chassis holds.
-use Rattle.std.specs.Prelude.{◌≡◌, ◌≤◌, ◌<◌, ◌↔◌, ◌^◌, ℕ, List, Some, IsSome, length, map}
-use Rattle.std.specs.Map.{keys_of}
-use Rattle.std.specs.List.Sorted.{IsStrictlySortedBy}
-use Rattle.std.specs.Ordering.{nat_cmp}
-use Rattle.std.specs.Cmp.Lexicographic.{slice_cmp}
+use Rattle.std.specs.Prelude.{◌≡◌, ◌≤◌, ◌<◌, ◌↔◌, ◌^◌, ℕ, List, [], Some, IsSome, length, map}
 use Rattle.ovn_base.specs.Among.{Among}
 use Rattle.ovn_base.specs.Address.{IsMac}
 use Rattle.ovn_base.specs.declared.address.Ip4.{Ip4}
 use Rattle.ovn_base.specs.declared.address.Mac.{Mac}
 use Rattle.ovn_base.specs.declared.name.Name.{Name}
 use Rattle.ovn_base.specs.Once.{EachOnce}
-use Rattle.ovn_base.specs.ByName.{at}
+use Rattle.ovn_base.specs.ByName.{at, IsByName}
 use Rattle.flow_table.specs.declared.flow.Flow.{Flow}
 use Rattle.nb_records.specs.Network.{Network, empty_network}
 use Rattle.nb_records.specs.declared.record.PortAddress.{PortAddress}
 use Rattle.nb_records.specs.declared.record.Switch.{Switch}
 use Rattle.nb_records.specs.declared.record.SwitchPort.{SwitchPort}
-use Rattle.world_core.specs.declared.keys.DatapathKey.{DatapathKey}
-use Rattle.world_core.specs.declared.keys.PortKey.{PortKey}
+use Rattle.tunnel_keys.specs.Keys.{Keys, IsKeys, held_datapaths, held_ports}
+use Rattle.tunnel_keys.specs.declared.owner.DatapathKey.{DatapathKey}
+use Rattle.tunnel_keys.specs.declared.owner.PortKey.{PortKey}
+use Rattle.tunnel_keys.specs.declared.owner.HeldDatapath.{HeldDatapath}
+use Rattle.tunnel_keys.specs.declared.owner.HeldPort.{HeldPort}
 use Rattle.world_core.specs.Addresses.{mac_of, HasMac, HasIp, IsOfStation}
-use Rattle.world_core.specs.State.{State, Keys, events_of}
+use Rattle.world_core.specs.State.{State, events_of}
 use Rattle.world_core.specs.Stages.{Basis}
 use Rattle.world_core.specs.Tables.{TableFlow}
 
--- the names stand in order, each once
-abbrev pub AreSorted : {X : Type 0} → List (Name × X) → Type 0
-AreSorted entries = IsStrictlySortedBy (slice_cmp nat_cmp) (keys_of entries)
-
 -- the records are ones that edits can leave
 pub record IsValid (net : Network) : Type 0 where
-  pub switches_sorted : AreSorted net.switches
-  pub ports_sorted : AreSorted net.ports
+  pub switches_sorted : IsByName net.switches
+  pub ports_sorted : IsByName net.ports
   pub switch_names : (a : Name) (switch : Switch) → at net.switches a ≡ Some switch → switch.name ≡ a
   pub port_names : (q : Name) (port : SwitchPort) → at net.ports q ≡ Some port → port.name ≡ q
   pub on_switch : (q : Name) (port : SwitchPort) → at net.ports q ≡ Some port → IsSome (at net.switches port.switch)
@@ -49,18 +44,21 @@ pub record IsWithin (net : Network) : Type 0 where
   pub switches : length net.switches ≤ 1024
   pub ports : length net.ports ≤ 10000
 
--- each switch and each port has a key of its own, in range, and nothing else has one
+-- each switch and each port has a live key, and nothing else has one
 pub record HaveKeys (net : Network) (keys : Keys) : Type 0 where
-  pub datapaths_sorted : AreSorted keys.datapaths
-  pub ports_sorted : AreSorted keys.ports
+  -- the keys are in range, no two owners have one, and nobody has two
+  pub hold : IsKeys keys
   pub datapath_has : (a : Name) (switch : Switch) → at net.switches a ≡ Some switch → (k : DatapathKey) × (at keys.datapaths a ≡ Some k) × (k.birth ≡ switch.birth)
   pub datapath_of : (a : Name) (k : DatapathKey) → at keys.datapaths a ≡ Some k → IsSome (at net.switches a)
-  pub datapath_fits : (a : Name) (k : DatapathKey) → at keys.datapaths a ≡ Some k → (1 ≤ k.key) × (k.key < 2 ^ 24)
-  pub datapaths_apart : (a b : Name) (j k : DatapathKey) → at keys.datapaths a ≡ Some j → at keys.datapaths b ≡ Some k → j.key ≡ k.key → a ≡ b
+  -- a port's key is one of the datapath that its record names
   pub port_has : (q : Name) (port : SwitchPort) → at net.ports q ≡ Some port → (k : PortKey) × (at keys.ports q ≡ Some k) × (k.birth ≡ port.birth) × (k.datapath ≡ port.switch)
   pub port_of : (q : Name) (k : PortKey) → at keys.ports q ≡ Some k → IsSome (at net.ports q)
-  pub port_fits : (q : Name) (k : PortKey) → at keys.ports q ≡ Some k → (1 ≤ k.key) × (k.key < 2 ^ 15)
-  pub ports_apart : (p q : Name) (j k : PortKey) → at keys.ports p ≡ Some j → at keys.ports q ≡ Some k → j.datapath ≡ k.datapath → j.key ≡ k.key → p ≡ q
+  -- no event changes the ranges
+  pub datapath_range : keys.datapath_range ≡ 16777215
+  pub port_range : keys.port_range ≡ 32767
+  -- no frame waits, so that no key is retired
+  pub no_retired_datapaths : keys.retired_datapaths ≡ []
+  pub no_retired_ports : keys.retired_ports ≡ []
 
 -- each binding joins a port and a chassis that are there, and each bound port has a zone of its own on its chassis
 pub record AreBound (m : State) (zones : List (Name × ℕ)) : Type 0 where
@@ -72,10 +70,12 @@ pub record AreBound (m : State) (zones : List (Name × ℕ)) : Type 0 where
   pub zone_fits : (q : Name) (z : ℕ) → at zones q ≡ Some z → (1 ≤ z) × (z < 2 ^ 16)
   pub zones_apart : (p q : Name) (z : ℕ) → at zones p ≡ Some z → at zones q ≡ Some z → p ≡ q
 
--- no record is younger than the last event, and where no event was accepted there is none
+-- no record, and no owner of a key, is younger than the last event, and where no event was accepted there is no record
 pub record AreBorn (m : State) : Type 0 where
   pub switches : (a : Name) (switch : Switch) → at m.net.switches a ≡ Some switch → switch.birth.0 ≤ events_of m
   pub ports : (q : Name) (port : SwitchPort) → at m.net.ports q ≡ Some port → port.birth.0 ≤ events_of m
+  pub datapath_keys : (a : HeldDatapath) → Among a (held_datapaths m.keys) → a.owner.birth.0 ≤ events_of m
+  pub port_keys : (a : HeldPort) → Among a (held_ports m.keys) → a.owner.birth.0 ≤ events_of m
   pub none : m.accepted ≡ 0 → m.net ≡ empty_network
 
 -- the flows are exactly those of the set, each once

@@ -8,9 +8,9 @@ use Rattle.nb_records.specs.Network.{Network}
 use Rattle.nb_records.specs.declared.record.PortAddress.{PortAddress}
 use Rattle.nb_records.specs.declared.record.Switch.{Switch}
 use Rattle.nb_records.specs.declared.record.SwitchPort.{SwitchPort}
-use Rattle.world_core.specs.declared.keys.DatapathKey.{DatapathKey}
-use Rattle.world_core.specs.declared.keys.PortKey.{PortKey}
-use Rattle.world_core.specs.State.{Keys}
+use Rattle.tunnel_keys.specs.Keys.{Keys}
+use Rattle.tunnel_keys.specs.declared.owner.DatapathKey.{DatapathKey}
+use Rattle.tunnel_keys.specs.declared.owner.PortKey.{PortKey}
 use Rattle.world_core.specs.Addresses.{mac_of}
 use Rattle.world_core.specs.Rows.{entry_row, pass_row, address_row, unknown_row, stay_row, home_row, return_row, leave_row, output_row}
 

@@ -6,9 +6,8 @@ use Rattle.ovn_base.specs.ByName.{at}
 use Rattle.ovn_base.specs.SameName.{same_name}
 use Rattle.nb_records.specs.declared.record.PortAddress.{PortAddress}
 use Rattle.nb_records.specs.declared.record.SwitchPort.{SwitchPort}
-use Rattle.world_core.specs.declared.keys.DatapathKey.{DatapathKey}
-use Rattle.world_core.specs.declared.keys.PortKey.{PortKey}
 use Rattle.world_core.specs.Addresses.{mac_of}
+use Rattle.world_core.specs.Numbers.{datapath_number, port_number}
 use Rattle.world_core.specs.Rows.{entry_row, pass_row, address_row, unknown_row, stay_row, home_row, return_row, leave_row, output_row}
 use Rattle.world_core.specs.Stages.{Basis, EntryRow, AdmitRow, PortSecRow, TrackRow, AclInRow, StateInRow, ArpRow, LookupRow, RemoteRow, HomeRow, ReturnRow, TrackOutRow, AclOutRow, StateOutRow, SecOutRow, OutputRow}
 
@@ -53,18 +52,18 @@ port_rows dp q port key = return_row dp key ∷ output_row dp q key ∷ address_
 abbrev pub local_rows : ℕ → Name → ℕ → ℕ → List Flow
 local_rows dp q key zone = entry_row q dp key zone ∷ home_row dp key zone ∷ []
 
-abbrev pub switch_part : Option DatapathKey → List Flow
+abbrev pub switch_part : Option ℕ → List Flow
 switch_part None = []
-switch_part (Some live) = switch_rows live.key
+switch_part (Some dp) = switch_rows dp
 
 abbrev pub local_part : Option ℕ → ℕ → Name → ℕ → List Flow
 local_part None dp q key = []
 local_part (Some zone) dp q key = local_rows dp q key zone
 
-abbrev pub port_part : Option DatapathKey → Option PortKey → Option ℕ → Name → SwitchPort → List Flow
-port_part (Some datapath) (Some live) number q port = port_rows datapath.key q port live.key ++ local_part number datapath.key q live.key
-port_part (Some datapath) None number q port = []
-port_part None live number q port = []
+abbrev pub port_part : Option ℕ → Option ℕ → Option ℕ → Name → SwitchPort → List Flow
+port_part (Some dp) (Some key) number q port = port_rows dp q port key ++ local_part number dp q key
+port_part (Some dp) None number q port = []
+port_part None key number q port = []
 
 -- the zone, where the home is the chassis
 abbrev pub zone_at : Option Name → Name → Option ℕ → Option ℕ
@@ -78,5 +77,5 @@ zone_here b q = zone_at (at b.bindings q) b.chassis (at b.zones q)
 -- the rows of all units
 abbrev pub table_flows : Basis → List Flow
 table_flows b =
-    stay_row ∷ leave_row ∷ flat_map (λ e. switch_part (at b.keys.datapaths e.0)) b.net.switches
-    ++ flat_map (λ e. port_part (at b.keys.datapaths e.1.switch) (at b.keys.ports e.0) (zone_here b e.0) e.0 e.1) b.net.ports
+    stay_row ∷ leave_row ∷ flat_map (λ e. switch_part (datapath_number b.keys e.0)) b.net.switches
+    ++ flat_map (λ e. port_part (datapath_number b.keys e.1.switch) (port_number b.keys e.0) (zone_here b e.0) e.0 e.1) b.net.ports
