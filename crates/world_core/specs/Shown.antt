@@ -23,7 +23,9 @@ datapath_named keys key = name_or_dash (find (λ e. nat_eq e.1.key key) keys.dat
 abbrev pub port_named : Keys → Name → ℕ → Name
 port_named keys datapath key = name_or_dash (find (λ e. same_name e.1.datapath datapath && nat_eq e.1.key key) keys.ports)
 
--- the effect with these names
-abbrev pub shown : Keys → Effect → NetEffect
-shown keys (effect.Out port packet) = net.Out port packet
-shown keys (effect.Drop vni port cause) = net.Drop (datapath_named keys vni) (port_named keys (datapath_named keys vni) port) cause
+-- the effect with these names, if it has any
+abbrev pub shown : Keys → Effect → Option NetEffect
+shown keys (effect.Out port packet) = Some (net.Out port packet)
+shown keys (effect.Frame chassis vni in_key out_key packet) = None
+shown keys (effect.Drop vni port cause) = Some (net.Drop (datapath_named keys vni) (port_named keys (datapath_named keys vni) port) cause)
+shown keys effect.Lost = None
