@@ -1,5 +1,6 @@
 //! The lines of events.
 ghost use Rattle.std.specs.Prelude.{◌≡◌, ◌++◌, codes, decimal, OnOk, OnErr};
+ghost use Rattle.hex.specs.Hex.{encode_lower};
 ghost use Rattle.event_lines.specs.Lines.{cause_name, words_of, line_of, ok_line, lines_of, refusal_words, refused_line, end_line};
 ghost use Rattle.event_lines.specs.Text.{StartsWith};
 
@@ -44,6 +45,18 @@ fn put_key(kind: &[u8], name: &Name, key: u64, out: &mut Vec<u8>) -> Result<(), 
     put_number(key, out)
 }
 
+// From where to where, and the bytes.
+fn put_way(from: &Name, to: &Name, bytes: &[u8], out: &mut Vec<u8>) -> Result<(), NoMemory>
+    ensures ok { OnOk result (out.new.items ≡ out.old.items ++ (from.now ++ (codes " " ++ (to.now ++ (codes " " ++ encode_lower bytes.now))))) }
+    ensures err { OnErr result (StartsWith out.new.items out.old.items) }
+{
+    put(from.text(), out)?;
+    put(b" ", out)?;
+    put(to.text(), out)?;
+    put(b" ", out)?;
+    put_hex(bytes, out)
+}
+
 fn put_words(effect: &NetEffect, out: &mut Vec<u8>) -> Result<(), NoMemory>
     ensures ok { OnOk result (out.new.items ≡ out.old.items ++ words_of effect.now) }
     ensures err { OnErr result (StartsWith out.new.items out.old.items) }
@@ -62,11 +75,7 @@ fn put_words(effect: &NetEffect, out: &mut Vec<u8>) -> Result<(), NoMemory>
             put(b"tunnel ", out)?;
             put_wide(*frame, out)?;
             put(b" ", out)?;
-            put(from.text(), out)?;
-            put(b" ", out)?;
-            put(to.text(), out)?;
-            put(b" ", out)?;
-            put_hex(bytes.as_slice(), out)
+            put_way(from, to, bytes.as_slice(), out)
         }
         NetEffect::Out { port, packet } => {
             put(b"out ", out)?;
