@@ -70,6 +70,8 @@ module _ (records : Network) (numbers : Keys) (keys : HaveKeys records numbers) 
   -- what is shown is what has the numbers
   shown_one : (e : Effect) (n : NetEffect) → IsNamed numbers e n → shown numbers e ≡ Some n
   shown_one (effect.Out port packet) n IsNamed.out = refl
+  shown_one (effect.Frame chassis vni in_key out_key packet) n named = elim named [ ]
+  shown_one effect.Lost n named = elim named [ ]
   shown_one (effect.Drop vni key cause) n (IsNamed.drop on of) = drop_shown on of
     where
       drop_shown : {a q : Name} → HasDatapathKey numbers a vni → HasPortKey numbers a q key → shown numbers (effect.Drop vni key cause) ≡ Some (net.Drop a q cause)

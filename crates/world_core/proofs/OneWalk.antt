@@ -1,5 +1,5 @@
 -- A packet has one walk through the flows of its chassis.
-use Rattle.std.specs.Prelude.{◌≡◌, ◌<◌, ℕ, Bool, true, false, List, [], ◌∷◌, ◌++◌, refl}
+use Rattle.std.specs.Prelude.{◌≡◌, ◌<◌, ◌^◌, ℕ, Bool, true, false, List, [], ◌∷◌, ◌++◌, refl}
 use Rattle.std.specs.List.{AllByRecursion}
 use Rattle.std.proofs.Common.{sym, ap, ◌∙◌, subst, arith, inl}
 use Rattle.std.proofs.lemmas.Bool.{false≢true}
@@ -54,9 +54,9 @@ use Rattle.world_core.proofs.WalkSteps as steps
 -- ---- what each copy of a walk keeps
 
 -- the numbers of a copy lie within its registers, and its packet goes to an address
-record IsFine (copy : Carried) : Type 0 where
-  in_range : IsInRange copy.regs
-  is_mac : IsMac copy.packet.dst
+pub record IsFine (copy : Carried) : Type 0 where
+  pub in_range : IsInRange copy.regs
+  pub is_mac : IsMac copy.packet.dst
 
 -- no action makes copies
 abbrev makes_none : List FlowOp → Bool
@@ -176,8 +176,10 @@ module _ (m : state.State) (zones : List (Name × ℕ)) (flows : List Flow) (c :
 
     backs : ReturnRow b f → ReturnRow b g → f ≡ g
     backs (ReturnRow.back q port dp key of e) (ReturnRow.back r other d k their x) =
-        let first = fits_return regs packet dp key range.dp_within range.out_port_within range.in_port_within (steps.row_fits regs packet f (return_row dp key) e f_fits) in
-        let second = fits_return regs packet d k range.dp_within range.out_port_within range.in_port_within (steps.row_fits regs packet g (return_row d k) x g_fits) in
+        let narrow : regs.in_port < 2 ^ 15 = range.in_port_within in
+        let in_port : regs.in_port < 2 ^ 16 = omega arith in
+        let first = fits_return regs packet dp key range.dp_within range.out_port_within in_port (steps.row_fits regs packet f (return_row dp key) e f_fits) in
+        let second = fits_return regs packet d k range.dp_within range.out_port_within in_port (steps.row_fits regs packet g (return_row d k) x g_fits) in
         let on : dp ≡ d = sym first.0 ∙ second.0 in
         let number : key ≡ k = sym first.1 ∙ second.1 in
         e ∙ (λ i. return_row (on i) (number i)) ∙ sym x
@@ -229,15 +231,15 @@ module _ (m : state.State) (zones : List (Name × ℕ)) (flows : List Flow) (c :
         kept p flow.ops copy (row_makes_none b flow ((exact.same flow).0 held)) (proper_sets flow (proper m zones flows c keys bound exact flow held)) fine
 
     pub one_walk : (copies : List Carried) → AllByRecursion IsFine copies → (path others : List Step) (effects last : List Effect) → IsWalk flows (Vif p) copies path effects → IsWalk more (Vif p) copies others last → (path ≡ others) × (effects ≡ last)
-    one_walk [] fine [] [] [] [] over over = (refl, refl)
-    one_walk (copy ∷ left) fine path others effects last (ends copy left path after effects none walk same) (ends copy left others later last never again is) =
+    one_walk _ fine _ _ _ _ over over = (refl, refl)
+    one_walk _ fine _ _ _ _ (ends copy left path after effects none walk same) (ends _ _ others later last never again is) =
         let rest = one_walk left fine.1 path others after later walk again in
         (rest.0, same ∙ ap (λ l. unmatched (Vif p) copy ++ l) rest.1 ∙ sym is)
-    one_walk (copy ∷ left) fine path (next ∷ others) effects last (ends copy left path after effects none walk same) (takes copy left next others later last here took again is) =
+    one_walk _ fine _ _ _ _ (ends copy left path after effects none walk same) (takes _ _ next others later last there took again is) =
         absurd (none next.flow ((exact.same next.flow).1 ((also.same next.flow).0 took.held)) took.matching)
-    one_walk (copy ∷ left) fine (step ∷ path) others effects last (takes copy left step path after effects here took walk same) (ends copy left others later last never again is) =
+    one_walk _ fine _ _ _ _ (takes copy left step path after effects here took walk same) (ends _ _ others later last never again is) =
         absurd (never step.flow ((also.same step.flow).1 ((exact.same step.flow).0 took.held)) took.matching)
-    one_walk (copy ∷ left) fine (step ∷ path) (next ∷ others) effects last (takes copy left step path after effects here took walk same) (takes copy left next others later last there also_took again is) =
+    one_walk _ fine _ _ _ _ (takes copy left step path after effects here took walk same) (takes _ _ next others later last there also_took again is) =
         let flow : step.flow ≡ next.flow = best copy fine.0 step.flow next.flow took also_took in
         let equal : step ≡ next = λ i. record { table = (here ∙ sym there) i; flow = flow i } in
         let moved : IsWalk more (Vif p) (going_on (outcome (Vif p) step.flow.ops copy) ++ left) others later = subst (λ (f : Flow). IsWalk more (Vif p) (going_on (outcome (Vif p) f.ops copy) ++ left) others later) (sym flow) again in

@@ -8,10 +8,10 @@ use Rattle.ovn_base.proofs.AmongLaws.{among_none}
 use Rattle.inet_packet.specs.declared.packet.Packet.{Packet}
 use Rattle.inet_packet.specs.declared.regs.Regs.{Regs}
 use Rattle.inet_packet.specs.Fits.{CubeFits}
-use Rattle.flow_table.specs.Matching.{IsBest}
+use Rattle.flow_table.specs.Matching.{IsBest, NoneMatches}
 use Rattle.flow_table.specs.declared.flow.Flow.{Flow}
 use Rattle.switch_engine.specs.Actions.{outcome, going_on}
-use Rattle.switch_engine.specs.Walk.{IsWalk}
+use Rattle.switch_engine.specs.Walk.{IsWalk, unmatched}
 use Rattle.switch_engine.specs.Walk.IsWalk.{over, ends, takes}
 use Rattle.switch_engine.specs.declared.carried.Carried.{Carried}
 use Rattle.switch_engine.specs.declared.effect.Effect.{Effect}
@@ -58,6 +58,19 @@ pub record Taken (flows : List Flow) (entry : Entry) (copy : Carried) (others : 
   pub best : IsBest flows copy.table copy.regs copy.packet flow
   pub after : After flows entry copy others effects flow
 
+-- how a walk of a copy and others begins: the copy matches no flow of its table and ends, or it takes a best one
+pub data Begins (flows : List Flow) (entry : Entry) (copy : Carried) (others : List Carried) (effects : List Effect) : Type 0 where
+  matches_none : NoneMatches flows copy.table copy.regs copy.packet → Ended flows entry (unmatched entry copy) others effects → Begins flows entry copy others effects
+  matches_one : Taken flows entry copy others effects → Begins flows entry copy others effects
+
+pub begins : (flows : List Flow) (entry : Entry) (copy : Carried) (others : List Carried) (steps : List Step) (effects : List Effect) → IsWalk flows entry (copy ∷ others) steps effects → Begins flows entry copy others effects
+begins flows entry _ _ _ _ (ends copy others steps more all none walk same) = Begins.matches_none none (record { rest = steps; more = more; all_effects = same; left = walk })
+begins flows entry _ _ _ _ (takes copy others step steps more all where_it_is best walk same) = Begins.matches_one (record {
+  flow = step.flow;
+  best = best;
+  after = record { rest = steps; more = more; all_effects = same; left = walk };
+})
+
 -- where it is known which row that is
 pub row_after : (flows : List Flow) (entry : Entry) (copy : Carried) (others : List Carried) (effects : List Effect) (t : Taken flows entry copy others effects) (row : Flow) → t.flow ≡ row → After flows entry copy others effects row
 row_after flows entry copy others effects t row e = subst (λ f. After flows entry copy others effects f) e t.after
@@ -72,7 +85,7 @@ same_own flows entry own as_well others effects same e = subst (λ l. Ended flow
 
 -- of no copies there is no effect
 pub none_left : (flows : List Flow) (entry : Entry) (steps : List Step) (effects : List Effect) → IsWalk flows entry [] steps effects → effects ≡ []
-none_left flows entry [] [] over = refl
+none_left flows entry _ _ over = refl
 
 -- its cube
 pub row_fits : (regs : Regs) (packet : Packet) (f row : Flow) → f ≡ row → CubeFits f.cube regs packet → CubeFits row.cube regs packet
@@ -154,12 +167,10 @@ module _ (m : State) (zones : List (Name × ℕ)) (flows : List Flow) (c : Name)
   -- a flow of the set matches, so that one is taken
   pub taken : (entry : Entry) (copy : Carried) (others : List Carried) (row : Flow) → TableFlow b row → row.table ≡ copy.table → CubeFits row.cube copy.regs copy.packet
       → (steps : List Step) (effects : List Effect) → IsWalk flows entry (copy ∷ others) steps effects → Taken flows entry copy others effects
-  taken entry copy others row is of fits steps all (ends copy others steps more all none walk same) = absurd (none row (held row is) (record { in_table = of; fits = fits }))
-  taken entry copy others row is of fits (step ∷ steps) all (takes copy others step steps more all where_it_is best walk same) = record {
-    flow = step.flow;
-    best = best;
-    after = record { rest = steps; more = more; all_effects = same; left = walk };
-  }
+  taken entry copy others row is of fits steps effects w = elim (begins flows entry copy others steps effects w) [
+    | matches_none none e ↦ absurd (none row (held row is) (record { in_table = of; fits = fits }))
+    | matches_one t ↦ t
+  ]
 
   -- it is one of the set
   pub taken_row : (entry : Entry) (copy : Carried) (others : List Carried) (effects : List Effect) (t : Taken flows entry copy others effects) → TableFlow b t.flow

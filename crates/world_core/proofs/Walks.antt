@@ -1,5 +1,5 @@
 -- What a walk from each table on comes to, from the last table to the first.
-use Rattle.std.specs.Prelude.{◌≡◌, ◌≢◌, ◌<◌, ◌^◌, ℕ, Bool, List, [], ◌∷◌, ◌++◌, Some, None, Option, is_some, bit_and, if◌then◌else◌, refl}
+use Rattle.std.specs.Prelude.{◌≡◌, ◌≢◌, ◌<◌, ◌^◌, ℕ, Bool, List, [], ◌∷◌, Some, None, Option, is_some, bit_and, if◌then◌else◌, refl}
 use Rattle.std.proofs.Common.{sym, ap, ◌∙◌, subst, arith, inl, inr}
 use Rattle.std.proofs.Math.Dec.{eqb as nat_eq}
 use Rattle.std.proofs.lemmas.Bool.{cases_Bool, false≢true}
@@ -18,7 +18,6 @@ use Rattle.flow_table.specs.declared.flow.Cause.TheVariants.{UnknownAddress, Loo
 use Rattle.flow_table.specs.declared.flow.Flow.{Flow}
 use Rattle.switch_engine.specs.Actions.{set_reg}
 use Rattle.switch_engine.specs.Walk.{IsWalk, unmatched}
-use Rattle.switch_engine.specs.Walk.IsWalk.{over, ends, takes}
 use Rattle.switch_engine.specs.declared.carried.Carried.{Carried}
 use Rattle.switch_engine.specs.declared.effect.Effect.{Effect}
 use Rattle.switch_engine.specs.declared.effect.Effect.TheVariants as effect
@@ -39,6 +38,7 @@ use Rattle.world_core.proofs.Found.{some_of}
 use Rattle.world_core.proofs.ProperTables.{datapath_in_range, port_in_range}
 use Rattle.world_core.proofs.RowFits.{everything_fits, entry_fits, datapath_fits, address_fits, exit_fits, return_fits, fits_entry, fits_address, fits_exit, fits_return}
 use Rattle.world_core.proofs.WalkSteps as steps
+use Rattle.world_core.proofs.WalkSteps.{matches_none, matches_one}
 
 -- ---- what becomes of a packet, in numbers
 
@@ -201,11 +201,13 @@ module _ (m : state.State) (zones : List (Name × ℕ)) (flows : List Flow) (c :
 
       -- a copy that came from table 32
       free_33 : (regs : Regs) → regs.dp ≡ dp → regs.out_port ≡ key → at m.bindings q ≡ None → (path : List Step) (effects : List Effect) → Walk 32 33 regs packet path effects → EndsWith (effect.Drop dp key Unbound ∷ []) effects
-      free_33 regs on aimed free path all (ends copy others path more all none walk same) =
-          dropped all dp regs.dp key regs.out_port (λ n x. effect.Drop n x Unbound) on aimed
-          (record { rest = path; more = more; all_effects = same ∙ ap (λ l. l ++ more) (stray_drops entry regs packet); left = walk })
-      free_33 regs on aimed free (step ∷ path) all (takes copy others step path more all where_it_is best walk same) =
-          absurd (nowhere_33 regs on aimed free step.flow (at_33 b step.flow ((exact.same step.flow).0 best.held) best.matching.in_table) best.matching.fits)
+      free_33 regs on aimed free path effects w = elim (steps.begins flows entry (steps.copy_at 32 33 regs packet) others path effects w) [
+        | matches_none none e ↦
+            dropped effects dp regs.dp key regs.out_port (λ n x. effect.Drop n x Unbound) on aimed
+            (steps.same_own flows entry (unmatched entry (steps.copy_at 32 33 regs packet)) (effect.Drop regs.dp regs.out_port Unbound ∷ []) others effects (stray_drops entry regs packet) e)
+        | matches_one t ↦
+            absurd (nowhere_33 regs on aimed free t.flow (at_33 b t.flow (steps.taken_row m zones flows c valid keys exact entry (steps.copy_at 32 33 regs packet) others effects t) t.best.matching.in_table) t.best.matching.fits)
+      ]
 
       -- table 33: it goes on where its port is bound
       pub walk_33 : (regs : Regs) → regs.dp ≡ dp → regs.in_port ≡ entered → regs.out_port ≡ key → bit_and regs.flags.0 1 ≡ 0 → (path : List Step) (effects : List Effect) → Walk 32 33 regs packet path effects
