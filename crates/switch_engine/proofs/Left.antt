@@ -29,7 +29,7 @@ use Rattle.switch_engine.proofs.Ranges.{total, total_small, total_rises, set_in_
 abbrev pub left : Carried → ℕ
 left copy = (256 - copy.table) * 2 ^ 33 + (2 ^ 33 - total copy.regs)
 
-less : (table next sum sum_after : ℕ) → (table < next) ⊎ ((next ≡ table) × (sum < sum_after)) → table < 256 → sum < 2 ^ 33 → sum_after < 2 ^ 33 → (256 - next) * 2 ^ 33 + (2 ^ 33 - sum_after) < (256 - table) * 2 ^ 33 + (2 ^ 33 - sum)
+less : (table next sum sum_after : ℕ) → (table < next) ⊎ ((next ≡ table) × (sum < sum_after)) → table < 2 ^ 8 → sum < 2 ^ 33 → sum_after < 2 ^ 33 → (256 - next) * 2 ^ 33 + (2 ^ 33 - sum_after) < (256 - table) * 2 ^ 33 + (2 ^ 33 - sum)
 less table next sum sum_after (inl later) small before after = omega arith
 less table next sum sum_after (inr same) small before after = let t = same.0 in let s = same.1 in omega arith
 
@@ -62,14 +62,14 @@ made_later entry table (Output port ∷ ops) copy h = made_later entry table ops
 abbrev Less : Carried → Carried → Type 0
 Less copy next = left next < left copy
 
-all_less : (copy : Carried) (copies : List Carried) → copy.table < 256 → IsInRange copy.regs → AllByRecursion (Later copy.table) copies → AllByRecursion IsCarriedInRange copies → AllByRecursion (Less copy) copies
+all_less : (copy : Carried) (copies : List Carried) → copy.table < 2 ^ 8 → IsInRange copy.regs → AllByRecursion (Later copy.table) copies → AllByRecursion IsCarriedInRange copies → AllByRecursion (Less copy) copies
 all_less copy [] small r later in_range = tt
 all_less copy (next ∷ copies) small r later in_range = (
-  less copy.table next.table (total copy.regs) (total next.regs) (inl later.0) small (total_small copy.regs r) (total_small next.regs in_range.0),
+  less copy.table next.table (total copy.regs) (total next.regs) (inl later.0) small (total_small copy.regs r) (total_small next.regs in_range.0.regs),
   all_less copy copies small r later.1 in_range.1,
 )
 
-pub brings_less : (entry : Entry) (flow : Flow) (copy : Carried) → IsProperFlow flow → flow.table ≡ copy.table → copy.table < 256 → IsInRange copy.regs → CubeFits flow.cube copy.regs copy.packet → AllByRecursion IsCarriedInRange (going_on (outcome entry flow.ops copy)) → AllByRecursion (λ next. left next < left copy) (going_on (outcome entry flow.ops copy))
+pub brings_less : (entry : Entry) (flow : Flow) (copy : Carried) → IsProperFlow flow → flow.table ≡ copy.table → copy.table < 2 ^ 8 → IsInRange copy.regs → CubeFits flow.cube copy.regs copy.packet → AllByRecursion IsCarriedInRange (going_on (outcome entry flow.ops copy)) → AllByRecursion (λ next. left next < left copy) (going_on (outcome entry flow.ops copy))
 brings_less entry flow copy (rising h) same small r fits in_range =
     let rises : AllByRecursion (Rises copy.table) flow.ops = subst (λ t. AllByRecursion (Rises t) flow.ops) same h in
     all_less copy _ small r (all_append (Later copy.table) _ _ (itself_later entry copy.table flow.ops copy rises) (made_later entry copy.table flow.ops copy rises)) in_range
@@ -200,12 +200,12 @@ load_falls k copy next others h few =
     omega arith
 
 -- so each step of a walk leaves less
-pub advance_falls : {flows : List Flow} {entry : Entry} {copy : Carried} {others next : List Carried} {old new : RunOut} → Advances flows entry copy others next old new → IsProper flows → copy.table < 256 → IsInRange copy.regs → AllByRecursion IsCarriedInRange next → load (spread flows) next < load (spread flows) (copy ∷ others)
-advance_falls {flows} {entry} {copy} {others} (unmatched_here none same walk effects) proper small r in_range =
+pub advance_falls : {flows : List Flow} {entry : Entry} {copy : Carried} {others next : List Carried} {old new : RunOut} → Advances flows entry copy others next old new → IsProper flows → IsCarriedInRange copy → AllByRecursion IsCarriedInRange next → load (spread flows) next < load (spread flows) (copy ∷ others)
+advance_falls {flows} {entry} {copy} {others} (unmatched_here none same walk effects) proper r in_range =
     subst (λ l. load (spread flows) l < load (spread flows) (copy ∷ others)) (sym same) (load_falls (spread flows) copy [] others tt (omega arith))
-advance_falls {flows} {entry} {copy} {others} {next} (matched flow best same walk effects) proper small r in_range =
+advance_falls {flows} {entry} {copy} {others} {next} (matched flow best same walk effects) proper r in_range =
     let on : List Carried = going_on (outcome entry flow.ops copy) in
     let all : AllByRecursion IsCarriedInRange on = all_left IsCarriedInRange on others (subst (AllByRecursion IsCarriedInRange) same in_range) in
     let fewer : length on ≤ spread flows = omega (arith, brings_few entry flow.ops copy, brings_no_more flow flows best.held) in
     subst (λ l. load (spread flows) l < load (spread flows) (copy ∷ others)) (sym same)
-    (load_falls (spread flows) copy on others (brings_less entry flow copy (proper flow best.held) best.matching.in_table small r best.matching.fits all) fewer)
+    (load_falls (spread flows) copy on others (brings_less entry flow copy (proper flow best.held) best.matching.in_table r.table r.regs best.matching.fits all) fewer)

@@ -163,6 +163,7 @@ total_rises Own n flow regs packet h r fits =
 total_rises Arrived n flow regs packet h r fits =
     let more : regs.flags.0 < (set_flag 16 n regs.flags).0 = flag_rises regs.flags.0 n 16 flow.cube.flags.mask flow.cube.flags.value h.can.within fits.state.flags_fits h.whole h.greater in
     omega arith
+
 -- at the start all are 0
 pub start_in_range : (entry : Entry) → IsInRange (start_regs entry)
 start_in_range entry =

@@ -26,7 +26,7 @@ ops-preserved c =
           (did_frame w.in-Frame.chassis w.push-in-Frame.new.self (w.in_ok-push-in-Frame.ensures.ok ∙ ap (λ e. c.ops.effects ++ e ∷ []) w.in_ok-framed-in-Frame.ensures) (with _ w.in-Frame.is))
       | in-Copies+in_ok-copy_to-in-Copies w ↦
           doing_same w.copy-is w.effects-is w.made-is
-          (did_copies w.in-Copies.members.now w.copy_to.new.made (w.in_ok-copy_to-in-Copies.ensures.ok ∙ ap (λ ms. c.ops.made ++ copies_for c.ops.copy ms) w.as_slice.ensures) w.in_ok-copy_to-in-Copies.ensures.all_in_range (with _ w.in-Copies.is))
+          (did_copies w.in-Copies.members w.copy_to.new.made (w.in_ok-copy_to-in-Copies.ensures.ok ∙ ap (λ ms. c.ops.made ++ copies_for c.ops.copy ms) w.as_slice.ensures) w.in_ok-copy_to-in-Copies.ensures.all_in_range (with _ w.in-Copies.is))
       | in-Output+in_ok-copy-in-Output+in_ok-push-in-Output w ↦
           doing_same w.copy-is w.effects-is w.made-is
           (did_output w.in-Output.port w.push-in-Output.new.self (w.in_ok-push-in-Output.ensures.ok ∙ ap (λ packet. c.ops.effects ++ effect.Out w.in-Output.port packet ∷ []) w.in_ok-copy-in-Output.ensures) (with _ w.in-Output.is))

@@ -19,7 +19,7 @@ copies-init g c =
       going = subst (Going (g.T.Lookup.flows c.args.tables.now) c.args.entry.now c.args.packet c.args.out.now c.args.out.now) (sym one) (going_first c.args.out.now);
       proper = c.requires.proper;
       entry = c.requires.entry;
-      in_range = subst (AllByRecursion IsCarriedInRange) (sym one) (start_in_range c.args.entry.now, tt);
+      in_range = subst (AllByRecursion IsCarriedInRange) (sym one) (record { table = omega arith; regs = start_in_range c.args.entry.now }, tt);
     }
 
 pub copies-smaller : goal.copies-smaller
@@ -27,7 +27,7 @@ copies-smaller g c =
     let flows = g.T.Lookup.flows c.args.tables.now in
     let top : reverse c.copies.pending ≡ c.in-Some.copy ∷ reverse c.pop.new.self = on_top c.pop.new.self c.copies.pending c.in-Some.copy c.in-Some.ensures in
     let in_range : AllByRecursion IsCarriedInRange (c.in-Some.copy ∷ reverse c.pop.new.self) = subst (AllByRecursion IsCarriedInRange) top c.copies.invariant.in_range in
-    subst (λ l. load (spread flows) (reverse c.advance.new.pending) < load (spread flows) l) (sym top) (advance_falls c.in_ok-advance.ensures.ok c.copies.invariant.proper (omega arith) in_range.0 c.in_ok-advance.ensures.all_in_range)
+    subst (λ l. load (spread flows) (reverse c.advance.new.pending) < load (spread flows) l) (sym top) (advance_falls c.in_ok-advance.ensures.ok c.copies.invariant.proper in_range.0 c.in_ok-advance.ensures.all_in_range)
 
 pub copies-preserved : goal.copies-preserved
 copies-preserved g c =
