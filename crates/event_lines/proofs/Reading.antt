@@ -217,9 +217,11 @@ words_no_feed (PortKey name key) is =
     (no_feed_joined name _ (no_feed_in name (name_is_word name is.0)) ((λ e. omega arith), no_feed_in (decimal key) (decimal_in_word key)))
 words_no_feed (Tunnel frame from to bytes) is =
     no_feed_joined (codes "tunnel ") _ (tested (codes "tunnel ") refl)
-    (no_feed_joined (decimal frame) _ (no_feed_in (decimal frame) (decimal_in_word frame))
-    ((λ e. omega arith), no_feed_joined from _ (no_feed_in from (name_is_word from is.0))
-    ((λ e. omega arith), no_feed_joined to _ (no_feed_in to (name_is_word to is.1)) ((λ e. omega arith), hex_no_feed bytes))))
+    (no_feed_joined (decimal frame) _ (no_feed_in (decimal frame) (decimal_in_word frame)) (
+      (λ e. omega arith),
+      no_feed_joined from _ (no_feed_in from (name_is_word from is.0))
+          ((λ e. omega arith), no_feed_joined to _ (no_feed_in to (name_is_word to is.1)) ((λ e. omega arith), hex_no_feed bytes)),
+    ))
 words_no_feed (Lost frame) is = no_feed_joined (codes "lost ") (decimal frame) (tested (codes "lost ") refl) (no_feed_in (decimal frame) (decimal_in_word frame))
 words_no_feed (Out port packet) is =
     no_feed_joined (codes "out ") _ (tested (codes "out ") refl)

@@ -199,31 +199,38 @@ module _ (m : state.State) (zones : List (Name × ℕ)) (flows : List Flow) (c :
           let same : q ≡ r = same_exit r other d k theirs regs on aimed fits in
           none-some c (sym free ∙ ap (λ n. at m.bindings n) same ∙ there.bound)
 
-      -- a copy that came from table 32
-      free_33 : (regs : Regs) → regs.dp ≡ dp → regs.out_port ≡ key → at m.bindings q ≡ None → (path : List Step) (effects : List Effect) → Walk 32 33 regs packet path effects → EndsWith (effect.Drop dp key Unbound ∷ []) effects
-      free_33 regs on aimed free path effects w = elim (steps.begins flows entry (steps.copy_at 32 33 regs packet) others path effects w) [
-        | matches_none none e ↦
-            dropped effects dp regs.dp key regs.out_port (λ n x. effect.Drop n x Unbound) on aimed
-            (steps.same_own flows entry (unmatched entry (steps.copy_at 32 33 regs packet)) (effect.Drop regs.dp regs.out_port Unbound ∷ []) others effects (stray_drops entry regs packet) e)
+      -- so a copy for it matches nothing in table 33
+      free_33 : (last : ℕ) (regs : Regs) → regs.dp ≡ dp → regs.out_port ≡ key → at m.bindings q ≡ None → (path : List Step) (effects : List Effect) → Walk last 33 regs packet path effects
+          → EndsWith (unmatched entry (steps.copy_at last 33 regs packet)) effects
+      free_33 last regs on aimed free path effects w = elim (steps.begins flows entry (steps.copy_at last 33 regs packet) others path effects w) [
+        | matches_none none e ↦ e
         | matches_one t ↦
-            absurd (nowhere_33 regs on aimed free t.flow (at_33 b t.flow (steps.taken_row m zones flows c valid keys exact entry (steps.copy_at 32 33 regs packet) others effects t) t.best.matching.in_table) t.best.matching.fits)
+            absurd (nowhere_33 regs on aimed free t.flow (at_33 b t.flow (steps.taken_row m zones flows c valid keys exact entry (steps.copy_at last 33 regs packet) others effects t) t.best.matching.in_table) t.best.matching.fits)
       ]
 
-      -- table 33: it goes on where its port is bound
+      -- and a copy for a port that is bound goes on
+      bound_33 : (last : ℕ) (regs : Regs) → regs.dp ≡ dp → regs.in_port ≡ entered → regs.out_port ≡ key → bit_and regs.flags.0 1 ≡ 0 → (home : Name) → at m.bindings q ≡ Some home → (path : List Step) (effects : List Effect)
+          → Walk last 33 regs packet path effects → EndsWith (way_out dp entered q key packet) effects
+      bound_33 last regs on from aimed off home is path effects w =
+          let here = at_home q home is in
+          let t =
+          steps.taken m zones flows c valid keys exact entry (steps.copy_at last 33 regs packet) others (home_row dp key here.0) (TableFlow.in_home (HomeRow.home q port dp key here.0 of here.1 refl)) refl
+          (exit_fits regs packet dp key dp_small on key_small aimed) path effects w in
+          home_33 last regs on from aimed off effects t (at_33 b t.flow (steps.taken_row m zones flows c valid keys exact entry (steps.copy_at last 33 regs packet) others effects t) t.best.matching.in_table)
+
+      -- table 33: coming from another table, it goes on where its port is bound, and is dropped elsewhere
       pub walk_33 : (regs : Regs) → regs.dp ≡ dp → regs.in_port ≡ entered → regs.out_port ≡ key → bit_and regs.flags.0 1 ≡ 0 → (path : List Step) (effects : List Effect) → Walk 32 33 regs packet path effects
           → EndsWith (sent_to dp entered q key packet (is_some (at m.bindings q))) effects
       walk_33 regs on from aimed off path effects w = by (at m.bindings q) refl
         where
           by : (home : Option Name) → at m.bindings q ≡ home → EndsWith (sent_to dp entered q key packet (is_some (at m.bindings q))) effects
           by None free =
-              steps.same_own flows entry (effect.Drop dp key Unbound ∷ []) (sent_to dp entered q key packet (is_some (at m.bindings q))) others effects (ap (λ o. sent_to dp entered q key packet (is_some o)) (sym free)) (free_33 regs on aimed free path effects w)
+              let names = ap (λ n. effect.Drop n regs.out_port Unbound ∷ []) on ∙ ap (λ n. effect.Drop dp n Unbound ∷ []) aimed in
+              steps.same_own flows entry (unmatched entry (steps.copy_at 32 33 regs packet)) (sent_to dp entered q key packet (is_some (at m.bindings q))) others effects
+              (stray_drops entry regs packet ∙ names ∙ ap (λ o. sent_to dp entered q key packet (is_some o)) (sym free)) (free_33 32 regs on aimed free path effects w)
           by (Some home) is =
-              let here = at_home q home is in
-              let t =
-              steps.taken m zones flows c valid keys exact entry (steps.copy_at 32 33 regs packet) others (home_row dp key here.0) (TableFlow.in_home (HomeRow.home q port dp key here.0 of here.1 refl)) refl
-              (exit_fits regs packet dp key dp_small on key_small aimed) path effects w in
               steps.same_own flows entry (way_out dp entered q key packet) (sent_to dp entered q key packet (is_some (at m.bindings q))) others effects (ap (λ o. sent_to dp entered q key packet (is_some o)) (sym is))
-              (home_33 32 regs on from aimed off effects t (at_33 b t.flow (steps.taken_row m zones flows c valid keys exact entry (steps.copy_at 32 33 regs packet) others effects t) t.best.matching.in_table))
+              (bound_33 32 regs on from aimed off home is path effects w)
 
       stay_32 : (last : ℕ) (regs : Regs) → regs.dp ≡ dp → regs.in_port ≡ entered → regs.out_port ≡ key → bit_and regs.flags.0 1 ≡ 0 → (effects : List Effect) (t : Takes last 32 regs packet effects) → RemoteRow b t.flow
           → EndsWith (sent_to dp entered q key packet (is_some (at m.bindings q))) effects
