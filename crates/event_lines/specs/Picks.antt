@@ -48,15 +48,19 @@ abbrev pub picks_of : List NetEffect → List Pick
 picks_of [] = []
 picks_of (effect.DatapathKey name key ∷ effects) = datapath_key name key ∷ picks_of effects
 picks_of (effect.PortKey name key ∷ effects) = port_key name key ∷ picks_of effects
+picks_of (effect.Tunnel frame from to bytes ∷ effects) = picks_of effects
 picks_of (effect.Out port packet ∷ effects) = picks_of effects
 picks_of (effect.Drop datapath port cause ∷ effects) = picks_of effects
+picks_of (effect.Lost frame ∷ effects) = picks_of effects
 
 -- the names in the effect are names, and a key has at most 64 bits
 abbrev pub IsNamedEffect : NetEffect → Type 0
 IsNamedEffect (effect.DatapathKey name key) = IsName name × (key < 2 ^ 64)
 IsNamedEffect (effect.PortKey name key) = IsName name × (key < 2 ^ 64)
+IsNamedEffect (effect.Tunnel frame from to bytes) = IsName from × IsName to
 IsNamedEffect (effect.Out port packet) = IsName port
 IsNamedEffect (effect.Drop datapath port cause) = IsName datapath × IsName port
+IsNamedEffect (effect.Lost frame) = Unit {0}
 
 abbrev pub AreNamed : List NetEffect → Type 0
 AreNamed effects = AllByRecursion IsNamedEffect effects

@@ -1,7 +1,7 @@
 -- What the tables do with a packet is what the logical network says.
-use Rattle.std.specs.Prelude.{◌≡◌, ℕ, Bool, true, false, List, [], ◌∷◌, map, is_some, if◌then◌else◌, refl}
-use Rattle.std.specs.List.{AllZip}
-use Rattle.std.proofs.Common.{sym, ap, ◌∙◌, subst, inl, inr}
+use Rattle.std.specs.Prelude.{◌≡◌, ℕ, Bool, true, false, List, [], ◌∷◌, ◌++◌, is_some, if◌then◌else◌, refl}
+use Rattle.std.specs.List.{AllZip, filter_map}
+use Rattle.std.proofs.Common.{sym, ap, ◌∙◌, subst, inl, inr, append-nil}
 use Rattle.std.proofs.Math.Dec.{eqb as nat_eq}
 use Rattle.std.proofs.lemmas.Bool.{cases_Bool, false≢true}
 use Rattle.std.proofs.lemmas.Bool.Decides.{Decides-eqb}
@@ -15,8 +15,10 @@ use Rattle.flow_table.specs.declared.flow.Cause.TheVariants.{UnknownAddress, Loo
 use Rattle.flow_table.specs.declared.flow.Flow.{Flow}
 use Rattle.switch_engine.specs.declared.effect.Effect.{Effect}
 use Rattle.switch_engine.specs.declared.effect.Effect.TheVariants as effect
+use Rattle.switch_engine.specs.declared.effect.Entry.TheVariants.{Vif}
 use Rattle.switch_engine.specs.declared.effect.NetEffect.{NetEffect}
 use Rattle.switch_engine.specs.declared.effect.NetEffect.TheVariants as net
+use Rattle.switch_engine.specs.Walk.{start_regs}
 use Rattle.nb_records.specs.declared.record.SwitchPort.{SwitchPort}
 use Rattle.tunnel_keys.specs.declared.owner.PortKey.{PortKey}
 use Rattle.world_core.specs.Naming.{IsNamed}
@@ -36,7 +38,7 @@ module _ (m : State) (zones : List (Name × ℕ)) (flows : List Flow) (c : Name)
   b = basis_at m zones c
 
   abbrev in_names : List Effect → List NetEffect
-  in_names ends = map (λ e. shown m.net m.keys e) ends
+  in_names ends = filter_map (λ e. shown m.net m.keys e) ends
 
   -- the effects have the names that are shown
   abbrev HaveNames : List Effect → Type 0
@@ -126,9 +128,14 @@ module _ (m : State) (zones : List (Name × ℕ)) (flows : List Flow) (c : Name)
 -- the tables do what the network says
 pub law : WalkLaw
 law m zones flows c valid keys bound exact p home packet is_mac path ends walk =
-    let w = walk_0 m zones flows c valid keys bound exact (bound.chassis_there p c home) p home packet is_mac _ refl refl path ends walk in
+    let w = walk_0 m zones flows c valid keys bound exact (bound.chassis_there p c home) (Vif p) [] p home packet is_mac 0 (start_regs (Vif p)) refl refl path ends walk in
+    let comes = w.4 in
+    -- no other copy is left
+    let alone : ends ≡ comes.own =
+    comes.ended.all_effects ∙ ap (λ l. comes.own ++ l) (steps.none_left flows (Vif p) comes.ended.rest comes.ended.more comes.ended.left) ∙ append-nil comes.own in
+    let there : Ends m (basis_at m zones c) w.0.switch w.1 w.2 packet ends = subst (λ es. Ends m (basis_at m zones c) w.0.switch w.1 w.2 packet es) (sym alone) comes.ends in
     record {
-      names = map (λ e. shown m.net m.keys e) ends;
-      named = have_names m zones flows c valid keys exact p w.0 w.1 w.2 w.3 packet ends w.4;
-      visit = λ effects named. subst (λ es. Visit m p packet es) (sym (shown_only m.net m.keys valid keys ends effects named)) (visit m zones flows c valid keys exact p w.0 w.1 w.2 w.3 packet ends w.4);
+      names = filter_map (λ e. shown m.net m.keys e) ends;
+      named = have_names m zones flows c valid keys exact p w.0 w.1 w.2 w.3 packet ends there;
+      visit = λ effects named. subst (λ es. Visit m p packet es) (sym (shown_only m.net m.keys valid keys ends effects named)) (visit m zones flows c valid keys exact p w.0 w.1 w.2 w.3 packet ends there);
     }

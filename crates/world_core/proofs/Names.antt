@@ -1,6 +1,6 @@
 -- The names of numbers: a number of a datapath or of a port gives back the name that has it.
 use Rattle.std.specs.Prelude.{◌≡◌, ℕ, Bool, true, cond, List, [], ◌∷◌, Some, Option, IsSome, map, filter, unwrap_or, refl}
-use Rattle.std.specs.List.{AllZip, find}
+use Rattle.std.specs.List.{AllZip, find, filter_map, cons_option}
 use Rattle.std.specs.Option.{option_map}
 use Rattle.std.proofs.Common.{sym, ap, subst, ◌∙◌, inl, inr}
 use Rattle.std.proofs.Math.Dec.{eqb as nat_eq}
@@ -79,19 +79,22 @@ module _ (records : Network) (numbers : Keys) (valid : IsValid records) (keys : 
       ap (λ (x : Name × ℕ). x.0) r.2 ∙ name)
 
   -- what is shown is what has the numbers
-  shown_one : (e : Effect) (n : NetEffect) → IsNamed numbers e n → shown records numbers e ≡ n
+  shown_one : (e : Effect) (n : NetEffect) → IsNamed numbers e n → shown records numbers e ≡ Some n
   shown_one (effect.Out port packet) n IsNamed.out = refl
-  shown_one (effect.Drop vni key cause) (net.DatapathKey a k) named = elim named [ ]
-  shown_one (effect.Drop vni key cause) (net.PortKey q k) named = elim named [ ]
-  shown_one (effect.Drop vni key cause) (net.Out q packet) named = elim named [ ]
-  shown_one (effect.Drop vni key cause) (net.Drop a q why) (IsNamed.drop on of) =
-      ap (λ d. net.Drop d (port_named numbers d key) cause) (datapath_only a vni on) ∙ ap (λ r. net.Drop a r cause) (port_only a q key of)
+  shown_one (effect.Frame chassis vni in_key out_key packet) n named = elim named [ ]
+  shown_one effect.Lost n named = elim named [ ]
+  shown_one (effect.Drop vni key cause) n (IsNamed.drop on of) = drop_shown on of
+    where
+      drop_shown : {a q : Name} → HasDatapathKey numbers a vni → HasPortKey numbers a q key → shown records numbers (effect.Drop vni key cause) ≡ Some (net.Drop a q cause)
+      drop_shown {a} {q} on of =
+          ap (λ d. Some (net.Drop d (port_named numbers d key) cause)) (datapath_only a vni on) ∙ ap (λ r. Some (net.Drop a r cause)) (port_only a q key of)
 
-  pub shown_only : (ends : List Effect) (effects : List NetEffect) → AllZip (IsNamed numbers) ends effects → effects ≡ map (λ e. shown records numbers e) ends
+  pub shown_only : (ends : List Effect) (effects : List NetEffect) → AllZip (IsNamed numbers) ends effects → effects ≡ filter_map (λ e. shown records numbers e) ends
   shown_only [] [] named = refl
   shown_only [] (n ∷ ns) named = absurd named
   shown_only (e ∷ es) [] named = absurd named
-  shown_only (e ∷ es) (n ∷ ns) named = ap (λ m. m ∷ ns) (sym (shown_one e n named.0)) ∙ ap (λ ms. shown records numbers e ∷ ms) (shown_only es ns named.1)
+  shown_only (e ∷ es) (n ∷ ns) named =
+      ap (λ ms. n ∷ ms) (shown_only es ns named.1) ∙ ap (λ o. cons_option o (filter_map (λ e. shown records numbers e) es)) (sym (shown_one e n named.0))
 
 module _ (m : State) (zones : List (Name × ℕ)) (flows : List Flow) (c : Name) (valid : IsValid m.net) (keys : HaveKeys m.net m.keys) (exact : AreExactly (TableFlow (basis_at m zones c)) flows) where
   abbrev b : Basis

@@ -15,7 +15,7 @@ use Rattle.ovn_base.specs.ByName.{at}
 use Rattle.flow_table.proofs.ChangeLaws.{once_append}
 use Rattle.flow_table.specs.declared.flow.Flow.{Flow}
 use Rattle.flow_table.specs.declared.flow.FlowOp.{FlowOp}
-use Rattle.flow_table.specs.declared.flow.FlowOp.TheVariants.{Set, Go, Drop, Output}
+use Rattle.flow_table.specs.declared.flow.FlowOp.TheVariants.{Set, Go, Drop, Header, Frame, Copies, Output}
 use Rattle.ovn_base.proofs.Puts.{among_at}
 use Rattle.nb_records.specs.declared.record.PortAddress.{PortAddress}
 use Rattle.nb_records.specs.declared.record.SwitchPort.{SwitchPort}
@@ -37,6 +37,9 @@ first_value [] = 0
 first_value (Set reg n ∷ ops) = n
 first_value (Go table ∷ ops) = 0
 first_value (Drop cause ∷ ops) = 0
+first_value (Header ∷ ops) = 0
+first_value (Frame chassis ∷ ops) = 0
+first_value (Copies members ∷ ops) = 0
 first_value (Output port ∷ ops) = 0
 
 abbrev second_value : List FlowOp → ℕ

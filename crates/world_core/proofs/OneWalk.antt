@@ -1,7 +1,10 @@
 -- A packet has one walk through the flows of its chassis.
-use Rattle.std.specs.Prelude.{◌≡◌, ◌<◌, ℕ, List, [], ◌∷◌, refl}
+use Rattle.std.specs.Prelude.{◌≡◌, ◌<◌, ◌^◌, ℕ, Bool, true, false, List, [], ◌∷◌, ◌++◌, refl}
+use Rattle.std.specs.List.{AllByRecursion}
 use Rattle.std.proofs.Common.{sym, ap, ◌∙◌, subst, arith, inl}
+use Rattle.std.proofs.lemmas.Bool.{false≢true}
 use Rattle.std.proofs.lemmas.Option.{same_Some}
+use Rattle.ovn_base.specs.Among.{Among}
 use Rattle.ovn_base.specs.Address.{IsMac}
 use Rattle.ovn_base.specs.declared.name.Name.{Name}
 use Rattle.inet_packet.specs.Fits.{CubeFits}
@@ -12,17 +15,23 @@ use Rattle.inet_packet.specs.declared.regs.Regs.{Regs}
 use Rattle.inet_packet.proofs.OnePacket.{one_packet_at_most}
 use Rattle.flow_table.specs.Matching.{IsBest, Beats}
 use Rattle.flow_table.specs.declared.flow.Flow.{Flow}
-use Rattle.switch_engine.specs.Actions.{outcome}
-use Rattle.switch_engine.specs.Walk.{IsWalk, Follows, start_regs}
-use Rattle.switch_engine.specs.declared.actions.End.{End}
-use Rattle.switch_engine.specs.declared.actions.End.TheVariants.{Ended, Goes, Dropped, GivesOut}
+use Rattle.flow_table.specs.declared.flow.FlowOp.{FlowOp}
+use Rattle.flow_table.specs.declared.flow.FlowOp.TheVariants.{Set, Go, Drop, Header, Frame, Copies, Output}
+use Rattle.switch_engine.specs.Actions.{outcome, going_on, set_reg}
+use Rattle.switch_engine.specs.Proper.{Sets}
+use Rattle.switch_engine.specs.Range.{IsInRange}
+use Rattle.switch_engine.specs.Walk.{IsWalk, IsWalkOf, start, start_regs, unmatched}
+use Rattle.switch_engine.specs.Walk.IsWalk.{over, ends, takes}
+use Rattle.switch_engine.specs.declared.carried.Carried.{Carried}
 use Rattle.switch_engine.specs.declared.effect.Effect.{Effect}
 use Rattle.switch_engine.specs.declared.effect.Entry.TheVariants.{Vif}
 use Rattle.switch_engine.specs.declared.effect.NetEffect.{NetEffect}
 use Rattle.switch_engine.specs.declared.walk.Start.TheVariants.{Port}
 use Rattle.switch_engine.specs.declared.walk.Step.{Step}
 use Rattle.switch_engine.specs.declared.walk.Walk.{Walk}
-use Rattle.switch_engine.proofs.Ranges.{IsInRange, proper_in_range}
+use Rattle.switch_engine.proofs.Framed.{proper_sets}
+use Rattle.switch_engine.proofs.Lists.{all_append}
+use Rattle.switch_engine.proofs.Ranges.{set_in_range}
 use Rattle.ovn_base.specs.ByName.{at}
 use Rattle.nb_records.specs.declared.record.SwitchPort.{SwitchPort}
 use Rattle.edit_reader.specs.declared.event.Event.{Event}
@@ -42,38 +51,62 @@ use Rattle.world_core.proofs.ProperTables.{proper}
 use Rattle.world_core.proofs.RowFits.{fits_entry, fits_datapath, fits_address, fits_exit, fits_return}
 use Rattle.world_core.proofs.WalkSteps as steps
 
--- ---- rows that let all pass
+-- ---- what each copy of a walk keeps
+
+-- the numbers of a copy lie within its registers, and its packet goes to an address
+pub record IsFine (copy : Carried) : Type 0 where
+  pub in_range : IsInRange copy.regs
+  pub is_mac : IsMac copy.packet.dst
+
+-- no action makes copies
+abbrev makes_none : List FlowOp → Bool
+makes_none [] = true
+makes_none (Set reg n ∷ ops) = makes_none ops
+makes_none (Go next ∷ ops) = makes_none ops
+makes_none (Drop cause ∷ ops) = makes_none ops
+makes_none (Header ∷ ops) = makes_none ops
+makes_none (Frame chassis ∷ ops) = makes_none ops
+makes_none (Copies members ∷ ops) = false
+makes_none (Output port ∷ ops) = makes_none ops
+
+-- what such actions bring on from a port keeps it
+kept : (p : Name) (ops : List FlowOp) (copy : Carried) → makes_none ops ≡ true → AllByRecursion Sets ops → IsFine copy → AllByRecursion IsFine (going_on (outcome (Vif p) ops copy))
+kept p [] copy none sets fine = tt
+kept p (Set reg n ∷ ops) copy none sets fine = kept p ops (record copy { regs = set_reg reg n copy.regs }) none sets.1 (record { in_range = set_in_range reg n copy.regs sets.0 fine.in_range; is_mac = fine.is_mac })
+kept p (Go next ∷ ops) copy none sets fine = (record { in_range = fine.in_range; is_mac = fine.is_mac }, tt)
+kept p (Drop cause ∷ ops) copy none sets fine = tt
+kept p (Header ∷ ops) copy none sets fine = kept p ops copy none sets.1 fine
+kept p (Frame chassis ∷ ops) copy none sets fine = kept p ops copy none sets.1 fine
+kept p (Copies members ∷ ops) copy none sets fine = absurd (false≢true none)
+kept p (Output port ∷ ops) copy none sets fine = kept p ops copy none sets.1 fine
 
 module _ (b : Basis) (f : Flow) where
-  pass_8 : AdmitRow b f → steps.IsPass 8 9 f
-  pass_8 (AdmitRow.s_admit_base a dp on e) = (dp, e)
+  none_by : (row : Flow) → f ≡ row → makes_none row.ops ≡ true → makes_none f.ops ≡ true
+  none_by row e none = ap (λ (g : Flow). makes_none g.ops) e ∙ none
 
-  pass_9 : PortSecRow b f → steps.IsPass 9 10 f
-  pass_9 (PortSecRow.s_port_sec_base a dp on e) = (dp, e)
+  pass_makes_none : (table next : ℕ) → steps.IsPass table next f → makes_none f.ops ≡ true
+  pass_makes_none table next h = none_by (pass_row h.0 table next) h.1 refl
 
-  pass_10 : TrackRow b f → steps.IsPass 10 11 f
-  pass_10 (TrackRow.s_track_base a dp on e) = (dp, e)
-
-  pass_11 : AclInRow b f → steps.IsPass 11 12 f
-  pass_11 (AclInRow.s_acl_in_base a dp on e) = (dp, e)
-
-  pass_12 : StateInRow b f → steps.IsPass 12 13 f
-  pass_12 (StateInRow.s_state_in_base a dp on e) = (dp, e)
-
-  pass_13 : ArpRow b f → steps.IsPass 13 14 f
-  pass_13 (ArpRow.s_arp_base a dp on e) = (dp, e)
-
-  pass_40 : TrackOutRow b f → steps.IsPass 40 41 f
-  pass_40 (TrackOutRow.s_track_out_base a dp on e) = (dp, e)
-
-  pass_41 : AclOutRow b f → steps.IsPass 41 42 f
-  pass_41 (AclOutRow.s_acl_out_base a dp on e) = (dp, e)
-
-  pass_42 : StateOutRow b f → steps.IsPass 42 43 f
-  pass_42 (StateOutRow.s_state_out_base a dp on e) = (dp, e)
-
-  pass_43 : SecOutRow b f → steps.IsPass 43 64 f
-  pass_43 (SecOutRow.s_sec_out_base a dp on e) = (dp, e)
+  -- no row of the tables makes copies
+  row_makes_none : TableFlow b f → makes_none f.ops ≡ true
+  row_makes_none (TableFlow.in_entry (EntryRow.entry q port dp key z of home e)) = none_by _ e refl
+  row_makes_none (TableFlow.in_s_admit r) = pass_makes_none 8 9 (steps.pass_8 b f r)
+  row_makes_none (TableFlow.in_s_port_sec r) = pass_makes_none 9 10 (steps.pass_9 b f r)
+  row_makes_none (TableFlow.in_s_track r) = pass_makes_none 10 11 (steps.pass_10 b f r)
+  row_makes_none (TableFlow.in_s_acl_in r) = pass_makes_none 11 12 (steps.pass_11 b f r)
+  row_makes_none (TableFlow.in_s_state_in r) = pass_makes_none 12 13 (steps.pass_12 b f r)
+  row_makes_none (TableFlow.in_s_arp r) = pass_makes_none 13 14 (steps.pass_13 b f r)
+  row_makes_none (TableFlow.in_s_lookup (LookupRow.address q port dp key entry of among e)) = none_by _ e refl
+  row_makes_none (TableFlow.in_s_lookup (LookupRow.unknown a dp on e)) = none_by _ e refl
+  row_makes_none (TableFlow.in_remote (RemoteRow.stay e)) = none_by _ e refl
+  row_makes_none (TableFlow.in_home (HomeRow.home q port dp key z of home e)) = none_by _ e refl
+  row_makes_none (TableFlow.in_back (ReturnRow.back q port dp key of e)) = none_by _ e refl
+  row_makes_none (TableFlow.in_back (ReturnRow.leave e)) = none_by _ e refl
+  row_makes_none (TableFlow.in_s_track_out r) = pass_makes_none 40 41 (steps.pass_40 b f r)
+  row_makes_none (TableFlow.in_s_acl_out r) = pass_makes_none 41 42 (steps.pass_41 b f r)
+  row_makes_none (TableFlow.in_s_state_out r) = pass_makes_none 42 43 (steps.pass_42 b f r)
+  row_makes_none (TableFlow.in_s_sec_out r) = pass_makes_none 43 64 (steps.pass_43 b f r)
+  row_makes_none (TableFlow.in_output (OutputRow.output q port dp key of e)) = none_by _ e refl
 
 abbrev name_at : At → Name
 name_at (Local n) = n
@@ -143,8 +176,10 @@ module _ (m : state.State) (zones : List (Name × ℕ)) (flows : List Flow) (c :
 
     backs : ReturnRow b f → ReturnRow b g → f ≡ g
     backs (ReturnRow.back q port dp key of e) (ReturnRow.back r other d k their x) =
-        let first = fits_return regs packet dp key range.dp_within range.out_port_within range.in_port_within (steps.row_fits regs packet f (return_row dp key) e f_fits) in
-        let second = fits_return regs packet d k range.dp_within range.out_port_within range.in_port_within (steps.row_fits regs packet g (return_row d k) x g_fits) in
+        let narrow : regs.in_port < 2 ^ 15 = range.in_port_within in
+        let in_port : regs.in_port < 2 ^ 16 = omega arith in
+        let first = fits_return regs packet dp key range.dp_within range.out_port_within in_port (steps.row_fits regs packet f (return_row dp key) e f_fits) in
+        let second = fits_return regs packet d k range.dp_within range.out_port_within in_port (steps.row_fits regs packet g (return_row d k) x g_fits) in
         let on : dp ≡ d = sym first.0 ∙ second.0 in
         let number : key ≡ k = sym first.1 ∙ second.1 in
         e ∙ (λ i. return_row (on i) (number i)) ∙ sym x
@@ -164,52 +199,55 @@ module _ (m : state.State) (zones : List (Name × ℕ)) (flows : List Flow) (c :
     -- both are rows of the stage of their table
     rows : f.table ≡ g.table → TableFlow b f → TableFlow b g → f ≡ g
     rows t (TableFlow.in_entry r) of = entries r (at_0 b g of (sym t ∙ table_of_entry b f r))
-    rows t (TableFlow.in_s_admit r) of = passes 8 9 (pass_8 b f r) (pass_8 b g (at_8 b g of (sym t ∙ table_of_admit b f r)))
-    rows t (TableFlow.in_s_port_sec r) of = passes 9 10 (pass_9 b f r) (pass_9 b g (at_9 b g of (sym t ∙ table_of_port_sec b f r)))
-    rows t (TableFlow.in_s_track r) of = passes 10 11 (pass_10 b f r) (pass_10 b g (at_10 b g of (sym t ∙ table_of_track b f r)))
-    rows t (TableFlow.in_s_acl_in r) of = passes 11 12 (pass_11 b f r) (pass_11 b g (at_11 b g of (sym t ∙ table_of_acl_in b f r)))
-    rows t (TableFlow.in_s_state_in r) of = passes 12 13 (pass_12 b f r) (pass_12 b g (at_12 b g of (sym t ∙ table_of_state_in b f r)))
-    rows t (TableFlow.in_s_arp r) of = passes 13 14 (pass_13 b f r) (pass_13 b g (at_13 b g of (sym t ∙ table_of_arp b f r)))
+    rows t (TableFlow.in_s_admit r) of = passes 8 9 (steps.pass_8 b f r) (steps.pass_8 b g (at_8 b g of (sym t ∙ table_of_admit b f r)))
+    rows t (TableFlow.in_s_port_sec r) of = passes 9 10 (steps.pass_9 b f r) (steps.pass_9 b g (at_9 b g of (sym t ∙ table_of_port_sec b f r)))
+    rows t (TableFlow.in_s_track r) of = passes 10 11 (steps.pass_10 b f r) (steps.pass_10 b g (at_10 b g of (sym t ∙ table_of_track b f r)))
+    rows t (TableFlow.in_s_acl_in r) of = passes 11 12 (steps.pass_11 b f r) (steps.pass_11 b g (at_11 b g of (sym t ∙ table_of_acl_in b f r)))
+    rows t (TableFlow.in_s_state_in r) of = passes 12 13 (steps.pass_12 b f r) (steps.pass_12 b g (at_12 b g of (sym t ∙ table_of_state_in b f r)))
+    rows t (TableFlow.in_s_arp r) of = passes 13 14 (steps.pass_13 b f r) (steps.pass_13 b g (at_13 b g of (sym t ∙ table_of_arp b f r)))
     rows t (TableFlow.in_s_lookup r) of = looks r (at_14 b g of (sym t ∙ table_of_lookup b f r))
     rows t (TableFlow.in_remote r) of = stays r (at_32 b g of (sym t ∙ table_of_remote b f r))
     rows t (TableFlow.in_home r) of = homes r (at_33 b g of (sym t ∙ table_of_home b f r))
     rows t (TableFlow.in_back r) of = backs r (at_34 b g of (sym t ∙ table_of_return b f r))
-    rows t (TableFlow.in_s_track_out r) of = passes 40 41 (pass_40 b f r) (pass_40 b g (at_40 b g of (sym t ∙ table_of_track_out b f r)))
-    rows t (TableFlow.in_s_acl_out r) of = passes 41 42 (pass_41 b f r) (pass_41 b g (at_41 b g of (sym t ∙ table_of_acl_out b f r)))
-    rows t (TableFlow.in_s_state_out r) of = passes 42 43 (pass_42 b f r) (pass_42 b g (at_42 b g of (sym t ∙ table_of_state_out b f r)))
-    rows t (TableFlow.in_s_sec_out r) of = passes 43 64 (pass_43 b f r) (pass_43 b g (at_43 b g of (sym t ∙ table_of_sec_out b f r)))
+    rows t (TableFlow.in_s_track_out r) of = passes 40 41 (steps.pass_40 b f r) (steps.pass_40 b g (at_40 b g of (sym t ∙ table_of_track_out b f r)))
+    rows t (TableFlow.in_s_acl_out r) of = passes 41 42 (steps.pass_41 b f r) (steps.pass_41 b g (at_41 b g of (sym t ∙ table_of_acl_out b f r)))
+    rows t (TableFlow.in_s_state_out r) of = passes 42 43 (steps.pass_42 b f r) (steps.pass_42 b g (at_42 b g of (sym t ∙ table_of_state_out b f r)))
+    rows t (TableFlow.in_s_sec_out r) of = passes 43 64 (steps.pass_43 b f r) (steps.pass_43 b g (at_43 b g of (sym t ∙ table_of_sec_out b f r)))
     rows t (TableFlow.in_output r) of = outputs r (at_64 b g of (sym t ∙ table_of_output b f r))
 
-  module _ (bound : AreBound m zones) (more : List Flow) (also : AreExactly (TableFlow (basis_at m zones c)) more) (packet : Packet) (is_mac : IsMac packet.dst) where
+  module _ (bound : AreBound m zones) (more : List Flow) (also : AreExactly (TableFlow (basis_at m zones c)) more) (p : Name) where
     -- of two lists of the flows of the chassis the best flow is one
-    best : (table : ℕ) (regs : Regs) → IsInRange regs → (f g : Flow) → IsBest flows table regs packet f → IsBest more table regs packet g → f ≡ g
-    best table regs range f g h k =
+    best : (copy : Carried) → IsFine copy → (f g : Flow) → IsBest flows copy.table copy.regs copy.packet f → IsBest more copy.table copy.regs copy.packet g → f ≡ g
+    best copy fine f g h k =
         let here : TableFlow b f = (exact.same f).0 h.held in
         let there : TableFlow b g = (also.same g).0 k.held in
-        rows regs range packet is_mac f g h.matching.fits k.matching.fits
+        rows copy.regs fine.in_range copy.packet fine.is_mac f g h.matching.fits k.matching.fits
         (h.unbeaten g ((exact.same g).1 there) k.matching) (k.unbeaten f ((also.same f).1 here) h.matching)
         (h.matching.in_table ∙ sym k.matching.in_table) here there
 
-    goes_on : (table : ℕ) (end : End) (regs : Regs) (path others : List Step) (ends last : List Effect) → ((next : ℕ) → IsWalk flows next regs packet path ends → IsWalk more next regs packet others last → (path ≡ others) × (ends ≡ last))
-        → Follows table end regs packet path ends (λ next. IsWalk flows next regs packet path ends) → Follows table end regs packet others last (λ next. IsWalk more next regs packet others last) → (path ≡ others) × (ends ≡ last)
-    goes_on table Ended regs path others ends last again h k = (h.0 ∙ sym k.0, h.1 ∙ sym k.1)
-    goes_on table (Goes next) regs path others ends last again h k = again next h k
-    goes_on table (Dropped cause) regs path others ends last again h k = (h.0 ∙ sym k.0, h.1 ∙ sym k.1)
-    goes_on table (GivesOut port) regs path others ends last again h k = (h.0 ∙ sym k.0, h.1 ∙ sym k.1)
+    -- what a flow of the chassis brings on
+    brings_fine : (flow : Flow) → Among flow flows → (copy : Carried) → IsFine copy → AllByRecursion IsFine (going_on (outcome (Vif p) flow.ops copy))
+    brings_fine flow held copy fine =
+        kept p flow.ops copy (row_makes_none b flow ((exact.same flow).0 held)) (proper_sets flow (proper m zones flows c keys bound exact flow held)) fine
 
-    pub one_walk : (table : ℕ) (regs : Regs) → IsInRange regs → (path others : List Step) (ends last : List Effect) → IsWalk flows table regs packet path ends → IsWalk more table regs packet others last → (path ≡ others) × (ends ≡ last)
-    one_walk table regs range [] [] ends last h k = (refl, h.1 ∙ sym k.1)
-    one_walk table regs range [] (step ∷ others) ends last h k = absurd (h.0 step.flow ((exact.same step.flow).1 ((also.same step.flow).0 k.1.held)) k.1.matching)
-    one_walk table regs range (step ∷ path) [] ends last h k = absurd (k.0 step.flow ((also.same step.flow).1 ((exact.same step.flow).0 h.1.held)) h.1.matching)
-    one_walk table regs range (step ∷ path) (next ∷ others) ends last h k =
-        let flow : step.flow ≡ next.flow = best table regs range step.flow next.flow h.1 k.1 in
-        let same : step ≡ next = λ i. record { table = (h.0 ∙ sym k.0) i; flow = flow i } in
-        let after : steps.After more table regs packet others last step.flow = subst (λ f. steps.After more table regs packet others last f) (sym flow) k.2 in
-        let left : IsInRange (outcome step.flow.ops regs).1 = proper_in_range step.flow regs (proper m zones flows c keys bound exact step.flow h.1.held) range in
+    pub one_walk : (copies : List Carried) → AllByRecursion IsFine copies → (path others : List Step) (effects last : List Effect) → IsWalk flows (Vif p) copies path effects → IsWalk more (Vif p) copies others last → (path ≡ others) × (effects ≡ last)
+    one_walk _ fine _ _ _ _ over over = (refl, refl)
+    one_walk _ fine _ _ _ _ (ends copy left path after effects none walk same) (ends _ _ others later last never again is) =
+        let rest = one_walk left fine.1 path others after later walk again in
+        (rest.0, same ∙ ap (λ l. unmatched (Vif p) copy ++ l) rest.1 ∙ sym is)
+    one_walk _ fine _ _ _ _ (ends copy left path after effects none walk same) (takes _ _ next others later last there took again is) =
+        absurd (none next.flow ((exact.same next.flow).1 ((also.same next.flow).0 took.held)) took.matching)
+    one_walk _ fine _ _ _ _ (takes copy left step path after effects here took walk same) (ends _ _ others later last never again is) =
+        absurd (never step.flow ((also.same step.flow).1 ((exact.same step.flow).0 took.held)) took.matching)
+    one_walk _ fine _ _ _ _ (takes copy left step path after effects here took walk same) (takes _ _ next others later last there also_took again is) =
+        let flow : step.flow ≡ next.flow = best copy fine.0 step.flow next.flow took also_took in
+        let equal : step ≡ next = λ i. record { table = (here ∙ sym there) i; flow = flow i } in
+        let moved : IsWalk more (Vif p) (going_on (outcome (Vif p) step.flow.ops copy) ++ left) others later = subst (λ (f : Flow). IsWalk more (Vif p) (going_on (outcome (Vif p) f.ops copy) ++ left) others later) (sym flow) again in
         let rest =
-        goes_on table (outcome step.flow.ops regs).0 (outcome step.flow.ops regs).1 path others ends last
-        (λ n v w. one_walk n (outcome step.flow.ops regs).1 left path others ends last v w) h.2 after in
-        (ap (λ s. s ∷ path) same ∙ ap (λ ss. next ∷ ss) rest.0, rest.1)
+        one_walk (going_on (outcome (Vif p) step.flow.ops copy) ++ left) (all_append IsFine (going_on (outcome (Vif p) step.flow.ops copy)) left (brings_fine step.flow took.held copy fine.0) fine.1) path others after later walk moved in (
+          ap (λ s. s ∷ path) equal ∙ ap (λ ss. next ∷ ss) rest.0,
+          same ∙ ap (λ l. (outcome (Vif p) step.flow.ops copy).effects ++ l) rest.1 ∙ ap (λ (f : Flow). (outcome (Vif p) f.ops copy).effects ++ later) flow ∙ sym is,
+        )
 
 start_in_range : (p : Name) → IsInRange (start_regs (Vif p))
 start_in_range p = record {
@@ -238,8 +276,9 @@ same_sent one two p frame effects others walks more sound also states zones h k 
     let exact = sound.compiled.exact h.chassis (now.bound.chassis_there p h.chassis h.home) in
     let theirs = also.compiled.exact k.chassis (also.consistent.bound.chassis_there p k.chassis k.home) in
     let moved : AreExactly (TableFlow (basis_at m one.zones h.chassis)) two.flows = subst (λ (b : Basis). AreExactly (TableFlow b) two.flows) (λ i. basis_at (sym states i) (sym zones i) (sym home i)) theirs in
-    let walked : IsWalk two.flows 0 (start_regs (Vif p)) h.packet k.steps k.ends = subst (λ x. IsWalk two.flows 0 (start_regs (Vif p)) x k.steps k.ends) (sym packet) k.walked in
-    let path = one_walk m one.zones one.flows h.chassis now.valid now.keys exact now.bound two.flows moved h.packet h.whole.dst 0 (start_regs (Vif p)) (start_in_range p) h.steps k.steps h.ends k.ends h.walked walked in
+    let walked : IsWalkOf two.flows (Vif p) h.packet k.steps k.ends = subst (λ x. IsWalkOf two.flows (Vif p) x k.steps k.ends) (sym packet) k.walked in
+    let path =
+    one_walk m one.zones one.flows h.chassis now.valid now.keys exact now.bound two.flows moved p (start (Vif p) h.packet ∷ []) (record { in_range = start_in_range p; is_mac = h.whole.dst }, tt) h.steps k.steps h.ends k.ends h.walked walked in
     h.walks_are ∙ (λ i. record { chassis = home i; start = Port p; steps = path.0 i } ∷ []) ∙ sym k.walks_are
 
 pub same_walks : (one two : Seen) (event : Event) (effects others : List NetEffect) (walks more : List Walk) → IsSound one → IsSound two → one.state ≡ two.state → one.zones ≡ two.zones

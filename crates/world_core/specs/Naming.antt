@@ -25,7 +25,7 @@ pub record HasPortKey (keys : Keys) (a q : Name) (key : ℕ) : Type 0 where
   pub on : live.datapath ≡ a
   pub number : live.key ≡ key
 
--- the effect in names is that of the tables: its names have the numbers
+-- the effect in names is that of the tables: its names have the numbers; a frame and a loss have no names
 pub data IsNamed (keys : Keys) : Effect → NetEffect → Type 0 where
   out : {port : Name} {packet : Packet} → IsNamed keys (effect.Out port packet) (net.Out port packet)
   drop : {vni key : ℕ} {cause : Cause} {a q : Name} → HasDatapathKey keys a vni → HasPortKey keys a q key → IsNamed keys (effect.Drop vni key cause) (net.Drop a q cause)

@@ -15,7 +15,7 @@ use Rattle.switch_engine.specs.declared.effect.NetEffect.{NetEffect}
 use Rattle.switch_engine.specs.declared.walk.Start.TheVariants.{Port}
 use Rattle.switch_engine.specs.declared.walk.Step.{Step}
 use Rattle.switch_engine.specs.declared.walk.Walk.{Walk}
-use Rattle.switch_engine.specs.Walk.{IsWalk, start_regs}
+use Rattle.switch_engine.specs.Walk.{IsWalkOf}
 use Rattle.event_lines.specs.declared.refusal.Refusal.{Refusal}
 use Rattle.event_lines.specs.declared.refusal.StepFault.{StepFault}
 use Rattle.event_lines.specs.declared.refusal.StepFault.TheVariants.{Refused, Memory}
@@ -36,7 +36,7 @@ pub record IsSent (m : State) (flows : List Flow) (p : Name) (frame : List ℕ) 
   pub home : at m.bindings p ≡ Some chassis
   pub steps : List Step
   pub ends : List Effect
-  pub walked : IsWalk flows 0 (start_regs (Vif p)) packet steps ends
+  pub walked : IsWalkOf flows (Vif p) packet steps ends
   pub named : AllZip (IsNamed m.keys) ends effects
   pub walks_are : walks ≡ record { chassis = chassis; start = Port p; steps = steps } ∷ []
 

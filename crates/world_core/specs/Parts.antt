@@ -1,5 +1,6 @@
 -- What the parts of a step need and leave.
-use Rattle.std.specs.Prelude.{◌≡◌, ℕ, List, [], ◌∷◌, Option, Some, None, true, false, slice_get, map, if◌then◌else◌, Ok, Err, Result}
+use Rattle.std.specs.Prelude.{◌≡◌, ℕ, List, [], ◌∷◌, Option, Some, None, true, false, slice_get, if◌then◌else◌, Ok, Err, Result}
+use Rattle.std.specs.List.{filter_map}
 use Rattle.ovn_base.specs.declared.name.Name.{Name}
 use Rattle.inet_packet.specs.declared.packet.Packet as inet
 use Rattle.inet_packet.specs.Frame.{frame_of}
@@ -16,7 +17,7 @@ use Rattle.switch_engine.specs.declared.effect.NetEffect.{NetEffect}
 use Rattle.switch_engine.specs.declared.walk.Start.TheVariants.{Port}
 use Rattle.switch_engine.specs.declared.walk.Step.{Step}
 use Rattle.switch_engine.specs.declared.walk.Walk.{Walk}
-use Rattle.switch_engine.specs.Walk.{IsWalk, start_regs}
+use Rattle.switch_engine.specs.Walk.{IsWalkOf}
 use Rattle.world_core.specs.Outcome.{HasWalks, matched, IsAccepted, IsRefused}
 use Rattle.world_core.specs.Refusing.{is_chassis}
 use Rattle.world_core.specs.Seen.{Seen, IsConsistent}
@@ -58,8 +59,8 @@ pub record IsShown (m : State) (flows : List Flow) (p : Name) (frame : List ℕ)
   pub home : at m.bindings p ≡ Some chassis
   pub steps : List Step
   pub ends : List Effect
-  pub walked : IsWalk flows 0 (start_regs (Vif p)) packet steps ends
-  pub effects_are : effects ≡ map (λ effect. shown m.net m.keys effect) ends
+  pub walked : IsWalkOf flows (Vif p) packet steps ends
+  pub effects_are : effects ≡ filter_map (λ effect. shown m.net m.keys effect) ends
   pub walks_are : walks ≡ record { chassis = chassis; start = Port p; steps = steps } ∷ []
 
 -- the flow of this index that the chassis holds, where it is there

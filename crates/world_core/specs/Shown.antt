@@ -35,7 +35,9 @@ live_ports keys a = unwrap_or (option_map (λ d. ports_on keys.ports a) (at keys
 abbrev pub port_named : Keys → Name → ℕ → Name
 port_named keys a key = name_or_dash (find (λ e. nat_eq e.1 key) (live_ports keys a))
 
--- the effect with these names
-abbrev pub shown : Network → Keys → Effect → NetEffect
-shown records keys (effect.Out port packet) = net.Out port packet
-shown records keys (effect.Drop vni port cause) = net.Drop (datapath_named records keys vni) (port_named keys (datapath_named records keys vni) port) cause
+-- the effect with these names, if it has any
+abbrev pub shown : Network → Keys → Effect → Option NetEffect
+shown records keys (effect.Out port packet) = Some (net.Out port packet)
+shown records keys (effect.Frame chassis vni in_key out_key packet) = None
+shown records keys (effect.Drop vni port cause) = Some (net.Drop (datapath_named records keys vni) (port_named keys (datapath_named records keys vni) port) cause)
+shown records keys effect.Lost = None

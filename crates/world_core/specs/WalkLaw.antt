@@ -9,7 +9,7 @@ use Rattle.switch_engine.specs.declared.effect.Effect.{Effect}
 use Rattle.switch_engine.specs.declared.effect.Entry.TheVariants.{Vif}
 use Rattle.switch_engine.specs.declared.effect.NetEffect.{NetEffect}
 use Rattle.switch_engine.specs.declared.walk.Step.{Step}
-use Rattle.switch_engine.specs.Walk.{IsWalk, start_regs}
+use Rattle.switch_engine.specs.Walk.{IsWalkOf}
 use Rattle.ovn_base.specs.ByName.{at}
 use Rattle.world_core.specs.Naming.{IsNamed}
 use Rattle.world_core.specs.State.{State}
@@ -27,5 +27,5 @@ pub record AreVisit (m : State) (p : Name) (packet : Packet) (ends : List Effect
 abbrev pub WalkLaw : Type 0
 WalkLaw =
     (m : State) (zones : List (Name × ℕ)) (flows : List Flow) (c : Name) → IsValid m.net → HaveKeys m.net m.keys → AreBound m zones → AreExactly (TableFlow (basis_at m zones c)) flows
-    → (p : Name) → at m.bindings p ≡ Some c → (packet : Packet) → IsMac packet.dst → (steps : List Step) (ends : List Effect) → IsWalk flows 0 (start_regs (Vif p)) packet steps ends
+    → (p : Name) → at m.bindings p ≡ Some c → (packet : Packet) → IsMac packet.dst → (steps : List Step) (ends : List Effect) → IsWalkOf flows (Vif p) packet steps ends
     → AreVisit m p packet ends

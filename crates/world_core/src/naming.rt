@@ -1,7 +1,7 @@
 //! The names of numbers: what the tables did, said in names.
-ghost use Rattle.std.specs.Prelude.{◌≡◌, ◌++◌, IfOk, codes, map};
+ghost use Rattle.std.specs.Prelude.{◌≡◌, ◌++◌, IfOk, codes};
 ghost use Rattle.std.proofs.Math.Dec.{eqb as nat_eq};
-ghost use Rattle.std.specs.List.{find};
+ghost use Rattle.std.specs.List.{filter_map, find};
 ghost use Rattle.world_core.specs.Numbers.{datapath_number};
 ghost use Rattle.world_core.specs.Shown.{datapath_named, is_number, name_or_dash, port_named, shown};
 
@@ -75,34 +75,37 @@ impl Numbers<'_> {
         }
     }
 
-    // The effect in names.
-    fn named(&self, effect: Effect) -> NetEffect
+    // The effect in names, if it has any.
+    fn named(&self, effect: Effect) -> Option<NetEffect>
         ensures { result ≡ shown self.now.records.now self.now.keys.now effect }
     {
         match effect {
-            Effect::Out { port, packet } => NetEffect::Out { port, packet },
+            Effect::Out { port, packet } => Some(NetEffect::Out { port, packet }),
             Effect::Drop { vni, port, cause } => {
                 let datapath = self.datapath(vni);
-                NetEffect::Drop {
+                Some(NetEffect::Drop {
                     datapath,
                     port: self.port(datapath, port),
                     cause,
-                }
+                })
             }
+            Effect::Frame { .. } | Effect::Lost => None,
         }
     }
 
-    /// The effects in names.
+    /// The effects that have names, in names.
     pub fn all_named(
         &self,
         alloc: Global,
         effects: List<Effect>,
     ) -> Result<List<NetEffect>, NoMemory>
-        ensures { IfOk result (λ nets. nets ≡ map (λ effect. shown self.now.records.now self.now.keys.now effect) effects) }
+        ensures { IfOk result (λ nets. nets ≡ filter_map (λ effect. shown self.now.records.now self.now.keys.now effect) effects) }
     {
         let mut nets = List::new(alloc);
         'effects: for effect in effects {
-            nets.push(self.named(effect))?;
+            if let Some(net) = self.named(effect) {
+                nets.push(net)?;
+            }
         }
         Ok(nets)
     }

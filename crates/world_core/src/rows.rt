@@ -4,6 +4,7 @@ ghost use Rattle.flow_table.specs.declared.flow.FlowOp.TheVariants.{Set};
 ghost use Rattle.world_core.specs.Rows.{any, exactly, everything, on_entry, on_datapath, on_address, on_exit, on_return, flow_of, pass_row, stay_row, leave_row};
 ghost use Rattle.world_core.specs.Tables.{ingress_rows, egress_rows, switch_rows, address_rows, port_rows, local_rows};
 
+use flow_table::exact::exact_op_clone;
 use flow_table::flow::{Cause, Flow, FlowOp};
 use inet_packet::cube::{Bits, Cube};
 use inet_packet::regs::{At, Reg};
@@ -123,6 +124,7 @@ fn return_cube(dp: u32, key: u16) -> Cube
 }
 
 // A flow of rank 0.
+#[tactic(auto, using(ovn_base::proofs::Exact::zip_exact))]
 fn make_flow(
     alloc: Global,
     table: u8,
@@ -132,6 +134,7 @@ fn make_flow(
 ) -> Result<Flow, NoMemory>
     ensures { IfOk result (λ f. f ≡ flow_of table priority cube ops.now) }
 {
+    exact_op_clone();
     let ops = List::from_vec(ops.to_vec(alloc)?);
     Ok(Flow {
         table,
