@@ -85,7 +85,7 @@ pub(crate) fn replace_each<T: Lookup>(
 }
 
 // Takes the chassis out.
-pub(crate) fn remove_each<T: Lookup>(held: &mut IndexMap<Name, T>, names: List<Name>)
+pub(crate) fn remove_each<T: Lookup + Drop>(held: &mut IndexMap<Name, T>, names: List<Name>)
     ensures gone { AreSet same_name (map gone names) (flows_held T.flows held.old.entries) (flows_held T.flows held.new.entries) }
     ensures spare { spare held.old ≤ spare held.new }
 {
@@ -95,7 +95,7 @@ pub(crate) fn remove_each<T: Lookup>(held: &mut IndexMap<Name, T>, names: List<N
 }
 
 // Puts each chassis in with its tables.
-pub(crate) fn add_each<T: Lookup>(held: &mut IndexMap<Name, T>, added: List<(Name, T)>)
+pub(crate) fn add_each<T: Lookup + Drop>(held: &mut IndexMap<Name, T>, added: List<(Name, T)>)
     requires { length added ≤ spare held.old }
     ensures { AreSet same_name (map (come T.flows) added) (flows_held T.flows held.old.entries) (flows_held T.flows held.new.entries) }
 {

@@ -5,7 +5,7 @@ ghost use Rattle.inet_packet.specs.Frame.{frame_of};
 ghost use Rattle.inet_packet.specs.Whole.{IsWhole};
 ghost use Rattle.geneve_frames.specs.Meaning.{canon};
 ghost use Rattle.chassis_sim.specs.Frames.{IsSent, CanBeSent};
-ghost use Rattle.chassis_sim.specs.InNames.{name_of, in_names, all_in_names, next_after, next_after_all, sent_by, frames_sent};
+ghost use Rattle.chassis_sim.specs.InNames.{name_of, arrived_as, in_names, all_in_names, next_after, next_after_all, sent_by, frames_sent};
 ghost use Rattle.chassis_sim.specs.Passing.{Adds, Keeps, IsFront};
 
 use crate::frames::spelled;
@@ -43,12 +43,12 @@ fn name_at(names: &Names, vni: u32, port: u16) -> Name
 }
 
 // The number of the frame that arrived.
-fn arrived_as(start: Start) -> u128
-    ensures { result ≡ arrived_as start }
+fn arrived_as(start: &Start) -> u128
+    ensures { result ≡ arrived_as start.now }
 {
     match start {
         Start::Port(_) => 0,
-        Start::Frame(number) => number,
+        Start::Frame(number) => *number,
     }
 }
 
@@ -58,14 +58,14 @@ fn tell_one(
     names: &Names,
     underlay: &mut Underlay,
     chassis: Name,
-    start: Start,
+    start: &Start,
     effect: Effect,
     told: &mut List<NetEffect>,
 ) -> Result<(), NoMemory>
     requires can { CanBeSent effect }
     requires room { underlay.old.next + 1 < 2 ^ 128 }
-    ensures told { OnOk result (told.new ≡ told.old ++ in_names names.now.entries chassis start underlay.old.next effect ∷ []) }
-    ensures waiting { OnOk result (underlay.new.waiting ≡ underlay.old.waiting ++ sent_by (in_names names.now.entries chassis start underlay.old.next effect)) }
+    ensures told { OnOk result (told.new ≡ told.old ++ in_names names.now.entries chassis start.now underlay.old.next effect ∷ []) }
+    ensures waiting { OnOk result (underlay.new.waiting ≡ underlay.old.waiting ++ sent_by (in_names names.now.entries chassis start.now underlay.old.next effect)) }
     ensures next { OnOk result (underlay.new.next ≡ next_after underlay.old.next effect) }
     ensures kept { IsFront told.old told.new }
     ensures few { underlay.new.next + length told.old ≤ underlay.old.next + length told.new }
@@ -105,14 +105,14 @@ fn tell_effects(
     names: &Names,
     underlay: &mut Underlay,
     chassis: Name,
-    start: Start,
+    start: &Start,
     effects: List<Effect>,
     told: &mut List<NetEffect>,
 ) -> Result<(), NoMemory>
     requires can { AllByRecursion CanBeSent effects }
     requires room { underlay.old.next < 2 ^ 127 }
-    ensures told { OnOk result (told.new ≡ told.old ++ all_in_names names.now.entries chassis start underlay.old.next effects) }
-    ensures waiting { OnOk result (underlay.new.waiting ≡ underlay.old.waiting ++ frames_sent (all_in_names names.now.entries chassis start underlay.old.next effects)) }
+    ensures told { OnOk result (told.new ≡ told.old ++ all_in_names names.now.entries chassis start.now underlay.old.next effects) }
+    ensures waiting { OnOk result (underlay.new.waiting ≡ underlay.old.waiting ++ frames_sent (all_in_names names.now.entries chassis start.now underlay.old.next effects)) }
     ensures next { OnOk result (underlay.new.next ≡ next_after_all underlay.old.next effects) }
     ensures kept { IsFront told.old told.new }
     ensures few { underlay.new.next + length told.old ≤ underlay.old.next + length told.new }
@@ -129,14 +129,14 @@ pub(crate) fn tell(
     names: &Names,
     underlay: &mut Underlay,
     chassis: Name,
-    start: Start,
+    start: &Start,
     run: RunOut,
     out: &mut SimOut,
 ) -> Result<(), NoMemory>
     requires can { AllByRecursion CanBeSent run.effects }
     requires room { underlay.old.next < 2 ^ 127 }
-    ensures told { OnOk result (Adds chassis start run.walk (all_in_names names.now.entries chassis start underlay.old.next run.effects) out.old out.new) }
-    ensures waiting { OnOk result (underlay.new.waiting ≡ underlay.old.waiting ++ frames_sent (all_in_names names.now.entries chassis start underlay.old.next run.effects)) }
+    ensures told { OnOk result (Adds chassis start.now run.walk (all_in_names names.now.entries chassis start.now underlay.old.next run.effects) out.old out.new) }
+    ensures waiting { OnOk result (underlay.new.waiting ≡ underlay.old.waiting ++ frames_sent (all_in_names names.now.entries chassis start.now underlay.old.next run.effects)) }
     ensures next { OnOk result (underlay.new.next ≡ next_after_all underlay.old.next run.effects) }
     ensures kept { Keeps out.old out.new }
     ensures few { underlay.new.next + length out.old.effects ≤ underlay.old.next + length out.new.effects }
@@ -154,7 +154,7 @@ pub(crate) fn tell(
     )?;
     out.walks.push(Walk {
         chassis,
-        start,
+        start: *start,
         steps: walk,
     })
 }

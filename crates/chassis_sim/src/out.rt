@@ -42,7 +42,10 @@ pub enum SimFault {
 }
 
 impl From<NoMemory> for SimFault {
-    ghost from_gives = { λ x y. y ≡ SimFault.Memory };
+    ghost use Rattle.std.specs.Prelude.{◌≡◌};
+    ghost use Rattle.chassis_sim.specs.declared.out.SimFault.TheVariants.{Memory};
+
+    ghost from_gives = { λ x y. y ≡ Memory };
 
     fn from(_error: NoMemory) -> Self {
         SimFault::Memory

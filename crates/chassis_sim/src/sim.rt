@@ -166,7 +166,7 @@ impl<T: Lookup + Drop> Sim<T> {
         };
         let run = self.run_at(&chassis, port, packet, now)?;
         let start = Start::Port(*port);
-        tell(&self.names, &mut self.underlay, chassis, start, run, out)?;
+        tell(&self.names, &mut self.underlay, chassis, &start, run, out)?;
         Ok(())
     }
 
@@ -197,7 +197,7 @@ impl<T: Lookup + Drop> Sim<T> {
             self.underlay.take(frame);
         }
         let start = Start::Frame(frame);
-        tell(&self.names, &mut self.underlay, chassis, start, run, out)?;
+        tell(&self.names, &mut self.underlay, chassis, &start, run, out)?;
         Ok(())
     }
 
