@@ -1,5 +1,5 @@
 -- An event that a line asks for is one that a world takes.
-use Rattle.std.proofs.Common.{◌≡◌, ◌<◌, ℕ, List, [], ◌∷◌, refl, arith, subst, sym, inl, inr}
+use Rattle.std.proofs.Common.{◌<◌, ℕ, List, [], ◌∷◌, refl, arith, subst, sym, inl, inr}
 use Rattle.std.specs.List.{All, AllByRecursion, AllZip}
 use Rattle.std.proofs.lemmas.List.{get_or_default}
 use Rattle.std.proofs.lemmas.List.Elements.{All-cons, All-nil}

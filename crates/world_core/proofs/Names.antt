@@ -1,5 +1,5 @@
 -- The names of numbers: a number of a datapath or of a port gives back the name that has it.
-use Rattle.std.specs.Prelude.{◌≡◌, ℕ, Bool, true, cond, List, [], ◌∷◌, Some, Option, IsSome, map, filter, unwrap_or, refl}
+use Rattle.std.specs.Prelude.{◌≡◌, ℕ, Bool, true, cond, List, [], ◌∷◌, Some, Option, IsSome, filter, unwrap_or, refl}
 use Rattle.std.specs.List.{AllZip, find, filter_map, cons_option}
 use Rattle.std.specs.Option.{option_map}
 use Rattle.std.proofs.Common.{sym, ap, subst, ◌∙◌, inl, inr}

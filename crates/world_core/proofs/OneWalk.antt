@@ -43,7 +43,7 @@ use Rattle.world_core.specs.Outcome.{HasWalks, IsSent}
 use Rattle.world_core.specs.Rows.{entry_row, pass_row, address_row, unknown_row, home_row, return_row, output_row}
 use Rattle.world_core.specs.Seen.{Seen, IsSound}
 use Rattle.world_core.specs.Sound.{IsValid, HaveKeys, AreBound, AreExactly, basis_at}
-use Rattle.world_core.specs.Stages.{Basis, IsPort, IsHere, EntryRow, AdmitRow, PortSecRow, TrackRow, AclInRow, StateInRow, ArpRow, LookupRow, RemoteRow, HomeRow, ReturnRow, TrackOutRow, AclOutRow, StateOutRow, SecOutRow, OutputRow}
+use Rattle.world_core.specs.Stages.{Basis, IsPort, IsHere, EntryRow, LookupRow, RemoteRow, HomeRow, ReturnRow, OutputRow}
 use Rattle.world_core.specs.State as state
 use Rattle.world_core.specs.Tables.{TableFlow}
 use Rattle.world_core.proofs.ByTable.{at_0, at_8, at_9, at_10, at_11, at_12, at_13, at_14, at_32, at_33, at_34, at_40, at_41, at_42, at_43, at_64, table_of_entry, table_of_admit, table_of_port_sec, table_of_track, table_of_acl_in, table_of_state_in, table_of_arp, table_of_lookup, table_of_remote, table_of_home, table_of_return, table_of_track_out, table_of_acl_out, table_of_state_out, table_of_sec_out, table_of_output}
