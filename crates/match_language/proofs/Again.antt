@@ -77,7 +77,7 @@ bit_some : (b : Bool) → 0 < length (bit_text b)
 bit_some true = omega arith
 bit_some false = omega arith
 
-relation_begins : (x : Rel) (p : ℕ) (rest : List ℕ) → Begins p (rel_text x ++ (32 ∷ rest)) (t.Relation x) (32 ∷ rest)
+pub relation_begins : (x : Rel) (p : ℕ) (rest : List ℕ) → Begins p (rel_text x ++ (32 ∷ rest)) (t.Relation x) (32 ∷ rest)
 unfolding first_token
 relation_begins r.Eq p rest = begins_first p 61 (61 ∷ 32 ∷ rest) (t.Relation r.Eq) 2 (32 ∷ rest) refl refl refl
 relation_begins r.Ne p rest = begins_first p 33 (61 ∷ 32 ∷ rest) (t.Relation r.Ne) 2 (32 ∷ rest) refl refl refl
@@ -92,7 +92,7 @@ relation_begins r.Ge p rest = begins_first p 62 (61 ∷ 32 ∷ rest) (t.Relation
 abbrev IsTermIn : Direction → ℕ → Expr → List ℕ → List ℕ → Type 0
 IsTermIn way n x text rest = (p : ℕ) → (q : ℕ) × IsTerm way n x (skip p text) (skip q rest)
 
-const_in : (way : Direction) (n : ℕ) (b : Bool) (rest : List ℕ) → Follows rest → IsTermIn way n (ex.Const b) (bit_text b ++ rest) rest
+pub const_in : (way : Direction) (n : ℕ) (b : Bool) (rest : List ℕ) → Follows rest → IsTermIn way n (ex.Const b) (bit_text b ++ rest) rest
 const_in way n b rest follows p =
     let a = begins_run p (bit_text b) rest (bit_some b) (bit_run b) follows.runs in
     let i = skip p (bit_text b ++ rest) in
@@ -353,7 +353,7 @@ expr_again _ _ _ (fits_one way n x h) rest follows = single_again way n x h rest
 expr_again _ _ _ (fits_all way n x xs h hs) rest follows = every_again way n x xs h hs rest follows
 expr_again _ _ _ (fits_any way n x xs h hs) rest follows = some_again way n x xs h hs rest follows
 
-ended : (q : ℕ) → token (skip q []) ≡ t.End
+pub ended : (q : ℕ) → token (skip q []) ≡ t.End
 unfolding token skip first_token
 ended q = refl
 

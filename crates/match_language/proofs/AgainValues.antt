@@ -41,11 +41,11 @@ none_is : {A : Type 0} (x : A) → None ≡ Some x → ⊥
 none_is x e = absurd cc
 
 -- the widest number of the table
-field_max_small : (x : Field) → field_max x < 2 ^ 64
+pub field_max_small : (x : Field) → field_max x < 2 ^ 64
 field_max_small f.EthSrc = omega arith
 field_max_small _ = omega arith
 
-at_most_within : (most n : ℕ) → n ≤ most → at_most most n ≡ Some n
+pub at_most_within : (most n : ℕ) → n ≤ most → at_most most n ≡ Some n
 at_most_within most n within = cond-true (nat_le n most) _ _ (le-leb n most within)
 
 -- ---- which constant a number's text is

@@ -47,7 +47,7 @@ stops_after read x t.And j h = absurd cc
 stops_after read x t.Or j h = absurd cc
 stops_after read x _ j h = refl
 
-term_leaf : (way : Direction) (n : ℕ) (i : Input) (k : Token) → token i ≡ k → ((m : ℕ) → deep_by way (term way m) k i ≡ leaf way i) → flat_by way k i ≡ leaf way i → term way n i ≡ leaf_by way k i
+pub term_leaf : (way : Direction) (n : ℕ) (i : Input) (k : Token) → token i ≡ k → ((m : ℕ) → deep_by way (term way m) k i ≡ leaf way i) → flat_by way k i ≡ leaf way i → term way n i ≡ leaf_by way k i
 unfolding term deep flat leaf
 term_leaf way zero i k at d f = ap (λ (c : Token). flat_by way c i) at ∙ f ∙ ap (λ (c : Token). leaf_by way c i) at
 term_leaf way (suc n) i k at d f = ap (λ (c : Token). deep_by way (term way n) c i) at ∙ d n ∙ ap (λ (c : Token). leaf_by way c i) at

@@ -59,7 +59,7 @@ constant_reads f r (t.Ether m) n e i = refl
 constant_reads f r t.BadConstant n e i = refl
 constant_reads f r other n e i = absurd (no_number (is_port f) n e)
 
-number_constant : (m : Token) (n : ℕ) → number_of m ≡ Some n → is_constant_token m ≡ true
+pub number_constant : (m : Token) (n : ℕ) → number_of m ≡ Some n → is_constant_token m ≡ true
 number_constant (t.Bit b) n e = refl
 number_constant (t.Number k) n e = refl
 number_constant (t.Hex k) n e = refl
@@ -71,7 +71,7 @@ decimal_constant (t.Number k) n e = refl
 decimal_constant other n e = absurd (none_is n e)
 
 -- a value that leads on to one
-some_first : (o : Option ℕ) (g : ℕ → Option ℕ) (n : ℕ) → (o >?= g) ≡ Some n → (m : ℕ) × (o ≡ Some m)
+pub some_first : (o : Option ℕ) (g : ℕ → Option ℕ) (n : ℕ) → (o >?= g) ≡ Some n → (m : ℕ) × (o ≡ Some m)
 some_first (Some m) g n e = (m, refl)
 some_first None g n e = absurd (none_is n e)
 
@@ -84,7 +84,7 @@ ether_constant f (t.Ether k) n e = refl
 ether_constant f other n e = absurd (none_is n e)
 
 -- a mask is a constant
-mask_constant : (f : Field) (k m : Token) (n : ℕ) → mask_of f k m ≡ Some n → is_constant_token m ≡ true
+pub mask_constant : (f : Field) (k m : Token) (n : ℕ) → mask_of f k m ≡ Some n → is_constant_token m ≡ true
 mask_constant f (t.Dotted j) m n e = dotted_constant f m n e
 mask_constant f (t.Ether j) m n e = ether_constant f m n e
 mask_constant f _ m n e = let a = some_first (number_of m) (at_most (field_max f)) n e in number_constant m a.0 a.1

@@ -60,7 +60,7 @@ first_takes_by : (b : ℕ) (rest : List ℕ) (r : Bool) → is_run b ≡ r → T
 first_takes_by b rest true run = run_takes b rest run
 first_takes_by b rest false run = symbol_takes b rest
 
-first_takes : (b : ℕ) (rest : List ℕ) → Takes (first_token (b ∷ rest))
+pub first_takes : (b : ℕ) (rest : List ℕ) → Takes (first_token (b ∷ rest))
 unfolding first_token
 first_takes b rest = first_takes_by b rest (is_run b) refl
 

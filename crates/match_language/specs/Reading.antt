@@ -199,9 +199,3 @@ ended (Err f) = Err f
 -- all of the text, with at most 64 levels
 unfoldable pub whole : Direction → List ℕ → Result Expr MatchFault
 whole way text = ended (expression (term way 64) (skip 0 text))
-
--- what `parse` ensures: what reading gives, unless memory ran out
-abbrev pub Gives : Result Expr ParseFault → Result Expr MatchFault → Type 0
-Gives (Ok x) read = read ≡ Ok x
-Gives (Err pf.Memory) read = Unit {0}
-Gives (Err (pf.Bad f)) read = read ≡ Err f
