@@ -1,11 +1,11 @@
 -- What is printed spells the expression again.
-use Rattle.std.specs.Prelude.{◌≡◌, ◌<◌, ◌+◌, ℕ, zero, suc, Bool, true, false, not, cond, ◌==◌, ◌&&◌, List, [], ◌∷◌, ◌++◌, map, length, codes, Option, Some, None}
+use Rattle.std.specs.Prelude.{◌≡◌, ◌<◌, ◌+◌, ℕ, suc, Bool, true, false, cond, ◌==◌, List, [], ◌∷◌, ◌++◌, map, length, codes}
 use Rattle.std.specs.List.{list_all}
 use Rattle.std.specs.Cmp.{first_so}
 use Rattle.std.proofs.Common.{refl, ap, ◌∙◌, sym, subst, arith, append_assoc}
 use Rattle.std.proofs.lemmas.Bool.Decides.{Decides-eqb}
 use Rattle.std.proofs.lemmas.List.{append-nil}
-use mathlib.Core.Bool.{true≢false, false≢true}
+use mathlib.Core.Bool.{true≢false}
 use Rattle.match_language.specs.declared.expr.Expr.{Expr}
 use Rattle.match_language.specs.declared.expr.Expr.TheVariants as ex
 use Rattle.match_language.specs.declared.expr.Value.{Value}
@@ -30,9 +30,9 @@ use Rattle.match_language.specs.Nesting.{TakesAll, Nests, AllNest, Fits}
 use Rattle.match_language.specs.Nesting.Nests.{nests_constant, nests_predicate, nests_compared, nests_negated, nests_all, nests_any}
 use Rattle.match_language.specs.Nesting.AllNest.{nests_last, nests_before}
 use Rattle.match_language.specs.Nesting.Fits.{fits_one, fits_all, fits_any}
-use Rattle.match_language.specs.Spelling.{Text, text_of, spelling, inner_spelling, inner, rest_text, joined_text, values_text, comparison_text, bit_text}
+use Rattle.match_language.specs.Spelling.{text_of, spelling, inner_spelling, rest_text, joined_text, values_text, comparison_text, bit_text}
 use Rattle.match_language.proofs.Spelled.{spells_const, spells_is, spells_not, spells_all, spells_any, spells_compare, joined_const, joined_is, joined_not, joined_all, joined_any, joined_compare}
-use Rattle.match_language.proofs.Begins.{Begins, StopsRun, Follows, begins_run, begins_first, begins_open, begins_close, begins_bang, begins_and, begins_or, begins_blank, blank_skipped, end_follows, close_follows, and_follows, or_follows}
+use Rattle.match_language.proofs.Begins.{Begins, Follows, begins_run, begins_first, begins_open, begins_close, begins_bang, begins_and, begins_or, begins_blank, blank_skipped, end_follows, close_follows, and_follows, or_follows}
 use Rattle.match_language.proofs.AgainValues.{values_again}
 use Rattle.match_language.proofs.Nested.{spelled_fits}
 

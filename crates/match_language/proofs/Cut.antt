@@ -1,23 +1,23 @@
 -- A text may go on otherwise behind any of its tokens.
-use Rattle.std.specs.Prelude.{◌≡◌, ◌⊎◌, ◌≤◌, ◌<◌, ◌+◌, ◌-◌, ℕ, zero, suc, Bool, true, false, not, cond, ◌==◌, nat_lt, nat_le, ◌&&◌, ◌||◌, List, [], ◌∷◌, ◌++◌, length, take, drop}
-use Rattle.std.specs.List.{prefix_len, list_all}
+use Rattle.std.specs.Prelude.{◌≡◌, ◌≤◌, ◌<◌, ◌+◌, ◌-◌, ℕ, zero, suc, Bool, true, false, not, cond, ◌==◌, nat_lt, ◌||◌, List, [], ◌∷◌, ◌++◌, length, take, drop}
+use Rattle.std.specs.List.{prefix_len}
 use Rattle.std.proofs.Common.{refl, ap, ◌∙◌, sym, subst, arith, length-append}
 use Rattle.std.proofs.Math.Seq.{take-append_seam, drop-append_seam}
-use Rattle.std.proofs.lemmas.List.{take-append-le, length-take-le}
+use Rattle.std.proofs.lemmas.List.{length-take-le}
 use Rattle.std.proofs.lemmas.List.Folds.{length-prefix_len}
 use Rattle.std.proofs.lemmas.List.Sums.{prefix_len-le-length}
 use Rattle.std.proofs.lemmas.Bool.{cond-true, cond-false, lt-ltb, ltb-true}
 use Rattle.std.proofs.lemmas.Bool.Decides.{Decides-eqb}
-use mathlib.Core.Bool.{true≢false, false≢true}
+use mathlib.Core.Bool.{false≢true}
 use Rattle.ovn_base.specs.NameText.{name_byte}
 use Rattle.match_language.specs.declared.expr.Rel.TheVariants.{Eq, Ne, Lt, Le, Gt, Ge}
 use Rattle.match_language.specs.declared.token.Token.{Token}
 use Rattle.match_language.specs.declared.token.Token.TheVariants as t
-use Rattle.match_language.specs.Tokens.{is_blank, is_run, run_len, first_token, symbol, pair, first_is, string_token, quoted_len, set_token, group_token, name_len, is_name_len, word_token}
+use Rattle.match_language.specs.Tokens.{is_blank, is_run, run_len, first_token, symbol, pair, string_token, quoted_len, set_token, group_token, name_len, is_name_len, word_token}
 use Rattle.match_language.specs.Input.{Input, token, next, skip, quoted}
 use Rattle.match_language.specs.FirstFault.{after, Same, Shares}
 use Rattle.match_language.proofs.Names.{prefix_passes}
-use Rattle.match_language.proofs.Begins.{begins_first, blank_skipped, skip_none, prefix_exact, run_no_blank}
+use Rattle.match_language.proofs.Begins.{begins_first, blank_skipped, skip_none, prefix_exact}
 use Rattle.match_language.proofs.Shorter.{first_takes}
 use Rattle.match_language.proofs.Shared.{is_plain, Plain}
 
@@ -93,8 +93,13 @@ module _ (rest c : List ℕ) where
       let cut = take (name_len rest) rest ++ (32 ∷ c) in
       let len : name_len cut ≡ name_len rest = prefix_kept name_byte rest c refl in
       let within = prefix_len-le-length name_byte rest in
-      record { kept = λ plain. (ap (λ (k : ℕ). set_token (take k rest ++ (32 ∷ c))) n ∙ cond-true _ _ _ (ap is_name_len len ∙ e) ∙ ap (λ (k : ℕ). (t.Set (take k cut), k + 1)) len
-      ∙ ap (λ (w : List ℕ). (t.Set w, name_len rest + 1)) (take_kept name_byte rest c), omega (arith, within)) }
+      record {
+        kept = λ plain. (
+          ap (λ (k : ℕ). set_token (take k rest ++ (32 ∷ c))) n ∙ cond-true _ _ _ (ap is_name_len len ∙ e) ∙ ap (λ (k : ℕ). (t.Set (take k cut), k + 1)) len
+              ∙ ap (λ (w : List ℕ). (t.Set w, name_len rest + 1)) (take_kept name_byte rest c),
+          omega (arith, within),
+        );
+      }
 
   set_cut : Cut (set_token rest) set_token
   unfolding set_token
@@ -108,8 +113,13 @@ module _ (rest c : List ℕ) where
       let cut = take (name_len rest) rest ++ (32 ∷ c) in
       let len : name_len cut ≡ name_len rest = prefix_kept name_byte rest c refl in
       let within = prefix_len-le-length name_byte rest in
-      record { kept = λ plain. (ap (λ (k : ℕ). group_token (take k rest ++ (32 ∷ c))) n ∙ cond-true _ _ _ (ap is_name_len len ∙ e) ∙ ap (λ (k : ℕ). (t.Group (take k cut), k + 1)) len
-      ∙ ap (λ (w : List ℕ). (t.Group w, name_len rest + 1)) (take_kept name_byte rest c), omega (arith, within)) }
+      record {
+        kept = λ plain. (
+          ap (λ (k : ℕ). group_token (take k rest ++ (32 ∷ c))) n ∙ cond-true _ _ _ (ap is_name_len len ∙ e) ∙ ap (λ (k : ℕ). (t.Group (take k cut), k + 1)) len
+              ∙ ap (λ (w : List ℕ). (t.Group w, name_len rest + 1)) (take_kept name_byte rest c),
+          omega (arith, within),
+        );
+      }
 
   group_cut : Cut (group_token rest) group_token
   unfolding group_token
@@ -214,11 +224,13 @@ Step i c = (w : List ℕ) × ((p : ℕ) → Same i (skip p w) × ((q : ℕ) × (
 
 step_at : (place b : ℕ) (rest c : List ℕ) → Grafted b rest c → Step (record { place = place; text = b ∷ rest }) c
 unfolding token next quoted
-step_at place b rest c g =
-    (b ∷ g.text, λ p.
-    let here = skip_none p b g.text g.blank in
-    let begun = begins_first p b g.text (first_token (b ∷ rest)).0 (first_token (b ∷ rest)).1 (32 ∷ c) g.blank g.token g.left in
-    ((sym begun.is, λ text. sym (ap (λ (i : Input). take ((first_token i.text).1 - 2) (drop 1 i.text)) here ∙ ap (λ (x : Token × ℕ). take (x.1 - 2) g.text) g.token ∙ g.quoted)), (begun.place + 1, begun.after ∙ blank_skipped begun.place c)))
+step_at place b rest c g = (
+  b ∷ g.text,
+  λ p.
+      let here = skip_none p b g.text g.blank in
+      let begun = begins_first p b g.text (first_token (b ∷ rest)).0 (first_token (b ∷ rest)).1 (32 ∷ c) g.blank g.token g.left in
+      ((sym begun.is, λ text. sym (ap (λ (i : Input). take ((first_token i.text).1 - 2) (drop 1 i.text)) here ∙ ap (λ (x : Token × ℕ). take (x.1 - 2) g.text) g.token ∙ g.quoted)), (begun.place + 1, begun.after ∙ blank_skipped begun.place c)),
+)
 
 step_by : (place : ℕ) (text c : List ℕ) → is_plain (token (record { place = place; text = text })) ≡ true → Step (record { place = place; text = text }) c
 unfolding token first_token
@@ -236,8 +248,10 @@ pub graft : (n : ℕ) (i : Input) (c : List ℕ) → Plain n i → Goes n i c
 graft zero i c plain = (c, λ p. (tt, (p, refl)))
 graft (suc n) i c plain =
     let others = graft n (next i) c plain.1 in
-    let first = step i others.0 plain.0 in
-    (first.0, λ p.
-    let a = first.1 p in
-    let b = others.1 a.1.0 in
-    ((a.0, subst (Shares n (next i)) (sym a.1.1) b.0), (b.1.0, ap (after n) a.1.1 ∙ b.1.1)))
+    let first = step i others.0 plain.0 in (
+      first.0,
+      λ p.
+          let a = first.1 p in
+          let b = others.1 a.1.0 in
+          ((a.0, subst (Shares n (next i)) (sym a.1.1) b.0), (b.1.0, ap (after n) a.1.1 ∙ b.1.1)),
+    )

@@ -1,7 +1,7 @@
 -- Where the reading of values and comparisons fails, and how the text could go on there.
-use Rattle.std.specs.Prelude.{◌≡◌, ◌⊎◌, ◌≤◌, ◌+◌, ℕ, zero, suc, Bool, true, false, cond, ◌&&◌, List, [], ◌∷◌, ◌++◌, Option, Some, None, Result, Ok, Err}
+use Rattle.std.specs.Prelude.{◌≡◌, ◌≤◌, ◌+◌, ℕ, zero, suc, Bool, true, false, cond, ◌&&◌, List, [], ◌∷◌, ◌++◌, Option, Some, None, Ok, Err}
 use Rattle.std.proofs.Common.{refl, ap, ◌∙◌, sym, subst, inl, inr, arith}
-use mathlib.Core.Bool.{true≢false, false≢true}
+use mathlib.Core.Bool.{false≢true}
 use Rattle.match_language.specs.declared.expr.Expr.{Expr}
 use Rattle.match_language.specs.declared.expr.Expr.TheVariants as ex
 use Rattle.match_language.specs.declared.expr.Value.{Value}
@@ -16,7 +16,7 @@ use Rattle.match_language.specs.declared.token.Token.{Token}
 use Rattle.match_language.specs.declared.token.Token.TheVariants as t
 use Rattle.match_language.specs.Tables.{is_port, is_address}
 use Rattle.match_language.specs.Relations.{is_equality, rel_text}
-use Rattle.match_language.specs.Values.{is_constant_token, constant_of}
+use Rattle.match_language.specs.Values.{constant_of}
 use Rattle.match_language.specs.Input.{Input, token, next, quoted, skip, left}
 use Rattle.match_language.specs.Grammar.{is_slash, IsOne, IsList, IsValues}
 use Rattle.match_language.specs.Grammar.IsList.{last_value, with_comma, without_comma}
@@ -27,15 +27,15 @@ use Rattle.match_language.specs.FirstFault as ff
 use Rattle.match_language.specs.FirstFault.{after, Same, Shares, seen, wanted, fault_by, is_value, is_outside, is_passed}
 use Rattle.match_language.specs.FirstFault.Wanted.{wants_relation, wants_value, wants_more, wants_operator}
 use Rattle.match_language.specs.Reading.{Read, ◌>>=◌, unexpected, relation, relation_by, number, number_by, where_taken, one_by, one, closes, past_comma, more_values, several, opens, values, comparison}
-use Rattle.match_language.proofs.Steps.{done, failed, ok_is, never}
-use Rattle.match_language.proofs.FoundValues.{one_found, values_found}
+use Rattle.match_language.proofs.Steps.{done, failed}
+use Rattle.match_language.proofs.FoundValues.{one_found}
 use Rattle.match_language.proofs.OnlyValues.{one_only, one_shorter}
 use Rattle.match_language.proofs.Shorter.{next_no_longer, empty_token}
 use Rattle.match_language.proofs.Begins.{Follows, begins_close_brace, close_brace_follows, blank_skipped}
 use Rattle.match_language.proofs.Again.{relation_begins}
-use Rattle.match_language.proofs.Shared.{Moves, Fails, fails_here, fails_within, fails_behind}
-use Rattle.match_language.proofs.Moved.{Past, Stands, token_moves, one_moves, other_settled, lone}
-use Rattle.match_language.proofs.FailsValues.{err_is, bind_err, err_never, Admits, sample, sample_bare, sample_stands, SomeOne, ValueDue, more_due, relation_due, one_fails}
+use Rattle.match_language.proofs.Shared.{Fails, fails_here, fails_within, fails_behind}
+use Rattle.match_language.proofs.Moved.{Past, token_moves, one_moves, other_settled, lone}
+use Rattle.match_language.proofs.FailsValues.{err_is, bind_err, err_never, Admits, sample, sample_bare, sample_stands, ValueDue, more_due, relation_due, one_fails}
 
 -- ---- the bound on the turns
 
@@ -93,7 +93,6 @@ unrolled f r xs i =
     let less = one_shorter f r x.0 j x.1 (one_found f r j x e) in
     fuel f r (left i) (left x.1) (xs ++ x.0 ∷ []) x.1 (omega (arith, less, shorter)) (omega arith)) in
     fuel f r (left i) (suc (left i)) xs i (omega arith) (omega arith) ∙ more_suc f r (left i) xs i ∙ ap (cond (closes (token i)) (Ok (xs, next i))) others
-
 
 -- ---- several values
 

@@ -1,11 +1,9 @@
 -- Where the reading of terms fails, and how the text could go on there.
-use Rattle.std.specs.Prelude.{◌≡◌, ◌⊎◌, ◌≤◌, ◌+◌, ℕ, zero, suc, Bool, true, false, not, cond, List, [], ◌∷◌, ◌++◌, Result, Ok, Err}
+use Rattle.std.specs.Prelude.{◌≡◌, ◌≤◌, ◌+◌, ℕ, zero, suc, Bool, true, false, not, cond, List, [], ◌∷◌, ◌++◌, Ok, Err}
 use Rattle.std.proofs.Common.{refl, ap, ◌∙◌, sym, subst, inl, inr, arith}
-use mathlib.Core.Bool.{true≢false, false≢true}
+use mathlib.Core.Bool.{true≢false}
 use Rattle.match_language.specs.declared.expr.Expr.{Expr}
 use Rattle.match_language.specs.declared.expr.Expr.TheVariants as ex
-use Rattle.match_language.specs.declared.expr.Rel.{Rel}
-use Rattle.match_language.specs.declared.expr.Value.{Value}
 use Rattle.match_language.specs.declared.fault.MatchFault.{MatchFault}
 use Rattle.match_language.specs.declared.fault.MatchFault.TheVariants as fault
 use Rattle.match_language.specs.declared.field.Direction.{Direction}
@@ -19,16 +17,16 @@ use Rattle.match_language.specs.Grammar.IsTerm.{constant, predicate, compared, n
 use Rattle.match_language.specs.Grammar.IsExpr.{alone, all_of, any_of}
 use Rattle.match_language.specs.Grammar.IsJoined.{last_term, before_others}
 use Rattle.match_language.specs.Spelling.{bit_text}
-use Rattle.match_language.specs.FirstFault.{Same, Wanted, wanted, fault_by}
+use Rattle.match_language.specs.FirstFault.{Wanted, fault_by}
 use Rattle.match_language.specs.FirstFault.Wanted.{wants_term, wants_operator}
 use Rattle.match_language.specs.Reading.{Read, ◌>>=◌, unexpected, comparison, leaf_by, leaf, is_operator, more, joined, after_first, expression, closed_by, group, negation, deep_by, deep, flat_by, flat, term}
 use Rattle.match_language.proofs.Steps.{bind_ok, done, failed, ok_is, never, chosen}
 use Rattle.match_language.proofs.Found.{operator, operator_is, term_found, expr_found}
 use Rattle.match_language.proofs.Only.{Stops, term_leaf, term_only, term_shorter, expr_only}
 use Rattle.match_language.proofs.Shorter.{next_no_longer, empty_token, empty_next}
-use Rattle.match_language.proofs.Begins.{Follows, begins_close, close_follows}
+use Rattle.match_language.proofs.Begins.{begins_close, close_follows}
 use Rattle.match_language.proofs.Again.{const_in}
-use Rattle.match_language.proofs.Shared.{is_plain, Moves, then, weaken, Fails, fails_here, fails_within, fails_behind}
+use Rattle.match_language.proofs.Shared.{Moves, then, Fails, fails_here, fails_within, fails_behind}
 use Rattle.match_language.proofs.Moved.{Ended, Stands, Opens, Operates, token_moves, term_moves, expr_moves, behind_bang, behind_open, and_operates, or_operates}
 use Rattle.match_language.proofs.FailsValues.{err_is, bind_err, err_never}
 use Rattle.match_language.proofs.FailsLists.{bind_same, SomeComparison, comparison_fails}
@@ -94,7 +92,6 @@ module _ (way : Direction) (n : ℕ) (is_and : Bool) where
       ap (λ (r : Read (List Expr)). cond (is_operator is_and (token x.1)) r (cond (is_operator (not is_and) (token x.1)) (Err (fault.MixedAndOr x.1.place)) (Ok (xs ++ x.0 ∷ [], x.1))))
       (fuel (left i) (left x.1) (xs ++ x.0 ∷ []) x.1 (omega (arith, less, shorter)) (omega arith))) in
       fuel (left i) (suc (left i)) xs i (omega arith) (omega arith) ∙ more_suc (left i) xs i ∙ others
-
 
 -- ---- one term
 
@@ -196,9 +193,11 @@ module _ (way : Direction) (n : ℕ) (fails_term : TermFails way n) (is_and : Bo
             let b = next_no_longer i in
             fails_behind {H = More} (terms (xs ++ x.0 ∷ [])) (terms xs) us i x.1 g (turn_moves x.0 us i x.1 at found)
             (λ vs ended. again x.0 x.1 (omega (arith, a, b)) vs (operator_is is_and (token x.1) h.0) h.1)
-            (λ k l d turn same fails.
-            (d, unrolled way n is_and xs k ∙ ap (λ (y : Read Expr). y >>= λ y. behind_one way n is_and xs y.0 (token y.1) y.1) (term_only way n x.0 (next k) l turn.1)
-            ∙ ap (λ (b : Bool). cond b (terms (xs ++ x.0 ∷ []) l) (cond (is_operator (not is_and) (token l)) (Err (fault.MixedAndOr l.place)) (Ok (xs ++ x.0 ∷ [], l)))) (ap (is_operator is_and) (sym same.0) ∙ h.0) ∙ fails))
+            (λ k l d turn same fails. (
+              d,
+              unrolled way n is_and xs k ∙ ap (λ (y : Read Expr). y >>= λ y. behind_one way n is_and xs y.0 (token y.1) y.1) (term_only way n x.0 (next k) l turn.1)
+                  ∙ ap (λ (b : Bool). cond b (terms (xs ++ x.0 ∷ []) l) (cond (is_operator (not is_and) (token l)) (Err (fault.MixedAndOr l.place)) (Ok (xs ++ x.0 ∷ [], l)))) (ap (is_operator is_and) (sym same.0) ∙ h.0) ∙ fails,
+            ))
             (λ k m l turn others. (x.0 ∷ others.0, turn.0, before_others way n (operator is_and) x.0 others.0 (next k) m l turn.1 others.1 others.2))
         | inr h ↦ elim (chosen (is_operator (not is_and) (token x.1)) (Err (fault.MixedAndOr x.1.place)) (done (xs ++ x.0 ∷ [], x.1)) (Err g) h.1) [
           | inl o ↦
@@ -207,11 +206,12 @@ module _ (way : Direction) (n : ℕ) (fails_term : TermFails way n) (is_and : Bo
               fails_here {H = λ k l. k ≡ l} (λ k. failed {A = List Expr × Input} (fault.MixedAndOr k.place)) vs x.1 g
               (err_is {A = List Expr × Input} g (fault.MixedAndOr x.1.place) (sym o.1) ∙ sym (mixed is_and (token x.1) x.1.place o.0) ∙ ap (λ (w : Wanted). fault_by w (token x.1) x.1.place) (sym ended.wants))
               (ended.clean (token x.1)) ended.settled (λ k same. (fault.MixedAndOr k.place, refl)) (λ rest. rest) (λ rest follows q. follows.slash q) (λ rest follows q. (q, refl)))
-              (λ k l d turn same fails.
-              (fault.MixedAndOr l.place,
+              (λ k l d turn same fails. (
+                fault.MixedAndOr l.place,
                 unrolled way n is_and xs k ∙ ap (λ (y : Read Expr). y >>= λ y. behind_one way n is_and xs y.0 (token y.1) y.1) (term_only way n x.0 (next k) l turn.1)
-                ∙ ap (λ (b : Bool). cond b (terms (xs ++ x.0 ∷ []) l) (cond (is_operator (not is_and) (token l)) (Err (fault.MixedAndOr l.place)) (Ok (xs ++ x.0 ∷ [], l)))) (ap (is_operator is_and) (sym same.0) ∙ h.0)
-                ∙ ap (λ (b : Bool). cond b (Err (fault.MixedAndOr l.place)) (Ok (xs ++ x.0 ∷ [], l))) (ap (is_operator (not is_and)) (sym same.0) ∙ o.0)))
+                    ∙ ap (λ (b : Bool). cond b (terms (xs ++ x.0 ∷ []) l) (cond (is_operator (not is_and) (token l)) (Err (fault.MixedAndOr l.place)) (Ok (xs ++ x.0 ∷ [], l)))) (ap (is_operator is_and) (sym same.0) ∙ h.0)
+                    ∙ ap (λ (b : Bool). cond b (Err (fault.MixedAndOr l.place)) (Ok (xs ++ x.0 ∷ [], l))) (ap (is_operator (not is_and)) (sym same.0) ∙ o.0),
+              ))
               (λ k m l turn here. (x.0 ∷ [], turn.0, last_term way n (operator is_and) x.0 (next k) l (subst (λ (y : Input). IsTerm way n x.0 (next k) y) here turn.1)))
           | inr o ↦ absurd (err_never (xs ++ x.0 ∷ [], x.1) g o.1)
         ]
@@ -291,9 +291,11 @@ module _ (way : Direction) (n : ℕ) (fails_term : TermFails way n) where
     | inl h ↦
         fails_behind {H = SomeExpr way n} (terms_from way n true (x.0 ∷ [])) (expression (term way n)) ts i x.1 g (term_moves way n x.0 i x.1 found ts opens)
         (λ us ended. more_fails way n fails_term true (left x.1) (x.0 ∷ []) us x.1 g (omega arith) at (sym (joined_at true x.0 x.1) ∙ h))
-        (λ k l d stands same fails.
-        (d, expression_at k ∙ ap (λ (y : Read Expr). y >>= λ y. after_first (term way n) y.0 (token y.1) y.1) (term_only way n x.0 k l stands)
-        ∙ ap (λ (c : Token). after_first (term way n) x.0 c l) (sym same.0 ∙ at) ∙ ap (λ (y : Read (List Expr)). y >>= λ y. Ok (ex.All y.0, y.1)) (joined_at true x.0 l ∙ fails)))
+        (λ k l d stands same fails. (
+          d,
+          expression_at k ∙ ap (λ (y : Read Expr). y >>= λ y. after_first (term way n) y.0 (token y.1) y.1) (term_only way n x.0 k l stands)
+              ∙ ap (λ (c : Token). after_first (term way n) x.0 c l) (sym same.0 ∙ at) ∙ ap (λ (y : Read (List Expr)). y >>= λ y. Ok (ex.All y.0, y.1)) (joined_at true x.0 l ∙ fails),
+        ))
         (λ k m l stands others. (ex.All (x.0 ∷ others.0), all_of way n x.0 others.0 k m l stands others.1 others.2))
     | inr h ↦ absurd (err_never (ex.All h.0.0, h.0.1) g h.1.1)
   ]
@@ -301,9 +303,11 @@ module _ (way : Direction) (n : ℕ) (fails_term : TermFails way n) where
     | inl h ↦
         fails_behind {H = SomeExpr way n} (terms_from way n false (x.0 ∷ [])) (expression (term way n)) ts i x.1 g (term_moves way n x.0 i x.1 found ts opens)
         (λ us ended. more_fails way n fails_term false (left x.1) (x.0 ∷ []) us x.1 g (omega arith) at (sym (joined_at false x.0 x.1) ∙ h))
-        (λ k l d stands same fails.
-        (d, expression_at k ∙ ap (λ (y : Read Expr). y >>= λ y. after_first (term way n) y.0 (token y.1) y.1) (term_only way n x.0 k l stands)
-        ∙ ap (λ (c : Token). after_first (term way n) x.0 c l) (sym same.0 ∙ at) ∙ ap (λ (y : Read (List Expr)). y >>= λ y. Ok (ex.Any y.0, y.1)) (joined_at false x.0 l ∙ fails)))
+        (λ k l d stands same fails. (
+          d,
+          expression_at k ∙ ap (λ (y : Read Expr). y >>= λ y. after_first (term way n) y.0 (token y.1) y.1) (term_only way n x.0 k l stands)
+              ∙ ap (λ (c : Token). after_first (term way n) x.0 c l) (sym same.0 ∙ at) ∙ ap (λ (y : Read (List Expr)). y >>= λ y. Ok (ex.Any y.0, y.1)) (joined_at false x.0 l ∙ fails),
+        ))
         (λ k m l stands others. (ex.Any (x.0 ∷ others.0), any_of way n x.0 others.0 k m l stands others.1 others.2))
     | inr h ↦ absurd (err_never (ex.Any h.0.0, h.0.1) g h.1.1)
   ]

@@ -1,5 +1,5 @@
 -- Where the reading of a value fails, and how the text could go on there.
-use Rattle.std.specs.Prelude.{◌≡◌, ◌≢◌, ◌⊎◌, ◌≤◌, ◌<◌, ◌+◌, ◌-◌, ◌^◌, ℕ, zero, suc, Bool, true, false, cond, ◌&&◌, ◌||◌, ◌==◌, List, [], ◌∷◌, ◌++◌, length, Option, Some, None, Result, Ok, Err, bit_and}
+use Rattle.std.specs.Prelude.{◌≡◌, ◌⊎◌, ◌≤◌, ◌<◌, ◌-◌, ◌^◌, ℕ, Bool, true, false, cond, ◌&&◌, ◌||◌, ◌==◌, List, [], ◌∷◌, ◌++◌, length, Option, Some, None, Ok, Err, bit_and}
 use Rattle.std.specs.List.{list_all}
 use Rattle.std.specs.Fmt.{decimal}
 use Rattle.std.specs.Int.Bits.{and_self}
@@ -30,13 +30,13 @@ use Rattle.match_language.specs.FirstFault as ff
 use Rattle.match_language.specs.FirstFault.{after, Same, Shares, seen, wanted, fault_by, is_value, is_outside, back, is_passed, is_some, takes_mask, misplaced, plus}
 use Rattle.match_language.specs.FirstFault.Wanted.{wants_value, wants_mask, wants_more}
 use Rattle.match_language.specs.Reading.{Read, ◌>>=◌, unexpected, under, mask, mask_by, after_constant, number_by, number, where_taken, one_by, one}
-use Rattle.match_language.proofs.Steps.{done, failed, ok_is, never, chosen}
-use Rattle.match_language.proofs.Nested.{chosen_some, passed_some, bind_some, at_most_is, some_is}
-use Rattle.match_language.proofs.Begins.{Begins, Follows, begins_run}
-use Rattle.match_language.proofs.Written.{Word, Decimal, decimal_word, decimal_passes, digits_run, ip4_word, mac_word}
+use Rattle.match_language.proofs.Steps.{done, failed, never, chosen}
+use Rattle.match_language.proofs.Nested.{chosen_some, passed_some, bind_some, at_most_is}
+use Rattle.match_language.proofs.Begins.{Follows, begins_run}
+use Rattle.match_language.proofs.Written.{decimal_word, decimal_passes, digits_run, ip4_word, mac_word}
 use Rattle.match_language.proofs.AgainValues.{one_again, at_most_within, field_max_small}
 use Rattle.match_language.proofs.OnlyValues.{mask_constant}
-use Rattle.match_language.proofs.Shared.{is_plain, Gap, Fails, fails_here}
+use Rattle.match_language.proofs.Shared.{is_plain, Fails, fails_here}
 use Rattle.match_language.proofs.Moved.{constant_is, constant_value, constant_plain, other_settled}
 
 -- ---- failed steps
@@ -226,10 +226,13 @@ under_unfit n (Some m) e = elim (chosen (bit_and n m == n) (inside m) outside un
 -- what does not fit is a constant, and no mask of the field stands there
 unfit_is : (f : Field) (r : Rel) (k : Token) (n : ℕ) (m : Token) → mask_out f r k n m ≡ unfit → (is_constant_token m ≡ true) × ((is_equality r && is_some (mask_of f k m)) ≡ false)
 unfit_is f r k n m e = elim (chosen (is_constant_token m) (cond (is_equality r) (under_out n (mask_of f k m)) unfit) wrong unfit e) [
-  | inl h ↦ (h.0, elim (chosen (is_equality r) (under_out n (mask_of f k m)) unfit unfit h.1) [
-    | inl g ↦ ap (λ (b : Bool). b && is_some (mask_of f k m)) g.0 ∙ under_unfit n (mask_of f k m) g.1
-    | inr g ↦ ap (λ (b : Bool). b && is_some (mask_of f k m)) g.0
-  ])
+  | inl h ↦ (
+    h.0,
+    elim (chosen (is_equality r) (under_out n (mask_of f k m)) unfit unfit h.1) [
+      | inl g ↦ ap (λ (b : Bool). b && is_some (mask_of f k m)) g.0 ∙ under_unfit n (mask_of f k m) g.1
+      | inr g ↦ ap (λ (b : Bool). b && is_some (mask_of f k m)) g.0
+    ],
+  )
   | inr h ↦ absurd (wrong_unfit h.1)
 ]
 
@@ -240,10 +243,13 @@ under_outside n (Some m) e = refl
 -- a mask stands there
 outside_is : (f : Field) (r : Rel) (k : Token) (n : ℕ) (m : Token) → mask_out f r k n m ≡ outside → (is_constant_token m ≡ true) × ((is_equality r && is_some (mask_of f k m)) ≡ true)
 outside_is f r k n m e = elim (chosen (is_constant_token m) (cond (is_equality r) (under_out n (mask_of f k m)) unfit) wrong outside e) [
-  | inl h ↦ (h.0, elim (chosen (is_equality r) (under_out n (mask_of f k m)) unfit outside h.1) [
-    | inl g ↦ ap (λ (b : Bool). b && is_some (mask_of f k m)) g.0 ∙ under_outside n (mask_of f k m) g.1
-    | inr g ↦ absurd (unfit_outside g.1)
-  ])
+  | inl h ↦ (
+    h.0,
+    elim (chosen (is_equality r) (under_out n (mask_of f k m)) unfit outside h.1) [
+      | inl g ↦ ap (λ (b : Bool). b && is_some (mask_of f k m)) g.0 ∙ under_outside n (mask_of f k m) g.1
+      | inr g ↦ absurd (unfit_outside g.1)
+    ],
+  )
   | inr h ↦ absurd (wrong_outside h.1)
 ]
 

@@ -1,5 +1,5 @@
 -- Where a text is no expression, reading gives its first fault.
-use Rattle.std.specs.Prelude.{◌≡◌, ◌⊎◌, ◌≤◌, ◌<◌, ◌+◌, ℕ, zero, suc, Bool, true, false, List, [], ◌∷◌, Result, Ok, Err}
+use Rattle.std.specs.Prelude.{◌≡◌, ◌⊎◌, ◌≤◌, ◌<◌, ◌+◌, ℕ, zero, suc, true, false, List, [], Result, Ok, Err}
 use Rattle.std.proofs.Common.{refl, ap, ◌∙◌, sym, subst, inl, inr, arith}
 use Rattle.std.proofs.lemmas.Bool.{cases_lt}
 use mathlib.Core.Bool.{true≢false}
@@ -11,18 +11,18 @@ use Rattle.match_language.specs.declared.field.Direction.{Direction}
 use Rattle.match_language.specs.declared.token.Token.{Token}
 use Rattle.match_language.specs.declared.token.Token.TheVariants as t
 use Rattle.match_language.specs.Faults.{IfBad, Gives}
-use Rattle.match_language.specs.Input.{Input, token, next, skip}
+use Rattle.match_language.specs.Input.{Input, token, skip}
 use Rattle.match_language.specs.Grammar.{IsExpr, Spells}
-use Rattle.match_language.specs.FirstFault.{after, Same, Shares, seen, Wanted, wanted, fault_by, back, is_passed, plus, IsAlive, IsFirstFault}
+use Rattle.match_language.specs.FirstFault.{after, seen, Wanted, wanted, fault_by, back, is_passed, plus, IsAlive, IsFirstFault}
 use Rattle.match_language.specs.FirstFault.Wanted.{wants_operator}
 use Rattle.match_language.specs.Reading.{Read, ◌>>=◌, unexpected, is_operator, expression, term, ended_by, ended, whole}
-use Rattle.match_language.proofs.Steps.{done, failed, ok_is, never}
+use Rattle.match_language.proofs.Steps.{failed, never}
 use Rattle.match_language.proofs.Found.{term_found, expr_found, whole_found}
 use Rattle.match_language.proofs.Only.{Stops, expr_only, whole_only}
-use Rattle.match_language.proofs.Begins.{Follows, end_follows}
+use Rattle.match_language.proofs.Begins.{end_follows}
 use Rattle.match_language.proofs.Again as again
 use Rattle.match_language.proofs.Shared.{Gap, Fails, fails_here, fails_within, fails_behind, seen_last, shares_less, shares_own}
-use Rattle.match_language.proofs.Moved.{Ended, expr_moves, at_first}
+use Rattle.match_language.proofs.Moved.{expr_moves, at_first}
 use Rattle.match_language.proofs.Cut.{graft}
 use Rattle.match_language.proofs.FailsValues.{err_is, bind_err, err_never}
 use Rattle.match_language.proofs.FailsTerms.{SomeExpr, term_fails, expression_fails, expression_stops}

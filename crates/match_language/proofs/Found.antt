@@ -1,9 +1,8 @@
 -- What is read is in the grammar.
-use Rattle.std.specs.Prelude.{◌≡◌, ◌⊎◌, ℕ, zero, suc, Bool, true, false, not, cond, List, [], ◌∷◌, ◌++◌, Result, Ok, Err, IfOk}
+use Rattle.std.specs.Prelude.{◌≡◌, ℕ, zero, suc, Bool, true, false, not, cond, List, [], ◌∷◌, ◌++◌, Result, Ok, Err, IfOk}
 use Rattle.std.proofs.Common.{refl, ap, ◌∙◌, sym, subst, inl, inr, append_assoc}
 use Rattle.match_language.specs.declared.expr.Expr.{Expr}
 use Rattle.match_language.specs.declared.expr.Expr.TheVariants as ex
-use Rattle.match_language.specs.declared.fault.MatchFault.{MatchFault}
 use Rattle.match_language.specs.declared.fault.MatchFault.TheVariants as fault
 use Rattle.match_language.specs.declared.field.Direction.{Direction}
 use Rattle.match_language.specs.declared.token.Token.{Token}
@@ -16,8 +15,8 @@ use Rattle.match_language.specs.Grammar.IsExpr.{alone, all_of, any_of}
 use Rattle.match_language.specs.Grammar.IsJoined.{last_term, before_others}
 use Rattle.match_language.specs.declared.fault.ParseFault.{ParseFault}
 use Rattle.match_language.specs.Faults.{Gives}
-use Rattle.match_language.specs.Reading.{Read, ◌>>=◌, unexpected, comparison, leaf_by, leaf, is_operator, more, joined, after_first, expression, closed_by, group, negation, deep_by, deep, flat_by, flat, term, ended_by, ended, whole}
-use Rattle.match_language.proofs.Steps.{bind_ok, done, failed, ok_is, never, chosen, chosen_ok}
+use Rattle.match_language.specs.Reading.{Read, unexpected, comparison, leaf_by, leaf, is_operator, more, joined, after_first, expression, closed_by, group, negation, deep_by, deep, flat_by, flat, term, ended_by, ended, whole}
+use Rattle.match_language.proofs.Steps.{bind_ok, done, ok_is, never, chosen, chosen_ok}
 use Rattle.match_language.proofs.FoundValues.{comparison_found}
 
 leaf_found : (way : Direction) (n : ℕ) (i : Input) (k : Token) (x : Expr × Input) → token i ≡ k → leaf_by way k i ≡ Ok x → IsTerm way n x.0 i x.1

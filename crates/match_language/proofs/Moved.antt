@@ -1,9 +1,8 @@
 -- What stands between two places stands wherever the same tokens are.
-use Rattle.std.specs.Prelude.{◌≡◌, ◌⊎◌, ℕ, zero, suc, Bool, true, false, cond, ◌&&◌, ◌||◌, List, [], ◌∷◌, Option, Some, None}
+use Rattle.std.specs.Prelude.{◌≡◌, ℕ, suc, Bool, true, false, cond, ◌&&◌, List, [], ◌∷◌, Some, None}
 use Rattle.std.proofs.Common.{refl, ap, ◌∙◌, sym, subst}
 use mathlib.Core.Bool.{true≢false, false≢true}
 use Rattle.match_language.specs.declared.expr.Expr.{Expr}
-use Rattle.match_language.specs.declared.expr.Expr.TheVariants as ex
 use Rattle.match_language.specs.declared.expr.Value.{Value}
 use Rattle.match_language.specs.declared.expr.Value.TheVariants as v
 use Rattle.match_language.specs.declared.expr.Rel.{Rel}
@@ -12,7 +11,7 @@ use Rattle.match_language.specs.declared.field.Predicate.{Predicate}
 use Rattle.match_language.specs.declared.field.Direction.{Direction}
 use Rattle.match_language.specs.declared.token.Token.{Token}
 use Rattle.match_language.specs.declared.token.Token.TheVariants as t
-use Rattle.match_language.specs.Tables.{field_max, is_port, stands}
+use Rattle.match_language.specs.Tables.{is_port}
 use Rattle.match_language.specs.Values.{is_constant_token, constant_of, mask_of}
 use Rattle.match_language.specs.Input.{Input, token, next, quoted}
 use Rattle.match_language.specs.Grammar.{is_slash, IsOne, IsList, IsValues, IsTerm, IsExpr, IsJoined}
@@ -25,7 +24,7 @@ use Rattle.match_language.specs.Grammar.IsJoined.{last_term, before_others}
 use Rattle.match_language.specs.FirstFault as ff
 use Rattle.match_language.specs.FirstFault.{Same, Wanted, wanted, is_value, is_outside, is_passed}
 use Rattle.match_language.specs.FirstFault.Wanted.{wants_term, wants_relation, wants_value, wants_mask, wants_more, wants_operator}
-use Rattle.match_language.proofs.OnlyValues.{mask_constant, number_constant, some_first}
+use Rattle.match_language.proofs.OnlyValues.{mask_constant}
 use Rattle.match_language.proofs.Shared.{is_plain, Moves, single, then, weaken}
 
 -- ---- tokens

@@ -1,6 +1,6 @@
 -- What a text spells has a text: its values are taken, and it nests no deeper than the grammar allows.
-use Rattle.std.specs.Prelude.{◌≡◌, ◌⊎◌, ◌≤◌, ◌<◌, ◌+◌, ◌-◌, ◌^◌, ℕ, zero, suc, Bool, true, false, not, cond, ◌==◌, nat_le, List, [], ◌∷◌, Option, Some, None, bit_and, Result, Ok, Err, IfOk}
-use Rattle.std.proofs.Common.{refl, ap, ◌∙◌, sym, subst, inl, inr, arith, pow_pos}
+use Rattle.std.specs.Prelude.{◌≡◌, ◌≤◌, ◌<◌, ◌-◌, ◌^◌, ℕ, suc, Bool, true, false, cond, ◌==◌, nat_le, List, [], ◌∷◌, Option, Some, None, Result, Ok, Err, IfOk}
+use Rattle.std.proofs.Common.{refl, ap, sym, subst, arith, pow_pos}
 use Rattle.std.proofs.lemmas.Bool.{leb-true}
 use Rattle.std.proofs.lemmas.Bool.Decides.{Decides-eqb}
 use Rattle.match_language.specs.declared.expr.Expr.{Expr}
@@ -11,7 +11,7 @@ use Rattle.match_language.specs.declared.field.Field.TheVariants as f
 use Rattle.match_language.specs.declared.field.Direction.{Direction}
 use Rattle.match_language.specs.declared.token.Token.{Token}
 use Rattle.match_language.specs.declared.token.Token.TheVariants as t
-use Rattle.match_language.specs.Tables.{field_bits, field_max, is_port, is_address, stands}
+use Rattle.match_language.specs.Tables.{field_bits, field_max, is_port}
 use Rattle.match_language.specs.Relations.{is_equality}
 use Rattle.match_language.specs.Constants.{prefix_mask, ◌>>=◌}
 use Rattle.match_language.specs.Values.{constant_of, mask_of, number_of, decimal_of, at_most, prefix_of, dotted_mask, ether_mask}

@@ -1,24 +1,18 @@
 -- What is in the grammar is read.
-use Rattle.std.specs.Prelude.{◌≡◌, ◌≤◌, ◌+◌, ℕ, zero, suc, Bool, true, false, not, cond, List, [], ◌∷◌, ◌++◌, Result, Ok, Err}
+use Rattle.std.specs.Prelude.{◌≡◌, ◌≤◌, ◌+◌, ℕ, zero, suc, Bool, true, false, not, List, [], ◌∷◌, ◌++◌, Ok}
 use Rattle.std.proofs.Common.{refl, ap, ◌∙◌, sym, subst, append_assoc, arith}
 use Rattle.std.proofs.lemmas.Bool.{cond-true}
 use Rattle.match_language.specs.declared.expr.Expr.{Expr}
-use Rattle.match_language.specs.declared.expr.Expr.TheVariants as ex
-use Rattle.match_language.specs.declared.expr.Value.{Value}
-use Rattle.match_language.specs.declared.expr.Rel.{Rel}
-use Rattle.match_language.specs.declared.field.Field.{Field}
-use Rattle.match_language.specs.declared.field.Predicate.{Predicate}
-use Rattle.match_language.specs.declared.fault.MatchFault.{MatchFault}
 use Rattle.match_language.specs.declared.field.Direction.{Direction}
 use Rattle.match_language.specs.declared.token.Token.{Token}
 use Rattle.match_language.specs.declared.token.Token.TheVariants as t
 use Rattle.match_language.specs.Tables.{stands}
 use Rattle.match_language.specs.Input.{Input, token, next, skip, left}
-use Rattle.match_language.specs.Grammar.{IsTerm, IsExpr, IsJoined, IsValues, Spells}
+use Rattle.match_language.specs.Grammar.{IsTerm, IsExpr, IsJoined, Spells}
 use Rattle.match_language.specs.Grammar.IsTerm.{constant, predicate, compared, negated, grouped}
 use Rattle.match_language.specs.Grammar.IsExpr.{alone, all_of, any_of}
 use Rattle.match_language.specs.Grammar.IsJoined.{last_term, before_others}
-use Rattle.match_language.specs.Reading.{Read, ◌>>=◌, comparison, leaf_by, leaf, is_operator, more, joined, after_first, expression, closed_by, group, negation, deep_by, deep, flat_by, flat, term, ended_by, ended, whole}
+use Rattle.match_language.specs.Reading.{Read, leaf_by, leaf, is_operator, more, joined, after_first, expression, group, negation, deep_by, deep, flat_by, flat, term, ended_by, whole}
 use Rattle.match_language.proofs.Found.{operator}
 use Rattle.match_language.proofs.Shorter.{is_end, next_shorter, next_no_longer}
 use Rattle.match_language.proofs.OnlyValues.{comparison_only, values_no_longer}

@@ -1,4 +1,4 @@
-use Rattle.std.specs.Prelude.{Ok, Result}
+use Rattle.std.specs.Prelude.{Result}
 use Rattle.std.proofs.Common.{subst}
 use Rattle.match_language.specs.declared.expr.Expr.{Expr}
 use Rattle.match_language.specs.declared.fault.MatchFault.{MatchFault}
