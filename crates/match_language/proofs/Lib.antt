@@ -19,6 +19,7 @@ pub mod Again
 pub mod Hexes
 pub mod Named
 pub mod Ways
+pub mod SameExpr
 pub mod Shared
 pub mod Moved
 pub mod FailsValues
