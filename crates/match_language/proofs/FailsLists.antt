@@ -33,7 +33,7 @@ use Rattle.match_language.proofs.OnlyValues.{one_only, one_shorter}
 use Rattle.match_language.proofs.Shorter.{next_no_longer, empty_token}
 use Rattle.match_language.proofs.Begins.{Follows, begins_close_brace, close_brace_follows, blank_skipped}
 use Rattle.match_language.proofs.Again.{relation_begins}
-use Rattle.match_language.proofs.Shared.{Fails, fails_here, fails_within, fails_behind}
+use Rattle.match_language.proofs.Shared.{plus, Fails, fails_here, fails_within, fails_behind}
 use Rattle.match_language.proofs.Moved.{Past, token_moves, one_moves, other_settled, lone}
 use Rattle.match_language.proofs.FailsValues.{err_is, bind_err, err_never, Admits, sample, sample_bare, sample_stands, ValueDue, more_due, relation_due, one_fails}
 
@@ -330,7 +330,7 @@ module _ (x : Field) (ts : List Token) (i : Input) where
       record {
         index = 1;
         named = 1;
-        at = ap (λ (c : Token). ff.plus 1 (cond (is_outside (c ∷ t.Field x ∷ ts) (token (next i))) 2 0)) (sym at);
+        at = ap (λ (c : Token). plus 1 (cond (is_outside (c ∷ t.Field x ∷ ts) (token (next i))) 2 0)) (sym at);
         is = err_is {A = List Value × Input} g (fault_by wants_value (token (next i)) (next i).place) (sym e ∙ shown)
             ∙ ap (λ (c : Token). fault_by (wanted (c ∷ t.Field x ∷ ts)) (token (next i)) (next i).place) (sym at);
         settled = ap (λ (c : Token). is_passed (token (next i) ∷ c ∷ t.Field x ∷ ts)) at ∙ other_settled (token (next i)) (t.Relation r) (t.Field x ∷ ts) refl refl;

@@ -27,7 +27,7 @@ use Rattle.match_language.specs.Nesting.{Takes}
 use Rattle.match_language.specs.Nesting.Takes.{takes_number, takes_port}
 use Rattle.match_language.specs.Spelling.{value_text}
 use Rattle.match_language.specs.FirstFault as ff
-use Rattle.match_language.specs.FirstFault.{after, Same, Shares, seen, wanted, fault_by, is_value, is_outside, back, is_passed, is_some, takes_mask, misplaced, plus}
+use Rattle.match_language.specs.FirstFault.{after, Same, Shares, seen, wanted, fault_by, is_value, is_outside, back, is_passed, is_some, takes_mask, misplaced}
 use Rattle.match_language.specs.FirstFault.Wanted.{wants_value, wants_mask, wants_more}
 use Rattle.match_language.specs.Reading.{Read, ◌>>=◌, unexpected, under, mask, mask_by, after_constant, number_by, number, where_taken, one_by, one}
 use Rattle.match_language.proofs.Steps.{done, failed, never, chosen}
@@ -36,7 +36,7 @@ use Rattle.match_language.proofs.Begins.{Follows, begins_run}
 use Rattle.match_language.proofs.Written.{decimal_word, decimal_passes, digits_run, ip4_word, mac_word}
 use Rattle.match_language.proofs.AgainValues.{one_again, at_most_within, field_max_small}
 use Rattle.match_language.proofs.OnlyValues.{mask_constant}
-use Rattle.match_language.proofs.Shared.{is_plain, Fails, fails_here}
+use Rattle.match_language.proofs.Shared.{plus, is_plain, Fails, fails_here}
 use Rattle.match_language.proofs.Moved.{constant_is, constant_value, constant_plain, other_settled}
 
 -- ---- failed steps

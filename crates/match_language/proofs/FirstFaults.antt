@@ -13,7 +13,7 @@ use Rattle.match_language.specs.declared.token.Token.TheVariants as t
 use Rattle.match_language.specs.Faults.{IfBad, Gives}
 use Rattle.match_language.specs.Input.{Input, token, skip}
 use Rattle.match_language.specs.Grammar.{IsExpr, Spells}
-use Rattle.match_language.specs.FirstFault.{after, seen, Wanted, wanted, fault_by, back, is_passed, plus, IsAlive, IsFirstFault}
+use Rattle.match_language.specs.FirstFault.{after, seen, Wanted, wanted, fault_by, back, is_passed, IsAlive, IsFirstFault}
 use Rattle.match_language.specs.FirstFault.Wanted.{wants_operator}
 use Rattle.match_language.specs.Reading.{Read, ◌>>=◌, unexpected, is_operator, expression, term, ended_by, ended, whole}
 use Rattle.match_language.proofs.Steps.{failed, never}
@@ -21,7 +21,7 @@ use Rattle.match_language.proofs.Found.{term_found, expr_found, whole_found}
 use Rattle.match_language.proofs.Only.{Stops, expr_only, whole_only}
 use Rattle.match_language.proofs.Begins.{end_follows}
 use Rattle.match_language.proofs.Again as again
-use Rattle.match_language.proofs.Shared.{Gap, Fails, fails_here, fails_within, fails_behind, seen_last, shares_less, shares_own}
+use Rattle.match_language.proofs.Shared.{plus, Gap, Fails, fails_here, fails_within, fails_behind, seen_last, shares_less, shares_own}
 use Rattle.match_language.proofs.Moved.{expr_moves, at_first}
 use Rattle.match_language.proofs.Cut.{graft}
 use Rattle.match_language.proofs.FailsValues.{err_is, bind_err, err_never}
@@ -58,8 +58,8 @@ plus_is : (a b : ℕ) → plus a b ≡ a + b
 plus_is zero b = omega arith
 plus_is (suc a) b = let h = plus_is a b in omega (arith, h)
 
-plus_left : (a b c : ℕ) → plus a c ≡ plus b c → a ≡ b
-plus_left a b c e = let f = plus_is a c in let g = plus_is b c in omega (arith, e, f, g)
+sum_left : (a b c : ℕ) → a + c ≡ b + c → a ≡ b
+sum_left a b c e = omega (arith, e)
 
 module _ (way : Direction) where
   no_end : (i : Input) (g : MatchFault) (x : Expr × Input) → IsExpr way 64 x.0 i x.1 → Stops (token x.1) → (c : Token) → token x.1 ≡ c → ((p : ℕ) → fault_by wants_operator c p ≡ unexpected c p) → ((k : Input) → to_end x.0 c k ≡ Err (unexpected c k.place))
@@ -119,7 +119,7 @@ module _ (way : Direction) where
     settled = ap is_passed (seen_last h.index (skip 0 text) []) ∙ h.settled;
     alive = alive_before text h.kept h.index (alive_kept text g h) h.gap;
     named = h.named;
-    at = h.at;
+    at = h.at ∙ plus_is h.named (back (seen h.index (skip 0 text) []) (token (after h.index (skip 0 text))));
     is = h.is;
   }
 
@@ -155,8 +155,8 @@ module _ (way : Direction) where
       let same = one_index text f g h k in
       let behind = λ (n : ℕ). back (seen n i []) (token (after n i)) in
       let shown = λ (n : ℕ) (m : ℕ). fault_by (wanted (seen n i [])) (token (after n i)) (after m i).place in
-      let there : plus h.named (behind k.index) ≡ plus k.named (behind k.index) = ap (λ (n : ℕ). plus h.named (behind n)) (sym same) ∙ sym h.at ∙ same ∙ k.at in
-      h.is ∙ ap (λ (n : ℕ). shown n h.named) same ∙ ap (shown k.index) (plus_left h.named k.named (behind k.index) there) ∙ sym k.is
+      let there : h.named + behind k.index ≡ k.named + behind k.index = ap (λ (n : ℕ). h.named + behind n) (sym same) ∙ sym h.at ∙ same ∙ k.at in
+      h.is ∙ ap (λ (n : ℕ). shown n h.named) same ∙ ap (shown k.index) (sum_left h.named k.named (behind k.index) there) ∙ sym k.is
 
   -- a text that spells an expression has none
   pub none_spelled : (text : List ℕ) (x : Expr) (f : MatchFault) → Spells way text x → IsFirstFault way text f → ⊥

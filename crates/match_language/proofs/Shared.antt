@@ -6,11 +6,16 @@ use Rattle.match_language.specs.declared.token.Token.{Token}
 use Rattle.match_language.specs.declared.token.Token.TheVariants as t
 use Rattle.match_language.specs.Input.{Input, token, next, skip}
 use Rattle.match_language.specs.Grammar.{is_slash}
-use Rattle.match_language.specs.FirstFault.{after, Same, Shares, seen, wanted, fault_by, is_outside, back, is_passed, plus}
+use Rattle.match_language.specs.FirstFault.{after, Same, Shares, seen, wanted, fault_by, is_outside, back, is_passed}
 use Rattle.match_language.specs.Reading.{Read}
 use Rattle.match_language.proofs.Begins.{Follows}
 
 -- ---- counts of tokens
+
+-- a sum that computes on its first part
+abbrev pub plus : ℕ → ℕ → ℕ
+plus zero n = n
+plus (suc m) n = suc (plus m n)
 
 pub plus_assoc : (n m l : ℕ) → plus (plus n m) l ≡ plus n (plus m l)
 plus_assoc zero m l = refl

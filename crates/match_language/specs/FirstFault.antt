@@ -1,5 +1,5 @@
 -- The first fault of a text: the token at which no text goes on, which fault that token shows, and the place that it names.
-use Rattle.std.specs.Prelude.{◌≡◌, ◌⊎◌, ◌<◌, ℕ, zero, suc, Bool, true, false, ◌&&◌, ◌||◌, if◌then◌else◌, List, [], ◌∷◌, Option, Some, None}
+use Rattle.std.specs.Prelude.{◌≡◌, ◌⊎◌, ◌<◌, ◌+◌, ℕ, zero, suc, Bool, true, false, ◌&&◌, ◌||◌, if◌then◌else◌, List, [], ◌∷◌, Option, Some, None}
 use Rattle.match_language.specs.declared.expr.Expr.{Expr}
 use Rattle.match_language.specs.declared.expr.Rel.{Rel}
 use Rattle.match_language.specs.declared.fault.MatchFault.{MatchFault}
@@ -29,10 +29,10 @@ abbrev pub Shares : ℕ → Input → Input → Type 0
 Shares zero i j = Unit {0}
 Shares (suc n) i j = Same i j × Shares n (next i) (next j)
 
--- the first n tokens, the last of them first, and then those before
+-- the first n tokens, the last of them first, and then others
 abbrev pub seen : ℕ → Input → List Token → List Token
-seen zero i before = before
-seen (suc n) i before = seen n (next i) (token i ∷ before)
+seen zero i others = others
+seen (suc n) i others = seen n (next i) (token i ∷ others)
 
 -- Some text that spells an expression begins with the first n tokens of this one.
 pub record IsAlive (way : Direction) (text : List ℕ) (n : ℕ) : Type 0 where
@@ -53,10 +53,10 @@ is_value c = is_constant_token c
 -- with values, commas and slashes left out they end in an open brace
 abbrev pub in_braces : List Token → Bool
 in_braces [] = false
-in_braces (t.OpenBrace ∷ before) = true
-in_braces (t.Comma ∷ before) = in_braces before
-in_braces (t.Slash ∷ before) = in_braces before
-in_braces (c ∷ before) = is_value c && in_braces before
+in_braces (t.OpenBrace ∷ others) = true
+in_braces (t.Comma ∷ others) = in_braces others
+in_braces (t.Slash ∷ others) = in_braces others
+in_braces (c ∷ others) = is_value c && in_braces others
 
 -- what the grammar has behind a token
 pub data Wanted : Type 0 where
@@ -71,14 +71,14 @@ pub data Wanted : Type 0 where
 -- relation; a mask behind a slash; more values in braces; else an operator, a `)` or the end.
 abbrev pub wanted : List Token → Wanted
 wanted [] = wants_term
-wanted (t.Bang ∷ before) = wants_term
-wanted (t.Open ∷ before) = wants_term
-wanted (t.And ∷ before) = wants_term
-wanted (t.Or ∷ before) = wants_term
-wanted (t.Field f ∷ before) = wants_relation
-wanted (t.Relation r ∷ before) = wants_value
-wanted (t.Slash ∷ before) = wants_mask
-wanted (c ∷ before) = if in_braces (c ∷ before) then wants_more else wants_operator
+wanted (t.Bang ∷ others) = wants_term
+wanted (t.Open ∷ others) = wants_term
+wanted (t.And ∷ others) = wants_term
+wanted (t.Or ∷ others) = wants_term
+wanted (t.Field f ∷ others) = wants_relation
+wanted (t.Relation r ∷ others) = wants_value
+wanted (t.Slash ∷ others) = wants_mask
+wanted (c ∷ others) = if in_braces (c ∷ others) then wants_more else wants_operator
 
 -- ---- which fault a token shows
 
@@ -112,8 +112,8 @@ fault_by w c place = fault.Syntax place
 -- the field and the relation of the comparison that is begun
 abbrev pub compared : List Token → Option (Field × Rel)
 compared [] = None
-compared (t.Relation r ∷ t.Field f ∷ before) = Some (f, r)
-compared (c ∷ before) = compared before
+compared (t.Relation r ∷ t.Field f ∷ others) = Some (f, r)
+compared (c ∷ others) = compared others
 
 abbrev pub is_some : Option ℕ → Bool
 is_some (Some n) = true
@@ -126,42 +126,52 @@ takes_mask None k m = false
 
 -- a mask that stands there, so that it is the constant before the slash that doesn't
 abbrev pub is_outside : List Token → Token → Bool
-is_outside (t.Slash ∷ k ∷ before) m = takes_mask (compared before) k m
+is_outside (t.Slash ∷ k ∷ others) m = takes_mask (compared others) k m
 is_outside _ m = false
 
 -- how many tokens before the one that shows the fault it is named: at the constant whose bits are outside of the mask
 abbrev pub back : List Token → Token → ℕ
-back before c = if is_outside before c then 2 else 0
+back others c = if is_outside others c then 2 else 0
 
 -- ---- the first fault
 
 abbrev is_field_first : List Token → Bool
-is_field_first (t.Field f ∷ before) = true
+is_field_first (t.Field f ∷ others) = true
 is_field_first _ = false
 
 abbrev is_lone_constant : List Token → Bool
-is_lone_constant (k ∷ t.Relation r ∷ before) = is_constant_token k
+is_lone_constant (k ∷ t.Relation r ∷ others) = is_constant_token k
 is_lone_constant _ = false
 
 -- The last token is a relation behind a field, or a slash behind a constant behind a relation. Whether a value, or a mask, can
 -- follow there hangs on the field and the relation; where none can, the fault is still named at the token behind.
 abbrev pub is_passed : List Token → Bool
-is_passed (t.Relation r ∷ before) = is_field_first before
-is_passed (t.Slash ∷ before) = is_lone_constant before
+is_passed (t.Relation r ∷ others) = is_field_first others
+is_passed (t.Slash ∷ others) = is_lone_constant others
 is_passed _ = false
 
--- a sum
-abbrev pub plus : ℕ → ℕ → ℕ
-plus zero n = n
-plus (suc m) n = suc (plus m n)
+-- the token of the index, and its place
+abbrev pub token_at : List ℕ → ℕ → Token
+token_at text index = token (after index (skip 0 text))
 
--- The token at the index is the first with which no text that spells an expression goes on, those that are passed left out, and
--- the fault is the one that it shows.
+abbrev pub place_at : List ℕ → ℕ → ℕ
+place_at text index = (after index (skip 0 text)).place
+
+-- the tokens before it, the last of them first
+abbrev pub before : List ℕ → ℕ → List Token
+before text index = seen index (skip 0 text) []
+
+-- it is one of those that are passed over
+abbrev pub is_passed_at : List ℕ → ℕ → Bool
+is_passed_at text index = is_passed (before text (suc index))
+
+-- No text that spells an expression begins with the tokens up to that of the index, and one begins with those before it; tokens
+-- that are passed over are left out. The fault is the one that this token shows, at the place of the token that it names.
 pub record IsFirstFault (way : Direction) (text : List ℕ) (f : MatchFault) : Type 0 where
   pub index : ℕ
   pub dead : IsAlive way text (suc index) → ⊥
-  pub settled : is_passed (seen (suc index) (skip 0 text) []) ≡ false
-  pub alive : (j : ℕ) → j < index → (is_passed (seen (suc j) (skip 0 text) []) ≡ true) ⊎ IsAlive way text (suc j)
+  pub settled : is_passed_at text index ≡ false
+  pub alive : (j : ℕ) → j < index → (is_passed_at text j ≡ true) ⊎ IsAlive way text (suc j)
   pub named : ℕ
-  pub at : index ≡ plus named (back (seen index (skip 0 text) []) (token (after index (skip 0 text))))
-  pub is : f ≡ fault_by (wanted (seen index (skip 0 text) [])) (token (after index (skip 0 text))) (after named (skip 0 text)).place
+  pub at : index ≡ named + back (before text index) (token_at text index)
+  pub is : f ≡ fault_by (wanted (before text index)) (token_at text index) (place_at text named)
