@@ -1,11 +1,11 @@
 -- What is printed spells the expression again.
-use Rattle.std.specs.Prelude.{◌≡◌, ◌<◌, ◌+◌, ℕ, zero, suc, Bool, true, false, not, cond, ◌==◌, ◌&&◌, List, [], ◌∷◌, ◌++◌, map, length, codes, Option, Some, None}
+use Rattle.std.specs.Prelude.{◌≡◌, ◌<◌, ◌+◌, ℕ, suc, Bool, true, false, cond, ◌==◌, List, [], ◌∷◌, ◌++◌, map, length, codes}
 use Rattle.std.specs.List.{list_all}
 use Rattle.std.specs.Cmp.{first_so}
 use Rattle.std.proofs.Common.{refl, ap, ◌∙◌, sym, subst, arith, append_assoc}
 use Rattle.std.proofs.lemmas.Bool.Decides.{Decides-eqb}
 use Rattle.std.proofs.lemmas.List.{append-nil}
-use mathlib.Core.Bool.{true≢false, false≢true}
+use mathlib.Core.Bool.{true≢false}
 use Rattle.match_language.specs.declared.expr.Expr.{Expr}
 use Rattle.match_language.specs.declared.expr.Expr.TheVariants as ex
 use Rattle.match_language.specs.declared.expr.Value.{Value}
@@ -30,9 +30,9 @@ use Rattle.match_language.specs.Nesting.{TakesAll, Nests, AllNest, Fits}
 use Rattle.match_language.specs.Nesting.Nests.{nests_constant, nests_predicate, nests_compared, nests_negated, nests_all, nests_any}
 use Rattle.match_language.specs.Nesting.AllNest.{nests_last, nests_before}
 use Rattle.match_language.specs.Nesting.Fits.{fits_one, fits_all, fits_any}
-use Rattle.match_language.specs.Spelling.{Text, text_of, spelling, inner_spelling, inner, rest_text, joined_text, values_text, comparison_text, bit_text}
+use Rattle.match_language.specs.Spelling.{text_of, spelling, inner_spelling, rest_text, joined_text, values_text, comparison_text, bit_text}
 use Rattle.match_language.proofs.Spelled.{spells_const, spells_is, spells_not, spells_all, spells_any, spells_compare, joined_const, joined_is, joined_not, joined_all, joined_any, joined_compare}
-use Rattle.match_language.proofs.Begins.{Begins, StopsRun, Follows, begins_run, begins_first, begins_open, begins_close, begins_bang, begins_and, begins_or, begins_blank, blank_skipped, end_follows, close_follows, and_follows, or_follows}
+use Rattle.match_language.proofs.Begins.{Begins, Follows, begins_run, begins_first, begins_open, begins_close, begins_bang, begins_and, begins_or, begins_blank, blank_skipped, end_follows, close_follows, and_follows, or_follows}
 use Rattle.match_language.proofs.AgainValues.{values_again}
 use Rattle.match_language.proofs.Nested.{spelled_fits}
 
@@ -77,7 +77,7 @@ bit_some : (b : Bool) → 0 < length (bit_text b)
 bit_some true = omega arith
 bit_some false = omega arith
 
-relation_begins : (x : Rel) (p : ℕ) (rest : List ℕ) → Begins p (rel_text x ++ (32 ∷ rest)) (t.Relation x) (32 ∷ rest)
+pub relation_begins : (x : Rel) (p : ℕ) (rest : List ℕ) → Begins p (rel_text x ++ (32 ∷ rest)) (t.Relation x) (32 ∷ rest)
 unfolding first_token
 relation_begins r.Eq p rest = begins_first p 61 (61 ∷ 32 ∷ rest) (t.Relation r.Eq) 2 (32 ∷ rest) refl refl refl
 relation_begins r.Ne p rest = begins_first p 33 (61 ∷ 32 ∷ rest) (t.Relation r.Ne) 2 (32 ∷ rest) refl refl refl
@@ -92,7 +92,7 @@ relation_begins r.Ge p rest = begins_first p 62 (61 ∷ 32 ∷ rest) (t.Relation
 abbrev IsTermIn : Direction → ℕ → Expr → List ℕ → List ℕ → Type 0
 IsTermIn way n x text rest = (p : ℕ) → (q : ℕ) × IsTerm way n x (skip p text) (skip q rest)
 
-const_in : (way : Direction) (n : ℕ) (b : Bool) (rest : List ℕ) → Follows rest → IsTermIn way n (ex.Const b) (bit_text b ++ rest) rest
+pub const_in : (way : Direction) (n : ℕ) (b : Bool) (rest : List ℕ) → Follows rest → IsTermIn way n (ex.Const b) (bit_text b ++ rest) rest
 const_in way n b rest follows p =
     let a = begins_run p (bit_text b) rest (bit_some b) (bit_run b) follows.runs in
     let i = skip p (bit_text b ++ rest) in
@@ -353,7 +353,7 @@ expr_again _ _ _ (fits_one way n x h) rest follows = single_again way n x h rest
 expr_again _ _ _ (fits_all way n x xs h hs) rest follows = every_again way n x xs h hs rest follows
 expr_again _ _ _ (fits_any way n x xs h hs) rest follows = some_again way n x xs h hs rest follows
 
-ended : (q : ℕ) → token (skip q []) ≡ t.End
+pub ended : (q : ℕ) → token (skip q []) ≡ t.End
 unfolding token skip first_token
 ended q = refl
 

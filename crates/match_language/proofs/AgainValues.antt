@@ -1,13 +1,13 @@
 -- The values of a comparison stand where they are printed.
-use Rattle.std.specs.Prelude.{◌≡◌, ◌≢◌, ◌⊎◌, ◌≤◌, ◌<◌, ◌+◌, ◌-◌, ◌^◌, ℕ, zero, suc, Bool, true, false, not, cond, ◌==◌, nat_le, ◌&&◌, List, [], ◌∷◌, ◌++◌, map, length, codes, Option, Some, None, bit_and}
+use Rattle.std.specs.Prelude.{◌≡◌, ◌≤◌, ◌<◌, ◌+◌, ◌-◌, ◌^◌, ℕ, Bool, true, false, cond, ◌==◌, nat_le, ◌&&◌, List, [], ◌∷◌, ◌++◌, map, length, codes, Option, Some, None, bit_and}
 use Rattle.std.specs.List.{list_all}
 use Rattle.std.specs.Fmt.{decimal}
-use Rattle.std.proofs.Common.{refl, ap, ◌∙◌, sym, subst, inl, inr, arith, append_assoc}
+use Rattle.std.proofs.Common.{refl, ap, ◌∙◌, sym, subst, arith, append_assoc}
 use Rattle.std.proofs.lemmas.Bool.{cond-true, cond-false, le-leb}
 use Rattle.std.proofs.lemmas.Bool.Decides.{Decides-eqb}
 use Rattle.std.proofs.lemmas.List.Sums.{list_all-from_AllPass}
 use Rattle.std.proofs.lemmas.Fmt.{decimal_nonempty}
-use mathlib.Core.Bool.{true≢false, false≢true}
+use mathlib.Core.Bool.{true≢false}
 use Rattle.ovn_base.specs.NameText.{IsName, name_byte}
 use Rattle.ovn_base.specs.Address.{mac_of}
 use Rattle.ovn_base.specs.AddressText.{mac_text, ip4_text}
@@ -23,7 +23,7 @@ use Rattle.match_language.specs.Relations.{is_equality}
 use Rattle.match_language.specs.Constants.{◌>>=◌, prefix_mask}
 use Rattle.match_language.specs.Tokens.{is_run, word_token}
 use Rattle.match_language.specs.Values.{constant_of, mask_of, number_of, decimal_of, at_most, prefix_of, dotted_mask, ether_mask}
-use Rattle.match_language.specs.Input.{Input, token, next, skip, quoted}
+use Rattle.match_language.specs.Input.{Input, token, next, skip}
 use Rattle.match_language.specs.Grammar.{is_slash, IsOne, IsList, IsValues}
 use Rattle.match_language.specs.Grammar.IsOne.{unmasked, masked, port, of_group, of_set}
 use Rattle.match_language.specs.Grammar.IsList.{last_value, with_comma}
@@ -32,20 +32,20 @@ use Rattle.match_language.specs.Nesting.{Takes, TakesEach, TakesAll}
 use Rattle.match_language.specs.Nesting.Takes.{takes_number, takes_masked, takes_port, takes_group, takes_set}
 use Rattle.match_language.specs.Nesting.TakesEach.{takes_last, takes_more}
 use Rattle.match_language.specs.Nesting.TakesAll.{takes_one, takes_several}
-use Rattle.match_language.specs.Spelling.{rest_text, joined_text, number_text, prefix_below, dotted_mask_text, mask_text, value_text, values_text}
+use Rattle.match_language.specs.Spelling.{joined_text, number_text, prefix_below, dotted_mask_text, mask_text, value_text, values_text}
 use Rattle.match_language.proofs.Prefixes.{below_is}
-use Rattle.match_language.proofs.Begins.{Begins, StopsRun, Follows, begins_run, begins_slash, begins_comma, begins_open_brace, begins_close_brace, begins_blank, blank_skipped, begins_string, begins_set, begins_group, comma_follows, close_brace_follows}
+use Rattle.match_language.proofs.Begins.{Follows, begins_run, begins_slash, begins_comma, begins_open_brace, begins_close_brace, blank_skipped, begins_string, begins_set, begins_group, comma_follows, close_brace_follows}
 use Rattle.match_language.proofs.Written.{Decimal, decimal_word, decimal_passes, digits_run, Word, ip4_word, mac_word}
 
 none_is : {A : Type 0} (x : A) → None ≡ Some x → ⊥
 none_is x e = absurd cc
 
 -- the widest number of the table
-field_max_small : (x : Field) → field_max x < 2 ^ 64
+pub field_max_small : (x : Field) → field_max x < 2 ^ 64
 field_max_small f.EthSrc = omega arith
 field_max_small _ = omega arith
 
-at_most_within : (most n : ℕ) → n ≤ most → at_most most n ≡ Some n
+pub at_most_within : (most n : ℕ) → n ≤ most → at_most most n ≡ Some n
 at_most_within most n within = cond-true (nat_le n most) _ _ (le-leb n most within)
 
 -- ---- which constant a number's text is

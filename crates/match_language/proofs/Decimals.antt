@@ -1,5 +1,5 @@
 -- The number that a decimal text writes.
-use Rattle.std.specs.Prelude.{◌≡◌, ◌≢◌, ◌≤◌, ◌<◌, ◌^◌, ◌-◌, ℕ, Bool, true, false, ◌&&◌, cond, nat_lt, List, Option, Some, None, IfSome, IfNone}
+use Rattle.std.specs.Prelude.{◌≡◌, ◌≢◌, ◌≤◌, ◌<◌, ◌^◌, ℕ, Bool, true, false, ◌&&◌, cond, nat_lt, List, Option, Some, None, IfSome, IfNone}
 use Rattle.std.specs.Str.{bytes_eq}
 use Rattle.std.specs.Str.Parse.{digits_value}
 use Rattle.std.specs.Fmt.{decimal}

@@ -1,9 +1,8 @@
 -- What is read is in the grammar.
-use Rattle.std.specs.Prelude.{◌≡◌, ◌⊎◌, ℕ, zero, suc, Bool, true, false, not, cond, List, [], ◌∷◌, ◌++◌, Result, Ok, Err, IfOk}
+use Rattle.std.specs.Prelude.{◌≡◌, ℕ, zero, suc, Bool, true, false, not, cond, List, [], ◌∷◌, ◌++◌, Result, Ok, Err, IfOk}
 use Rattle.std.proofs.Common.{refl, ap, ◌∙◌, sym, subst, inl, inr, append_assoc}
 use Rattle.match_language.specs.declared.expr.Expr.{Expr}
 use Rattle.match_language.specs.declared.expr.Expr.TheVariants as ex
-use Rattle.match_language.specs.declared.fault.MatchFault.{MatchFault}
 use Rattle.match_language.specs.declared.fault.MatchFault.TheVariants as fault
 use Rattle.match_language.specs.declared.field.Direction.{Direction}
 use Rattle.match_language.specs.declared.token.Token.{Token}
@@ -15,8 +14,9 @@ use Rattle.match_language.specs.Grammar.IsTerm.{constant, predicate, negated, gr
 use Rattle.match_language.specs.Grammar.IsExpr.{alone, all_of, any_of}
 use Rattle.match_language.specs.Grammar.IsJoined.{last_term, before_others}
 use Rattle.match_language.specs.declared.fault.ParseFault.{ParseFault}
-use Rattle.match_language.specs.Reading.{Gives, Read, ◌>>=◌, unexpected, comparison, leaf_by, leaf, is_operator, more, joined, after_first, expression, closed_by, group, negation, deep_by, deep, flat_by, flat, term, ended_by, ended, whole}
-use Rattle.match_language.proofs.Steps.{bind_ok, done, failed, ok_is, never, chosen, chosen_ok}
+use Rattle.match_language.specs.Faults.{Gives}
+use Rattle.match_language.specs.Reading.{Read, unexpected, comparison, leaf_by, leaf, is_operator, more, joined, after_first, expression, closed_by, group, negation, deep_by, deep, flat_by, flat, term, ended_by, ended, whole}
+use Rattle.match_language.proofs.Steps.{bind_ok, done, ok_is, never, chosen, chosen_ok}
 use Rattle.match_language.proofs.FoundValues.{comparison_found}
 
 leaf_found : (way : Direction) (n : ℕ) (i : Input) (k : Token) (x : Expr × Input) → token i ≡ k → leaf_by way k i ≡ Ok x → IsTerm way n x.0 i x.1
@@ -36,7 +36,7 @@ abbrev pub operator : Bool → Token
 operator true = t.And
 operator false = t.Or
 
-operator_is : (is_and : Bool) (k : Token) → is_operator is_and k ≡ true → k ≡ operator is_and
+pub operator_is : (is_and : Bool) (k : Token) → is_operator is_and k ≡ true → k ≡ operator is_and
 operator_is true t.And e = refl
 operator_is false t.Or e = refl
 operator_is true _ e = absurd cc
@@ -83,7 +83,7 @@ after_found way n finds first i j t.Or x h at e =
     subst (λ (y : Expr × Input). IsExpr way n y.0 i y.1) (ok_is (ex.Any a.0.0, a.0.1) x a.2) whole_list
 after_found way n finds first i j _ x h at e = subst (λ (y : Expr × Input). IsExpr way n y.0 i y.1) (ok_is (first, j) x e) (alone way n first i j h)
 
-expr_found : (way : Direction) (n : ℕ) → Finds way n → (i : Input) (x : Expr × Input) → expression (term way n) i ≡ Ok x → IsExpr way n x.0 i x.1
+pub expr_found : (way : Direction) (n : ℕ) → Finds way n → (i : Input) (x : Expr × Input) → expression (term way n) i ≡ Ok x → IsExpr way n x.0 i x.1
 unfolding expression
 expr_found way n finds i x e =
     let a = bind_ok (term way n i) (λ y. after_first (term way n) y.0 (token y.1) y.1) x e in

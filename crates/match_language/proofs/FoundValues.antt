@@ -1,5 +1,5 @@
 -- The values that are read stand where they are read.
-use Rattle.std.specs.Prelude.{◌≡◌, ◌⊎◌, ℕ, zero, suc, Bool, true, false, cond, ◌&&◌, ◌==◌, List, [], ◌∷◌, ◌++◌, Option, Some, None, Result, Ok, Err, bit_and}
+use Rattle.std.specs.Prelude.{◌≡◌, ℕ, zero, suc, Bool, true, cond, ◌&&◌, ◌==◌, List, [], ◌∷◌, ◌++◌, Option, Some, None, Ok, Err, bit_and}
 use Rattle.std.specs.Cmp.{first_so, second_so}
 use Rattle.std.proofs.Common.{refl, ap, ◌∙◌, sym, subst, inl, inr, append_assoc, append-nil}
 use Rattle.std.proofs.lemmas.Bool.Decides.{Decides-eqb}
@@ -22,7 +22,7 @@ use Rattle.match_language.specs.Grammar.IsOne.{unmasked, masked, port, of_group,
 use Rattle.match_language.specs.Grammar.IsList.{last_value, with_comma, without_comma}
 use Rattle.match_language.specs.Grammar.IsValues.{one_value, in_braces}
 use Rattle.match_language.specs.Grammar.IsTerm.{compared}
-use Rattle.match_language.specs.Reading.{Read, ◌>>=◌, unexpected, relation, relation_by, under, mask, mask_by, after_constant, number_by, number, where_taken, one_by, one, closes, past_comma, more_values, several, opens, values, comparison}
+use Rattle.match_language.specs.Reading.{◌>>=◌, unexpected, relation, relation_by, under, mask, after_constant, number_by, number, where_taken, one_by, one, closes, past_comma, more_values, several, opens, values, comparison}
 use Rattle.match_language.proofs.Steps.{bind_ok, done, ok_is, never, chosen, chosen_ok}
 
 abbrev Standing : Field → Rel → Input → Value × Input → Type 0

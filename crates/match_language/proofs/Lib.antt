@@ -18,7 +18,12 @@ pub mod AgainValues
 pub mod Again
 pub mod Hexes
 pub mod Named
-pub mod Local
-pub mod LocalValues
-pub mod LocalTerms
 pub mod Ways
+pub mod SameExpr
+pub mod Shared
+pub mod Moved
+pub mod FailsValues
+pub mod FailsLists
+pub mod FailsTerms
+pub mod Cut
+pub mod FirstFaults

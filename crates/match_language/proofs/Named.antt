@@ -1,10 +1,9 @@
 -- The names of fields, group by group.
-use Rattle.std.specs.Prelude.{◌≡◌, ◌++◌, ℕ, List, Option}
+use Rattle.std.specs.Prelude.{◌≡◌, ◌++◌, ℕ, List}
 use Rattle.std.specs.List.{find}
 use Rattle.std.specs.Option.{option_or}
-use Rattle.std.proofs.Common.{refl, ap, ◌∙◌}
+use Rattle.std.proofs.Common.{ap, ◌∙◌}
 use Rattle.std.proofs.lemmas.List.Folds.{find-append}
-use Rattle.match_language.specs.declared.field.Field.{Field}
 use Rattle.match_language.specs.Tables.{field_named, is_named, link_fields, ip_fields, port_fields}
 
 -- a name is one of the first group, or else of the second, or else of the third

@@ -1,10 +1,9 @@
 -- Which runs of bytes are names.
-use Rattle.std.specs.Prelude.{◌≡◌, ◌≤◌, ◌<◌, ◌+◌, ◌↔◌, ℕ, suc, Bool, true, false, ◌&&◌, nat_le, cond, List, [], ◌∷◌, take, length, Option, Some, None, IsSome, IfSome}
-use Rattle.std.specs.List.{AllPass, prefix_len, list_all}
+use Rattle.std.specs.Prelude.{◌≡◌, ◌+◌, ℕ, suc, Bool, true, false, ◌&&◌, nat_le, cond, List, [], ◌∷◌, take}
+use Rattle.std.specs.List.{prefix_len, list_all}
 use Rattle.std.specs.Cmp.{first_so, second_so}
-use Rattle.std.proofs.Common.{refl, ap, ◌∙◌, sym, arith}
+use Rattle.std.proofs.Common.{refl, ap, ◌∙◌, arith}
 use Rattle.std.proofs.lemmas.Bool.{leb-true, le-leb}
-use Rattle.std.proofs.lemmas.Grind.{common_steps}
 use Rattle.std.proofs.lemmas.List.Sums.{AllPass-from_list_all}
 use Rattle.std.proofs.lemmas.List.Folds.{length-prefix_len}
 use Rattle.ovn_base.specs.NameText.{IsName, name_byte}

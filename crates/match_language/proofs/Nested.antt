@@ -1,6 +1,6 @@
 -- What a text spells has a text: its values are taken, and it nests no deeper than the grammar allows.
-use Rattle.std.specs.Prelude.{◌≡◌, ◌⊎◌, ◌≤◌, ◌<◌, ◌+◌, ◌-◌, ◌^◌, ℕ, zero, suc, Bool, true, false, not, cond, ◌==◌, nat_le, List, [], ◌∷◌, Option, Some, None, bit_and, Result, Ok, Err, IfOk}
-use Rattle.std.proofs.Common.{refl, ap, ◌∙◌, sym, subst, inl, inr, arith, pow_pos}
+use Rattle.std.specs.Prelude.{◌≡◌, ◌≤◌, ◌<◌, ◌-◌, ◌^◌, ℕ, suc, Bool, true, false, cond, ◌==◌, nat_le, List, [], ◌∷◌, Option, Some, None, Result, Ok, Err, IfOk}
+use Rattle.std.proofs.Common.{refl, ap, sym, subst, arith, pow_pos}
 use Rattle.std.proofs.lemmas.Bool.{leb-true}
 use Rattle.std.proofs.lemmas.Bool.Decides.{Decides-eqb}
 use Rattle.match_language.specs.declared.expr.Expr.{Expr}
@@ -11,7 +11,7 @@ use Rattle.match_language.specs.declared.field.Field.TheVariants as f
 use Rattle.match_language.specs.declared.field.Direction.{Direction}
 use Rattle.match_language.specs.declared.token.Token.{Token}
 use Rattle.match_language.specs.declared.token.Token.TheVariants as t
-use Rattle.match_language.specs.Tables.{field_bits, field_max, is_port, is_address, stands}
+use Rattle.match_language.specs.Tables.{field_bits, field_max, is_port}
 use Rattle.match_language.specs.Relations.{is_equality}
 use Rattle.match_language.specs.Constants.{prefix_mask, ◌>>=◌}
 use Rattle.match_language.specs.Values.{constant_of, mask_of, number_of, decimal_of, at_most, prefix_of, dotted_mask, ether_mask}
@@ -35,24 +35,24 @@ use Rattle.match_language.proofs.TokenLaws.{string_quoteless, set_named, group_n
 none_is : {A : Type 0} (x : A) → None ≡ Some x → ⊥
 none_is x e = absurd cc
 
-some_is : (x y : ℕ) → Some x ≡ Some y → x ≡ y
+pub some_is : (x y : ℕ) → Some x ≡ Some y → x ≡ y
 some_is x y e = cc
 
 -- a test whose other way gives nothing went this way
-chosen_some : (b : Bool) (o : Option ℕ) (n : ℕ) → cond b o None ≡ Some n → (b ≡ true) × (o ≡ Some n)
+pub chosen_some : (b : Bool) (o : Option ℕ) (n : ℕ) → cond b o None ≡ Some n → (b ≡ true) × (o ≡ Some n)
 chosen_some true o n e = (refl, e)
 chosen_some false o n e = absurd (none_is n e)
 
 -- a test whose first way gives nothing went the other
-passed_some : (b : Bool) (o : Option ℕ) (n : ℕ) → cond b None o ≡ Some n → (b ≡ false) × (o ≡ Some n)
+pub passed_some : (b : Bool) (o : Option ℕ) (n : ℕ) → cond b None o ≡ Some n → (b ≡ false) × (o ≡ Some n)
 passed_some false o n e = (refl, e)
 passed_some true o n e = absurd (none_is n e)
 
-bind_some : (o : Option ℕ) (g : ℕ → Option ℕ) (n : ℕ) → (o >>= g) ≡ Some n → (m : ℕ) × (g m ≡ Some n)
+pub bind_some : (o : Option ℕ) (g : ℕ → Option ℕ) (n : ℕ) → (o >>= g) ≡ Some n → (m : ℕ) × (g m ≡ Some n)
 bind_some (Some m) g n e = (m, e)
 bind_some None g n e = absurd (none_is n e)
 
-at_most_is : (most m n : ℕ) → at_most most m ≡ Some n → n ≤ most
+pub at_most_is : (most m n : ℕ) → at_most most m ≡ Some n → n ≤ most
 at_most_is most m n e =
     let a = chosen_some (nat_le m most) (Some m) n e in
     subst (λ (k : ℕ). k ≤ most) (some_is m n a.1) (leb-true m most a.0)

@@ -1,24 +1,18 @@
 -- What is in the grammar is read.
-use Rattle.std.specs.Prelude.{◌≡◌, ◌≤◌, ◌+◌, ℕ, zero, suc, Bool, true, false, not, cond, List, [], ◌∷◌, ◌++◌, Result, Ok, Err}
+use Rattle.std.specs.Prelude.{◌≡◌, ◌≤◌, ◌+◌, ℕ, zero, suc, Bool, true, false, not, List, [], ◌∷◌, ◌++◌, Ok}
 use Rattle.std.proofs.Common.{refl, ap, ◌∙◌, sym, subst, append_assoc, arith}
 use Rattle.std.proofs.lemmas.Bool.{cond-true}
 use Rattle.match_language.specs.declared.expr.Expr.{Expr}
-use Rattle.match_language.specs.declared.expr.Expr.TheVariants as ex
-use Rattle.match_language.specs.declared.expr.Value.{Value}
-use Rattle.match_language.specs.declared.expr.Rel.{Rel}
-use Rattle.match_language.specs.declared.field.Field.{Field}
-use Rattle.match_language.specs.declared.field.Predicate.{Predicate}
-use Rattle.match_language.specs.declared.fault.MatchFault.{MatchFault}
 use Rattle.match_language.specs.declared.field.Direction.{Direction}
 use Rattle.match_language.specs.declared.token.Token.{Token}
 use Rattle.match_language.specs.declared.token.Token.TheVariants as t
 use Rattle.match_language.specs.Tables.{stands}
 use Rattle.match_language.specs.Input.{Input, token, next, skip, left}
-use Rattle.match_language.specs.Grammar.{IsTerm, IsExpr, IsJoined, IsValues, Spells}
+use Rattle.match_language.specs.Grammar.{IsTerm, IsExpr, IsJoined, Spells}
 use Rattle.match_language.specs.Grammar.IsTerm.{constant, predicate, compared, negated, grouped}
 use Rattle.match_language.specs.Grammar.IsExpr.{alone, all_of, any_of}
 use Rattle.match_language.specs.Grammar.IsJoined.{last_term, before_others}
-use Rattle.match_language.specs.Reading.{Read, ◌>>=◌, comparison, leaf_by, leaf, is_operator, more, joined, after_first, expression, closed_by, group, negation, deep_by, deep, flat_by, flat, term, ended_by, ended, whole}
+use Rattle.match_language.specs.Reading.{Read, leaf_by, leaf, is_operator, more, joined, after_first, expression, group, negation, deep_by, deep, flat_by, flat, term, ended_by, whole}
 use Rattle.match_language.proofs.Found.{operator}
 use Rattle.match_language.proofs.Shorter.{is_end, next_shorter, next_no_longer}
 use Rattle.match_language.proofs.OnlyValues.{comparison_only, values_no_longer}
@@ -47,7 +41,7 @@ stops_after read x t.And j h = absurd cc
 stops_after read x t.Or j h = absurd cc
 stops_after read x _ j h = refl
 
-term_leaf : (way : Direction) (n : ℕ) (i : Input) (k : Token) → token i ≡ k → ((m : ℕ) → deep_by way (term way m) k i ≡ leaf way i) → flat_by way k i ≡ leaf way i → term way n i ≡ leaf_by way k i
+pub term_leaf : (way : Direction) (n : ℕ) (i : Input) (k : Token) → token i ≡ k → ((m : ℕ) → deep_by way (term way m) k i ≡ leaf way i) → flat_by way k i ≡ leaf way i → term way n i ≡ leaf_by way k i
 unfolding term deep flat leaf
 term_leaf way zero i k at d f = ap (λ (c : Token). flat_by way c i) at ∙ f ∙ ap (λ (c : Token). leaf_by way c i) at
 term_leaf way (suc n) i k at d f = ap (λ (c : Token). deep_by way (term way n) c i) at ∙ d n ∙ ap (λ (c : Token). leaf_by way c i) at

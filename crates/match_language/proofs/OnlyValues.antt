@@ -1,16 +1,13 @@
 -- The values that stand somewhere are read there.
-use Rattle.std.specs.Prelude.{◌≡◌, ◌⊎◌, ◌≤◌, ◌+◌, ℕ, zero, suc, Bool, true, false, cond, ◌&&◌, ◌==◌, List, [], ◌∷◌, ◌++◌, Option, Some, None, Result, Ok, Err, bit_and}
-use Rattle.std.specs.Cmp.{first_so, second_so}
+use Rattle.std.specs.Prelude.{◌≡◌, ◌≤◌, ◌+◌, ℕ, zero, suc, Bool, true, false, cond, ◌&&◌, ◌==◌, List, [], ◌∷◌, ◌++◌, Option, Some, None, Ok, bit_and}
 use Rattle.std.proofs.Common.{refl, ap, ◌∙◌, sym, subst, append_assoc, arith}
 use Rattle.std.proofs.lemmas.Bool.{cond-true, cond-false}
 use Rattle.std.proofs.lemmas.Bool.Decides.{Decides-eqb}
-use mathlib.Core.Bool.{true≢false, false≢true}
-use Rattle.match_language.specs.declared.expr.Expr.{Expr}
+use mathlib.Core.Bool.{true≢false}
 use Rattle.match_language.specs.declared.expr.Expr.TheVariants as ex
 use Rattle.match_language.specs.declared.expr.Value.{Value}
 use Rattle.match_language.specs.declared.expr.Value.TheVariants as v
 use Rattle.match_language.specs.declared.expr.Rel.{Rel}
-use Rattle.match_language.specs.declared.fault.MatchFault.TheVariants as fault
 use Rattle.match_language.specs.declared.field.Field.{Field}
 use Rattle.match_language.specs.declared.token.Token.{Token}
 use Rattle.match_language.specs.declared.token.Token.TheVariants as t
@@ -23,7 +20,7 @@ use Rattle.match_language.specs.Grammar.{is_slash, IsOne, IsList, IsValues}
 use Rattle.match_language.specs.Grammar.IsOne.{unmasked, masked, port, of_group, of_set}
 use Rattle.match_language.specs.Grammar.IsList.{last_value, with_comma, without_comma}
 use Rattle.match_language.specs.Grammar.IsValues.{one_value, in_braces}
-use Rattle.match_language.specs.Reading.{Read, ◌>>=◌, unexpected, relation, relation_by, under, mask, mask_by, after_constant, number_by, number, where_taken, one_by, one, closes, past_comma, more_values, several, opens, values, comparison}
+use Rattle.match_language.specs.Reading.{Read, ◌>>=◌, relation, relation_by, under, mask, after_constant, number_by, number, where_taken, one_by, one, closes, past_comma, more_values, several, opens, values, comparison}
 use Rattle.match_language.proofs.Shorter.{is_end, next_shorter, next_no_longer}
 
 none_is : {A : Type 0} (x : A) → None ≡ Some x → ⊥
@@ -59,7 +56,7 @@ constant_reads f r (t.Ether m) n e i = refl
 constant_reads f r t.BadConstant n e i = refl
 constant_reads f r other n e i = absurd (no_number (is_port f) n e)
 
-number_constant : (m : Token) (n : ℕ) → number_of m ≡ Some n → is_constant_token m ≡ true
+pub number_constant : (m : Token) (n : ℕ) → number_of m ≡ Some n → is_constant_token m ≡ true
 number_constant (t.Bit b) n e = refl
 number_constant (t.Number k) n e = refl
 number_constant (t.Hex k) n e = refl
@@ -71,7 +68,7 @@ decimal_constant (t.Number k) n e = refl
 decimal_constant other n e = absurd (none_is n e)
 
 -- a value that leads on to one
-some_first : (o : Option ℕ) (g : ℕ → Option ℕ) (n : ℕ) → (o >?= g) ≡ Some n → (m : ℕ) × (o ≡ Some m)
+pub some_first : (o : Option ℕ) (g : ℕ → Option ℕ) (n : ℕ) → (o >?= g) ≡ Some n → (m : ℕ) × (o ≡ Some m)
 some_first (Some m) g n e = (m, refl)
 some_first None g n e = absurd (none_is n e)
 
@@ -84,7 +81,7 @@ ether_constant f (t.Ether k) n e = refl
 ether_constant f other n e = absurd (none_is n e)
 
 -- a mask is a constant
-mask_constant : (f : Field) (k m : Token) (n : ℕ) → mask_of f k m ≡ Some n → is_constant_token m ≡ true
+pub mask_constant : (f : Field) (k m : Token) (n : ℕ) → mask_of f k m ≡ Some n → is_constant_token m ≡ true
 mask_constant f (t.Dotted j) m n e = dotted_constant f m n e
 mask_constant f (t.Ether j) m n e = ether_constant f m n e
 mask_constant f _ m n e = let a = some_first (number_of m) (at_most (field_max f)) n e in number_constant m a.0 a.1

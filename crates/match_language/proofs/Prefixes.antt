@@ -1,9 +1,8 @@
 -- The length of the prefix with a mask, from below.
-use Rattle.std.specs.Prelude.{◌≡◌, ◌≢◌, ◌≤◌, ◌<◌, ◌+◌, ◌-◌, ◌==◌, ℕ, zero, suc, Bool, true, false, cond, Option, Some, None}
+use Rattle.std.specs.Prelude.{◌≡◌, ◌≢◌, ◌<◌, ◌-◌, ◌==◌, ℕ, zero, suc, Bool, true, false, cond, Some, None}
 use Rattle.std.proofs.Common.{refl, ap, ◌∙◌, sym, arith}
 use Rattle.std.proofs.lemmas.Bool.{cond-true, cond-false}
 use Rattle.std.proofs.lemmas.Bool.Decides.{Decides-eqb}
-use mathlib.Core.Bool.{true≢false}
 use Rattle.match_language.specs.Constants.{prefix_mask}
 use Rattle.match_language.specs.Spelling.{prefix_below}
 

@@ -1,15 +1,10 @@
 -- Each token but the end takes bytes.
-use Rattle.std.specs.Prelude.{◌≡◌, ◌⊎◌, ◌≤◌, ◌<◌, ◌+◌, ◌-◌, ℕ, suc, Bool, true, false, cond, ◌==◌, nat_lt, nat_le, ◌&&◌, List, [], ◌∷◌, length, take, drop}
+use Rattle.std.specs.Prelude.{◌≡◌, ◌⊎◌, ◌≤◌, ◌+◌, ℕ, Bool, true, false, cond, ◌==◌, nat_lt, List, [], ◌∷◌, length, take, drop}
 use Rattle.std.specs.List.{prefix_len}
 use Rattle.std.proofs.Common.{refl, ap, ◌∙◌, sym, subst, arith}
 use Rattle.std.proofs.Common.{length-drop, inl, inr}
 use mathlib.Core.Bool.{true≢false}
-use Rattle.match_language.specs.declared.expr.Expr.{Expr}
-use Rattle.match_language.specs.declared.expr.Value.{Value}
-use Rattle.match_language.specs.declared.expr.Rel.{Rel}
 use Rattle.match_language.specs.declared.expr.Rel.TheVariants.{Eq, Ne, Lt, Le, Gt, Ge}
-use Rattle.match_language.specs.declared.field.Field.{Field}
-use Rattle.match_language.specs.declared.field.Direction.{Direction}
 use Rattle.match_language.specs.declared.token.Token.{Token}
 use Rattle.match_language.specs.declared.token.Token.TheVariants as t
 use Rattle.match_language.specs.Tokens.{is_run, run_len, first_token, symbol, pair, first_is, string_token, quoted_len, set_token, group_token, name_len, is_name_len, word_token}
@@ -60,7 +55,7 @@ first_takes_by : (b : ℕ) (rest : List ℕ) (r : Bool) → is_run b ≡ r → T
 first_takes_by b rest true run = run_takes b rest run
 first_takes_by b rest false run = symbol_takes b rest
 
-first_takes : (b : ℕ) (rest : List ℕ) → Takes (first_token (b ∷ rest))
+pub first_takes : (b : ℕ) (rest : List ℕ) → Takes (first_token (b ∷ rest))
 unfolding first_token
 first_takes b rest = first_takes_by b rest (is_run b) refl
 

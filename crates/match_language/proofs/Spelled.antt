@@ -1,7 +1,7 @@
 -- The text of an expression, by the cases of the expression.
 use Rattle.std.specs.Prelude.{◌≡◌, ℕ, Bool, true, false, List, [], ◌∷◌, ◌++◌, map, codes, Result, Ok, Err, OnOk}
 use Rattle.std.proofs.Common.{refl, ap, ◌∙◌, sym, append_assoc}
-use Rattle.match_language.specs.declared.expr.Expr.{Expr, Expr-F, fold-Expr, fold-roll-Expr}
+use Rattle.match_language.specs.declared.expr.Expr.{Expr, Expr-F, fold-roll-Expr}
 use Rattle.match_language.specs.declared.expr.Expr.TheVariants as ex
 use Rattle.match_language.specs.declared.expr.Value.{Value}
 use Rattle.match_language.specs.declared.expr.Rel.{Rel}

@@ -1,5 +1,5 @@
 -- Steps of reading: what follows from their success.
-use Rattle.std.specs.Prelude.{◌≡◌, ◌⊎◌, ℕ, Bool, true, false, cond, Result, Ok, Err}
+use Rattle.std.specs.Prelude.{◌≡◌, ◌⊎◌, Bool, true, false, cond, Result, Ok, Err}
 use Rattle.std.proofs.Common.{refl, inl, inr}
 use Rattle.match_language.specs.declared.fault.MatchFault.{MatchFault}
 use Rattle.match_language.specs.Input.{Input}

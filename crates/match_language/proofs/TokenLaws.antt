@@ -1,7 +1,7 @@
 -- What the token at the front of a text tells of it.
-use Rattle.std.specs.Prelude.{◌≡◌, ◌⊎◌, ◌≤◌, ◌<◌, ◌+◌, ◌-◌, ℕ, suc, Bool, true, false, not, cond, ◌==◌, nat_lt, nat_le, ◌&&◌, List, [], ◌∷◌, length, take, drop, Option, Some, None}
-use Rattle.std.specs.List.{prefix_len, list_all}
-use Rattle.std.proofs.Common.{refl, ap, ◌∙◌, sym, subst, arith}
+use Rattle.std.specs.Prelude.{◌≡◌, ◌+◌, ◌-◌, ℕ, Bool, true, false, not, cond, ◌==◌, nat_lt, List, [], ◌∷◌, length, take, drop, Option, Some, None}
+use Rattle.std.specs.List.{list_all}
+use Rattle.std.proofs.Common.{refl, ap, ◌∙◌, subst, arith}
 use Rattle.ovn_base.specs.NameText.{IsName}
 use Rattle.match_language.specs.declared.expr.Rel.TheVariants.{Eq, Ne, Lt, Le, Gt, Ge}
 use Rattle.match_language.specs.declared.field.Field.{Field}

@@ -1,37 +1,30 @@
 -- The words that numbers are printed as, and the constants that they write.
-use Rattle.std.specs.Prelude.{◌≡◌, ◌≢◌, ◌⊎◌, ◌≤◌, ◌<◌, ◌+◌, ◌-◌, ◌*◌, ◌/◌, ◌%◌, ◌^◌, ℕ, zero, suc, Bool, true, false, not, cond, ◌==◌, nat_lt, nat_le, ◌&&◌, ◌||◌, List, [], ◌∷◌, ◌++◌, length, take, drop, slice_index, codes, Option, Some, None}
-use Rattle.std.specs.List.{prefix_len, list_all, list_any}
+use Rattle.std.specs.Prelude.{◌≡◌, ◌≤◌, ◌<◌, ◌+◌, ◌*◌, ◌/◌, ◌%◌, ◌^◌, ℕ, zero, suc, Bool, true, false, not, cond, ◌==◌, nat_lt, nat_le, ◌&&◌, ◌||◌, List, [], ◌∷◌, ◌++◌, length, take, drop, slice_index, codes, Option, Some, None}
+use Rattle.std.specs.List.{list_all}
 use Rattle.std.specs.Str.{bytes_eq}
 use Rattle.std.specs.Str.Parse.{digits_value}
-use Rattle.std.specs.Char.{digit_char, digit_value, is_ascii_digit, is_ascii_hexdigit}
+use Rattle.std.specs.Char.{digit_char, is_ascii_digit, is_ascii_hexdigit}
 use Rattle.std.specs.Fmt.{decimal}
-use Rattle.std.specs.Int.{to_be_bytes, from_be_bytes, byte_at}
-use mir.Syntax.{w32, w64}
+use Rattle.std.specs.Int.{byte_at}
 use Rattle.std.specs.Cmp.{first_so, second_so}
-use Rattle.std.proofs.Common.{refl, ap, ◌∙◌, sym, subst, inl, inr, arith, append_assoc, length-append}
+use Rattle.std.proofs.Common.{refl, ap, ◌∙◌, sym, subst, arith, length-append}
 use Rattle.std.proofs.Math.Seq.{take-append_seam, drop-append_seam}
 use Rattle.std.proofs.lemmas.List.{append-nil}
 use Rattle.std.proofs.lemmas.List.Folds.{list_all-append}
-use Rattle.std.proofs.lemmas.Bool.{cond-true, cond-false, lt-ltb, le-leb, ltb-true}
-use Rattle.std.proofs.lemmas.Bool.Decides.{Decides-eqb}
+use Rattle.std.proofs.lemmas.Bool.{cond-true, cond-false, le-leb, ltb-true}
 use Rattle.std.proofs.lemmas.Fmt.{decimal_by_steps, decimal_nonempty, decimal_digit}
 use Rattle.std.proofs.lemmas.Nat.{from_be_bytes-to_be_bytes_4, from_be_bytes-to_be_bytes_8}
 use Rattle.std.proofs.lemmas.Slice.Eq.{bytes_eq-Decides}
 use Rattle.std.proofs.lemmas.Str.{digit_value-digit_char}
 use mathlib.Core.Bool.{true≢false, false≢true}
 use Rattle.ovn_base.specs.Address.{mac_of}
-use Rattle.ovn_base.specs.AddressText.{mac_text, ip4_text, pair_text}
-use Rattle.match_language.specs.declared.field.Field.{Field}
-use Rattle.match_language.specs.declared.field.Field.TheVariants as f
+use Rattle.ovn_base.specs.AddressText.{mac_text, ip4_text}
 use Rattle.match_language.specs.declared.token.Token.{Token}
 use Rattle.match_language.specs.declared.token.Token.TheVariants as t
-use Rattle.match_language.specs.Tables.{field_bits, field_max, is_port, field_named, predicate_named}
-use Rattle.match_language.specs.Constants.{◌>>=◌, decimal_value, hex_digit, pair_value, colon_pair, ether_value, digit_count, octet_of, octet, dot_octet, dotted_value, prefix_mask}
-use Rattle.match_language.specs.Tokens.{is_run, word_token, is_constant, begins_with_digit, has_colon, constant_token, decimal_token, address_token, dotted_token, ether_token, name_token}
-use Rattle.match_language.specs.Values.{constant_of, mask_of, number_of, decimal_of, at_most, prefix_of, dotted_mask, ether_mask}
-use Rattle.match_language.specs.Spelling.{number_text, prefix_below, dotted_mask_text}
-use Rattle.match_language.proofs.Decimals.{value_of_decimal, decimal_reads}
-use Rattle.match_language.proofs.Prefixes.{below_is}
+use Rattle.match_language.specs.Constants.{◌>>=◌, decimal_value, hex_digit, pair_value, ether_value, digit_count, octet_of, octet, dot_octet, dotted_value}
+use Rattle.match_language.specs.Tokens.{is_run, word_token, is_constant, begins_with_digit, has_colon, constant_token, decimal_token, address_token, dotted_token, ether_token}
+use Rattle.match_language.specs.Values.{number_of, decimal_of}
+use Rattle.match_language.proofs.Decimals.{decimal_reads}
 use Rattle.match_language.proofs.Begins.{test_below, StopsRun, prefix_exact}
 
 -- ---- tests of lists

@@ -1,5 +1,5 @@
 -- What a cursor holds.
-use Rattle.std.specs.Prelude.{◌≡◌, ◌≤◌, ◌<◌, ◌^◌, ◌+◌, ℕ, length}
+use Rattle.std.specs.Prelude.{◌≡◌, ◌≤◌, ◌<◌, ◌^◌, ◌+◌, length}
 use Rattle.match_language.specs.declared.cursor.Cursor.TheInside.{Inside}
 use Rattle.match_language.specs.Tokens.{first_token}
 use Rattle.match_language.specs.Input.{Input}

@@ -11,4 +11,4 @@ pub mod Grammar
 pub mod Reading
 pub mod Spelling
 pub mod Nesting
-pub mod Places
+pub mod FirstFault

@@ -1,5 +1,5 @@
 -- Reading a text from left to right: the expression and the place behind it, or the first fault.
-use Rattle.std.specs.Prelude.{ℕ, zero, suc, ◌≡◌, ◌-◌, ◌^◌, Bool, true, false, not, ◌&&◌, if◌then◌else◌, ◌==◌, List, [], ◌∷◌, ◌++◌, Option, Some, None, Result, Ok, Err, bit_and}
+use Rattle.std.specs.Prelude.{ℕ, zero, suc, ◌≡◌, Bool, true, false, not, ◌&&◌, if◌then◌else◌, ◌==◌, List, [], ◌∷◌, ◌++◌, Option, Some, None, Result, Ok, Err, bit_and}
 use Rattle.match_language.specs.declared.expr.Expr.{Expr}
 use Rattle.match_language.specs.declared.expr.Expr.TheVariants as e
 use Rattle.match_language.specs.declared.expr.Value.{Value}
@@ -199,9 +199,3 @@ ended (Err f) = Err f
 -- all of the text, with at most 64 levels
 unfoldable pub whole : Direction → List ℕ → Result Expr MatchFault
 whole way text = ended (expression (term way 64) (skip 0 text))
-
--- what `parse` ensures: what reading gives, unless memory ran out
-abbrev pub Gives : Result Expr ParseFault → Result Expr MatchFault → Type 0
-Gives (Ok x) read = read ≡ Ok x
-Gives (Err pf.Memory) read = Unit {0}
-Gives (Err (pf.Bad f)) read = read ≡ Err f

@@ -1,5 +1,5 @@
 -- The numbers and masks that constants write beside a field.
-use Rattle.std.specs.Prelude.{ℕ, ◌-◌, ◌^◌, Bool, true, false, if◌then◌else◌, ◌==◌, nat_le, Option, Some, None}
+use Rattle.std.specs.Prelude.{ℕ, Bool, true, false, if◌then◌else◌, ◌==◌, nat_le, Option, Some, None}
 use Rattle.match_language.specs.declared.field.Field.{Field}
 use Rattle.match_language.specs.declared.token.Token.{Token}
 use Rattle.match_language.specs.declared.token.Token.TheVariants as t

@@ -3,6 +3,7 @@
 
 mod constant;
 mod cursor;
+pub mod exact;
 pub mod expr;
 pub mod fault;
 pub mod field;

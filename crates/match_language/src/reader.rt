@@ -1,10 +1,10 @@
 //! Reads a text as an expression, by recursive descent: one level for each negation and each pair of parentheses.
-ghost use Rattle.std.specs.Prelude.{◌≡◌, ℕ, List, Ok, IfOk};
+ghost use Rattle.std.specs.Prelude.{◌≡◌, ◌⊎◌, ℕ, List, Ok, Err, IfOk};
 ghost use Rattle.match_language.specs.Grammar.{Spells};
 ghost use Rattle.match_language.specs.Nesting.{Fits};
 ghost use Rattle.match_language.specs.declared.field.Direction.TheVariants.{FromLport, ToLport};
-ghost use Rattle.match_language.specs.Faults.{place_of};
-ghost use Rattle.match_language.specs.Places.{IsDead, IfBad};
+ghost use Rattle.match_language.specs.Faults.{Gives, IfBad};
+ghost use Rattle.match_language.specs.FirstFault.{IsFirstFault};
 ghost use Rattle.match_language.specs.Reading as spec;
 ghost use Rattle.match_language.specs.Reading.{Reads};
 
@@ -192,7 +192,7 @@ fn term(
 /// The expression that the text spells, or its first fault.
 #[tactic(auto, unfolding(crate::specs::Reading::whole))]
 pub(crate) fn whole(alloc: Global, text: &[u8], way: Direction) -> Result<Expr, ParseFault>
-    ensures { spec.Gives result (spec.whole way text.now) }
+    ensures { Gives result (spec.whole way text.now) }
 {
     let mut cursor = Cursor::new(text);
     let expr = expression(alloc, &mut cursor, way, MAX_LEVELS)?;
@@ -207,13 +207,13 @@ pub fn parse(alloc: Global, text: &[u8], way: Direction) -> Result<Expr, ParseFa
     // What is read is in the grammar.
     ensures found { IfOk result (λ x. Spells way text.now x) }
     // What is in the grammar is read, unless memory runs out.
-    ensures only { (x : Expr) → Spells way text.now x → spec.Gives result (Ok x) }
+    ensures only { (x : Expr) → Spells way text.now x → Gives result (Ok x) }
     // It nests no deeper than 64 levels, and each value stands with its field.
     ensures fits { IfOk result (λ x. Fits way 64 x) }
-    // No text goes on with the token that shows the fault.
-    ensures place { IfBad result (λ f. IsDead way text.now (place_of f)) }
-    // Which fault it is, and where.
-    ensures exact { spec.Gives result (spec.whole way text.now) }
+    // A fault is the text's first.
+    ensures first { IfBad result (λ f. IsFirstFault way text.now f) }
+    // A text's first fault is told, unless memory runs out.
+    ensures only_first { (f : MatchFault) → IsFirstFault way text.now f → Gives result (Err f) }
 {
     whole(alloc, text, way)
 }
@@ -221,6 +221,21 @@ pub fn parse(alloc: Global, text: &[u8], way: Direction) -> Result<Expr, ParseFa
 /// A text spells at most one expression.
 pub fn one_expression()
     ensures { (way : Direction) (text : List ℕ) (x y : Expr) → Spells way text x → Spells way text y → x ≡ y }
+{}
+
+/// A text has at most one first fault.
+pub fn one_first_fault()
+    ensures { (way : Direction) (text : List ℕ) (f g : MatchFault) → IsFirstFault way text f → IsFirstFault way text g → f ≡ g }
+{}
+
+/// A text that spells an expression has no fault.
+pub fn spelled_has_none()
+    ensures { (way : Direction) (text : List ℕ) (x : Expr) (f : MatchFault) → Spells way text x → IsFirstFault way text f → ⊥ }
+{}
+
+/// Each text spells an expression or has a first fault.
+pub fn spelled_or_faulty()
+    ensures { (way : Direction) (text : List ℕ) → ((x : Expr) × Spells way text x) ⊎ ((f : MatchFault) × IsFirstFault way text f) }
 {}
 
 /// What a text spells nests at most 64 levels, and each of its values stands with its field.

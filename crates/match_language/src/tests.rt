@@ -24,7 +24,7 @@ fn fault_of(alloc: Global, text: &[u8], way: Direction) -> Option<MatchFault> {
 
 #[test]
 fn faults_stand_at_their_tokens(rt: HostRuntime) {
-    let rows: [(&[u8], MatchFault); 33] = [
+    let rows: [(&[u8], MatchFault); 40] = [
         (b"", MatchFault::Syntax(0)),
         (b"  ", MatchFault::Syntax(2)),
         (b"ip4 && tcp || udp", MatchFault::MixedAndOr(11)),
@@ -58,6 +58,13 @@ fn faults_stand_at_their_tokens(rt: HostRuntime) {
         (b"inport == 4", MatchFault::BadConstant(10)),
         (b"inport < \"p\"", MatchFault::BadConstant(9)),
         (b"tcp.src == $a", MatchFault::BadConstant(11)),
+        (b"inport < ip4", MatchFault::Syntax(9)),
+        (b"inport <", MatchFault::Syntax(8)),
+        (b"tcp.src < 4/ip4", MatchFault::Syntax(12)),
+        (b"tcp.src < 4/", MatchFault::Syntax(12)),
+        (b"tcp.src == {4 65536", MatchFault::BadConstant(14)),
+        (b"tcp.src == {4 && ip4", MatchFault::Syntax(14)),
+        (b"tcp.src == 4 && ip4 || arp", MatchFault::MixedAndOr(20)),
     ];
     for (text, fault) in rows {
         assert_eq!(rt; fault_of(rt.alloc(), text, Direction::ToLport), Some(fault));
@@ -93,6 +100,14 @@ fn levels_are_64(rt: HostRuntime) -> Result<(), Fail> {
         Some(MatchFault::TooDeep(64))
     );
     Ok(())
+}
+
+#[test]
+fn copies_are_equal(rt: HostRuntime) {
+    let text = b"(ip4 || !arp) && tcp.dst == {80, 443} && inport != {\"p\", @g}";
+    let expr = parse(rt.alloc(), text, Direction::ToLport).expect(&rt, "a text of the language");
+    let copy = expr.copy(rt.alloc()).expect(&rt, "memory");
+    assert_eq!(rt; copy, expr);
 }
 
 #[test]

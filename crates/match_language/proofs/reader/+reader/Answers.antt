@@ -1,7 +1,7 @@
 use Rattle.std.proofs.Common.{arith, rules}
 use Rattle.std.proofs.lemmas.Grind.{common_steps}
 use Rattle.match_language.specs.Reading.{more, term}
-use Rattle.match_language.proofs.Turns.{one_more, no_more, deeper}
+use Rattle.match_language.proofs.Turns.{one_more, deeper}
 use Rattle.match_language.proofs.reader.+reader.Goals as goal
 
 pub joined-loop-turn-preserved : goal.joined-loop-turn-preserved

@@ -1,0 +1,42 @@
+//! Laws of `==` of expressions, each on a function that does nothing: call it, and its clause is a fact of the call.
+ghost use Rattle.std.specs.Prelude.{◌≡◌, ◌↔◌, true};
+
+use crate::expr::{Expr, Rel, Value};
+use crate::field::{Direction, Field, Predicate};
+use ovn_base::equality::equal_where_same;
+
+/// Fields are equal exactly where they are the same.
+pub fn exact_field()
+    ensures { (a b : Field) → (⟦<Field as PartialEq>⟧.eq a b ≡ true) ↔ (a ≡ b) }
+{}
+
+/// Predicates are equal exactly where they are the same.
+pub fn exact_predicate()
+    ensures { (a b : Predicate) → (⟦<Predicate as PartialEq>⟧.eq a b ≡ true) ↔ (a ≡ b) }
+{}
+
+/// Directions are equal exactly where they are the same.
+pub fn exact_direction()
+    ensures { (a b : Direction) → (⟦<Direction as PartialEq>⟧.eq a b ≡ true) ↔ (a ≡ b) }
+{}
+
+/// Relations are equal exactly where they are the same.
+pub fn exact_rel()
+    ensures { (a b : Rel) → (⟦<Rel as PartialEq>⟧.eq a b ≡ true) ↔ (a ≡ b) }
+{}
+
+/// Values are equal exactly where they are the same.
+pub fn exact_value()
+    ensures { (a b : Value) → (⟦<Value as PartialEq>⟧.eq a b ≡ true) ↔ (a ≡ b) }
+{}
+
+/// Expressions are equal exactly where they are the same.
+pub fn exact_expr()
+    ensures { (a b : Expr) → (⟦<Expr as PartialEq>⟧.eq a b ≡ true) ↔ (a ≡ b) }
+{
+    exact_predicate();
+    exact_field();
+    exact_rel();
+    exact_value();
+    equal_where_same::<Expr>();
+}
