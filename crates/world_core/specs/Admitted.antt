@@ -11,16 +11,21 @@ use Rattle.edit_reader.specs.declared.event.Event.{Event}
 use Rattle.edit_reader.specs.declared.event.Event.TheVariants.{Edit, Bind, AddChassis, Packet, Unread, NotBuilt}
 use Rattle.world_core.specs.Addresses.{mac_of}
 
--- a port has one entry, with an Ethernet address
+-- the Ethernet addresses of a port have six bytes
 abbrev pub IsAdmittedRecord : Record → Type 0
 IsAdmittedRecord (Switch switch) = Unit {0}
-IsAdmittedRecord (SwitchPort port) = (entry : PortAddress) × (port.addresses ≡ entry ∷ []) × IsMac (mac_of entry)
+IsAdmittedRecord (SwitchPort port) = (mac : Mac) → HasMac port.addresses mac → IsMac mac
 
 -- an edit has one operation, and a packet a frame of bytes that is built
 abbrev pub IsAdmitted : Event → Type 0
 IsAdmitted (Edit ops) = (row : Record) × (ops ≡ Add row ∷ []) × IsAdmittedRecord row
 IsAdmitted (Bind port chassis) = Unit {0}
 IsAdmitted (AddChassis chassis) = Unit {0}
+IsAdmitted (Inject port frame) = IsPlainFrame frame × All (λ b. b < 256) frame
+IsAdmitted (Deliver n) = n < 2 ^ 64
+IsAdmitted (Lose n) = n < 2 ^ 64
+IsAdmitted (Repeat n) = n < 2 ^ 64
+IsAdmitted Drain = Unit {0}
 IsAdmitted (Packet port frame) = IsPlainFrame frame × All (λ b. b < 256) frame
 IsAdmitted (Unread fault) = Unit {0}
 IsAdmitted NotBuilt = Unit {0}

@@ -8,6 +8,6 @@ basis_of m = record {
   chassis = m.chassis;
   net = m.records.now;
   bindings = m.bindings.now.entries;
-  keys = record { datapaths = m.datapath_keys.now.entries; ports = m.port_keys.now.entries };
+  keys = m.keys.now;
   zones = m.zones.now.entries;
 }

@@ -1,19 +1,24 @@
 -- What an accepted edit does to the records and the keys. Its effects name the keys that were picked.
-use Rattle.std.specs.Prelude.{◌≡◌, ◌≢◌, ◌≤◌, ◌<◌, ◌+◌, ◌^◌, ℕ, List, [], ◌∷◌, Some}
+use Rattle.std.specs.Prelude.{◌≡◌, ◌+◌, ◌++◌, ℕ, List, [], ◌∷◌, map, flat_map, unwrap_or}
 use Rattle.std.specs.Ordering.{nat_cmp, match_ordering}
 use Rattle.std.specs.Cmp.Lexicographic.{slice_cmp}
+use Rattle.ovn_base.specs.declared.address.Birth.{Birth}
 use Rattle.ovn_base.specs.declared.name.Name.{Name}
-use Rattle.ovn_base.specs.ByName.{at, put}
+use Rattle.ovn_base.specs.ByName.{in_order, IsByName}
 use Rattle.nb_records.specs.Network.{Network, with_record}
 use Rattle.nb_records.specs.declared.record.Op.{Op}
 use Rattle.nb_records.specs.declared.record.Op.TheVariants.{Add}
 use Rattle.nb_records.specs.declared.record.Record.{Record}
 use Rattle.nb_records.specs.declared.record.Record.TheVariants.{Switch, SwitchPort}
 use Rattle.switch_engine.specs.declared.effect.NetEffect.{NetEffect}
-use Rattle.switch_engine.specs.declared.effect.NetEffect.TheVariants as effect
-use Rattle.world_core.specs.declared.keys.DatapathKey.{DatapathKey}
-use Rattle.world_core.specs.declared.keys.PortKey.{PortKey}
-use Rattle.world_core.specs.State.{State, Keys, events_of}
+use Rattle.switch_engine.specs.declared.effect.NetEffect.TheVariants.{DatapathKey, PortKey}
+use Rattle.tunnel_keys.specs.Edits.{GivesKeys}
+use Rattle.tunnel_keys.specs.Keys.{Keys}
+use Rattle.tunnel_keys.specs.Owners.{datapaths_in, ports_in}
+use Rattle.tunnel_keys.specs.declared.owner.KeyOwner.{KeyOwner}
+use Rattle.tunnel_keys.specs.declared.owner.KeyOwner.TheVariants.{Datapath, Port}
+use Rattle.world_core.specs.Numbers.{datapath_number, port_number}
+use Rattle.world_core.specs.State.{State, events_of}
 
 -- the record, added by the event of this number
 abbrev pub born : ℕ → Record → Record
@@ -25,58 +30,42 @@ abbrev pub accepted : Network → List Op → ℕ → Network
 accepted net [] n = net
 accepted net (Add record' ∷ ops) n = accepted (with_record net (born n record')) ops n
 
--- who is given a key, by name and birth: a datapath, or a port of a datapath
-pub data Owner : Type 0 where
-  datapath_owner : Name → ℕ → Owner
-  port_owner : Name → Name → ℕ → Owner
+-- who gets a key with the record, where the event of this number adds it
+abbrev pub owner_of : Record → ℕ → KeyOwner
+owner_of (Switch switch) n = Datapath switch.name (record { 0 = n })
+owner_of (SwitchPort port) n = Port port.switch port.name (record { 0 = n })
 
-abbrev pub owner_of : Record → ℕ → Owner
-owner_of (Switch switch) n = datapath_owner switch.name n
-owner_of (SwitchPort port) n = port_owner port.switch port.name n
-
--- who is given a key by the operations
-abbrev pub owners_of : List Op → ℕ → List Owner
+-- who gets a key by the operations
+abbrev pub owners_of : List Op → ℕ → List KeyOwner
 owners_of [] n = []
 owners_of (Add record' ∷ ops) n = owner_of record' n ∷ owners_of ops n
 
--- the key may be given: it is in range, and no datapath, or no port of the datapath, has it
-pub record IsFreeDatapathKey (keys : Keys) (key : ℕ) : Type 0 where
-  pub low : 1 ≤ key
-  pub high : key < 2 ^ 24
-  pub free : (a : Name) (k : DatapathKey) → at keys.datapaths a ≡ Some k → k.key ≢ key
+-- the line of a datapath's key, and of a port's; who was given a key has one
+abbrev pub datapath_effect : Keys → Name × Birth → NetEffect
+datapath_effect keys owner = DatapathKey owner.0 (unwrap_or (datapath_number keys owner.0) 0)
 
-pub record IsFreePortKey (keys : Keys) (of : Name) (key : ℕ) : Type 0 where
-  pub low : 1 ≤ key
-  pub high : key < 2 ^ 15
-  pub free : (q : Name) (k : PortKey) → at keys.ports q ≡ Some k → k.datapath ≡ of → k.key ≢ key
+abbrev pub port_effect : Keys → Name × Birth → NetEffect
+port_effect keys owner = PortKey owner.0 (unwrap_or (port_number keys owner.0) 0)
 
-abbrev pub IsLegalPick : Keys → Owner → ℕ → Type 0
-IsLegalPick keys (datapath_owner name birth) key = IsFreeDatapathKey keys key
-IsLegalPick keys (port_owner of name birth) key = IsFreePortKey keys of key
+-- the ports among the owners, in order of datapath name, and on each datapath in order of port name
+abbrev pub ports_in_order : List KeyOwner → Keys → List (Name × Birth)
+ports_in_order owners keys = flat_map (λ d. in_order (ports_in d.0 owners)) keys.datapaths
 
--- the keys with that of one owner more
-abbrev pub with_key : Keys → Owner → ℕ → Keys
-with_key keys (datapath_owner name birth) key = record keys { datapaths = put keys.datapaths name (record { birth = record { 0 = birth }; key = key }) }
-with_key keys (port_owner of name birth) key = record keys { ports = put keys.ports name (record { datapath = of; birth = record { 0 = birth }; key = key }) }
-
-abbrev pub key_effect : Owner → ℕ → NetEffect
-key_effect (datapath_owner name birth) key = effect.DatapathKey name key
-key_effect (port_owner of name birth) key = effect.PortKey name key
-
--- each owner in turn is given a legal key, and an effect names it
-abbrev pub GivesKeys : List Owner → Keys → List NetEffect → Keys → Type 0
-GivesKeys [] keys effects after = (effects ≡ []) × (after ≡ keys)
-GivesKeys (owner ∷ owners) keys effects after =
-    (key : ℕ) × (rest : List NetEffect) × IsLegalPick keys owner key × (effects ≡ key_effect owner key ∷ rest) × GivesKeys owners (with_key keys owner key) rest after
+-- the lines of the keys that were given: those of datapaths in order of name, then those of ports
+abbrev pub key_effects : List KeyOwner → Keys → List NetEffect
+key_effects owners keys = map (datapath_effect keys) (in_order (datapaths_in owners)) ++ map (port_effect keys) (ports_in_order owners keys)
 
 -- the state, with one event more that was accepted
 abbrev pub counted : State → State
 counted m = record m { accepted = m.accepted + 1 }
 
--- an accepted edit: the records come, and keys are given
+-- an accepted edit: the records come, keys are given, legal ones, and its effects name them
 pub record Edits (m : State) (ops : List Op) (effects : List NetEffect) (after : State) : Type 0 where
   pub keys : Keys
-  pub given : GivesKeys (owners_of ops (events_of m + 1)) m.keys effects keys
+  pub datapaths_in_order : IsByName keys.datapaths
+  pub ports_in_order : IsByName keys.ports
+  pub given : GivesKeys m.keys (owners_of ops (events_of m + 1)) [] keys
+  pub effects_are : effects ≡ key_effects (owners_of ops (events_of m + 1)) keys
   pub state : after ≡ record (counted m) { net = accepted m.net ops (events_of m + 1); keys = keys }
 
 -- the names with one more, in order

@@ -1,9 +1,7 @@
--- How a world is kept: its view, and what holds of its keys and zones.
-use Rattle.std.specs.Prelude.{◌≡◌, ◌≤◌, ℕ, List, [], ◌∷◌, Some, None, Option, unwrap_or, length, true}
+-- How a world is kept: its view, and what holds of its zones.
+use Rattle.std.specs.Prelude.{◌≡◌, ◌≤◌, ℕ, List, [], ◌∷◌, Some, None, Option, length, true}
 use Rattle.ovn_base.specs.declared.name.Name.{Name}
 use Rattle.ovn_base.specs.ByName.{at}
-use Rattle.world_core.specs.declared.keys.DatapathKey.{DatapathKey}
-use Rattle.world_core.specs.declared.keys.PortKey.{PortKey}
 use Rattle.world_core.specs.declared.world.World.TheInside.{Inside}
 use Rattle.world_core.specs.Seen.{Seen, IsSound}
 
@@ -18,7 +16,7 @@ seen_of w = record {
     net = w.records;
     chassis = those_of w.chassis;
     bindings = w.bindings.entries;
-    keys = record { datapaths = w.datapath_keys.entries; ports = w.port_keys.entries };
+    keys = w.keys;
     accepted = w.accepted;
     refused = w.refused;
   };
@@ -28,10 +26,7 @@ seen_of w = record {
   whole = w.whole;
 }
 
--- keys and zones are given out in order, so that the next number is free; and a world that was not left half done is sound
+-- zones are given out in order, so that the next number is free; and a world that was not left half done is sound
 pub record IsKept (w : Inside) : Type 0 where
-  pub datapaths : (a : Name) (k : DatapathKey) → at w.datapath_keys.entries a ≡ Some k → k.key ≤ length w.datapath_keys.entries
-  pub ports : (q : Name) (k : PortKey) → at w.port_keys.entries q ≡ Some k → k.key ≤ unwrap_or (at w.last_port_keys.entries k.datapath) 0
-  pub last : (a : Name) (n : ℕ) → at w.last_port_keys.entries a ≡ Some n → n ≤ length w.records.ports
   pub zones : (q : Name) (z : ℕ) → at w.zones.entries q ≡ Some z → z ≤ length w.zones.entries
   pub sound : w.whole ≡ true → IsSound (seen_of w)

@@ -59,7 +59,7 @@ pub record IsShown (m : State) (flows : List Flow) (p : Name) (frame : List ℕ)
   pub steps : List Step
   pub ends : List Effect
   pub walked : IsWalk flows 0 (start_regs (Vif p)) packet steps ends
-  pub effects_are : effects ≡ map (λ effect. shown m.keys effect) ends
+  pub effects_are : effects ≡ map (λ effect. shown m.net m.keys effect) ends
   pub walks_are : walks ≡ record { chassis = chassis; start = Port p; steps = steps } ∷ []
 
 -- the flow of this index that the chassis holds, where it is there
