@@ -6,18 +6,20 @@ use Rattle.std.proofs.Math.Dec.{eqb as nat_eq}
 use Rattle.inet_packet.specs.declared.regs.Reg.{Reg}
 use Rattle.inet_packet.specs.declared.regs.Reg.TheVariants.{Dp, InPort, OutPort, Next, ZIn, ZOut, ZDnat, ZSnat, State, Verdict, Tier, Loopback, Tracked, Blocked, Own, Arrived}
 use Rattle.inet_packet.specs.declared.regs.Regs.{Regs}
+use Rattle.flow_table.specs.declared.flow.Cause.TheVariants.{Unbound}
 use Rattle.flow_table.specs.declared.flow.Flow.{Flow}
 use Rattle.flow_table.specs.declared.flow.FlowOp.{FlowOp}
 use Rattle.flow_table.specs.declared.flow.FlowOp.TheVariants.{Set, Go, Drop, Header, Frame, Copies, Output}
 use Rattle.switch_engine.specs.declared.carried.Carried.{Carried}
 use Rattle.switch_engine.specs.declared.effect.Effect.{Effect}
+use Rattle.switch_engine.specs.declared.effect.Effect.TheVariants.{Lost}
 use Rattle.switch_engine.specs.declared.effect.Entry.{Entry}
 use Rattle.switch_engine.specs.declared.effect.Entry.TheVariants.{Vif, Tunnel}
 use Rattle.switch_engine.specs.declared.walk.Step.{Step}
-use Rattle.switch_engine.specs.Actions.{set_reg, with_header, outcome, going_on, copy_for, copies_for}
+use Rattle.switch_engine.specs.Actions.{drop_at, set_reg, with_header, outcome, going_on, copy_for, copies_for}
 use Rattle.switch_engine.specs.Framed.{IsFramed, WalksAreFramed}
 use Rattle.switch_engine.specs.Proper.{IsProper, IsProperFlow, rising, raising, IsEntry, CanBeSet, Rises, Sets}
-use Rattle.switch_engine.specs.Walk.{IsWalk, unmatched, start}
+use Rattle.switch_engine.specs.Walk.{IsWalk, stray, unmatched, start}
 use Rattle.switch_engine.specs.Walk.IsWalk.{over, ends, takes}
 use Rattle.switch_engine.proofs.Lists.{all_append, all_map, all_by}
 
@@ -34,7 +36,7 @@ rises_sets table (Output port) h = tt
 -- nor does a proper flow
 pub proper_sets : (flow : Flow) → IsProperFlow flow → AllByRecursion Sets flow.ops
 proper_sets flow (rising h) = all_by Sets (Rises flow.table) (rises_sets flow.table) flow.ops h
-proper_sets flow (raising reg n h) = subst (AllByRecursion Sets) (sym h.only) (h.can, tt, tt)
+proper_sets flow (raising reg n h) = subst (AllByRecursion Sets) (sym h.only) (h.can, (tt, tt))
 
 -- the keys of the datapath and of the port of entry fit into a tunnel header
 record IsKeyed (copy : Carried) : Type 0 where
@@ -96,16 +98,19 @@ module _ (entry : Entry) (e : IsEntry entry) where
       all_append IsKeyed (copies_for copy members) (outcome entry ops copy).made (all_map IsKeyed (copy_for copy) (λ member. record { vni = k.vni; in_key = k.in_key }) _) (made_keyed ops copy h.1 k)
   made_keyed (Output port ∷ ops) copy h k = made_keyed ops copy h.1 k
 
+stray_is : (entry : Entry) (copy : Carried) → IsFramed (stray entry copy)
+stray_is (Vif port) copy = tt
+stray_is (Tunnel vni in_key out_key) copy = elim (nat_eq copy.from 0) as (λ b. IsFramed (cond b Lost (drop_at copy.table Unbound copy.regs))) [ true ↦ tt | false ↦ tt ]
+
 stray_framed : (entry : Entry) (copy : Carried) → AllByRecursion IsFramed (unmatched entry copy)
-stray_framed (Vif port) copy = elim (nat_eq copy.table 33) as (λ b. AllByRecursion IsFramed (cond b _ [])) [ true ↦ (tt, tt) | false ↦ tt ]
-stray_framed (Tunnel vni in_key out_key) copy = cc
+stray_framed entry copy = elim (nat_eq copy.table 33) as (λ b. AllByRecursion IsFramed (cond b (stray entry copy ∷ []) [])) [ true ↦ (stray_is entry copy, tt) | false ↦ tt ]
 
 -- each walk of copies whose keys fit
 framed : (flows : List Flow) (entry : Entry) → IsProper flows → IsEntry entry → (copies : List Carried) (steps : List Step) (effects : List Effect) → IsWalk flows entry copies steps effects → AllByRecursion IsKeyed copies → AllByRecursion IsFramed effects
-framed flows entry proper e [] [] [] over k = tt
-framed flows entry proper e (copy ∷ others) steps all (ends copy others steps more all none walk is) k =
+framed flows entry proper e _ _ _ over k = tt
+framed flows entry proper e _ _ _ (ends copy others steps more all none walk is) k =
     subst (AllByRecursion IsFramed) (sym is) (all_append IsFramed (unmatched entry copy) more (stray_framed entry copy) (framed flows entry proper e others steps more walk k.1))
-framed flows entry proper e (copy ∷ others) (step ∷ steps) all (takes copy others step steps more all here best walk is) k =
+framed flows entry proper e _ _ _ (takes copy others step steps more all here best walk is) k =
     let sets : AllByRecursion Sets step.flow.ops = proper_sets step.flow (proper step.flow best.held) in
     let brought = outcome entry step.flow.ops copy in
     let keyed : AllByRecursion IsKeyed (going_on brought ++ others) =

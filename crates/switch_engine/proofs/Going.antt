@@ -1,14 +1,17 @@
 -- A walk on its way.
-use Rattle.std.specs.Prelude.{◌≡◌, List, [], ◌∷◌, ◌++◌, refl}
+use Rattle.std.specs.Prelude.{◌≡◌, List, [], ◌∷◌, ◌++◌, Option, Some, None, option_to_list, reverse, refl}
+use Rattle.std.proofs.lemmas.List.{reverse-append}
 use Rattle.std.proofs.Common.{sym, ap, ◌∙◌, subst, append_assoc, append-nil}
 use Rattle.inet_packet.specs.declared.packet.Packet.{Packet}
 use Rattle.flow_table.specs.declared.flow.Flow.{Flow}
+use Rattle.flow_table.specs.declared.flow.FlowOp.{FlowOp}
+use Rattle.flow_table.specs.Matching.{IsBest}
 use Rattle.switch_engine.specs.declared.carried.Carried.{Carried}
 use Rattle.switch_engine.specs.declared.effect.Effect.{Effect}
 use Rattle.switch_engine.specs.declared.effect.Entry.{Entry}
 use Rattle.switch_engine.specs.declared.walk.RunOut.{RunOut}
 use Rattle.switch_engine.specs.declared.walk.Step.{Step}
-use Rattle.switch_engine.specs.Actions.{outcome}
+use Rattle.switch_engine.specs.Actions.{Outcome, outcome, going_on}
 use Rattle.switch_engine.specs.Advance.{Advances, unmatched_here, matched}
 use Rattle.switch_engine.specs.Gains.{Gains, Keeps}
 use Rattle.switch_engine.specs.Walk.{IsWalk, IsWalkOf, start, unmatched}
@@ -76,3 +79,25 @@ module _ {flows : List Flow} {entry : Entry} {packet : Packet} where
     all_steps = k.all_steps ∙ ap (λ l. l ++ k.more_steps) g.all_steps ∙ append_assoc before.walk g.steps k.more_steps;
     all_effects = k.all_effects ∙ ap (λ l. l ++ k.more_effects) g.all_effects ∙ append_assoc before.effects g.effects k.more_effects;
   }
+
+-- a copy on top of the pending ones is the next
+pub on_top : (pending after : List Carried) (copy : Carried) → after ≡ pending ++ copy ∷ [] → reverse after ≡ copy ∷ reverse pending
+on_top pending after copy is = ap reverse is ∙ reverse-append pending (copy ∷ [])
+
+-- what goes on stands before the pending copies, where the copy itself goes on
+pub stacked_some : (o : Outcome) (pending put after made : List Carried) (itself : Option Carried) (copy : Carried) → option_to_list itself ≡ o.itself → itself ≡ Some copy → made ≡ o.made → reverse put ≡ made ++ reverse pending → after ≡ put ++ copy ∷ [] → reverse after ≡ going_on o ++ reverse pending
+stacked_some o pending put after made itself copy one some these first top =
+    let single : o.itself ≡ copy ∷ [] = sym one ∙ ap option_to_list some in
+    on_top put after copy top ∙ ap (λ l. copy ∷ l) (first ∙ ap (λ l. l ++ reverse pending) these) ∙ ap (λ l. (l ++ o.made) ++ reverse pending) (sym single)
+
+-- and where it doesn't
+pub stacked_none : (o : Outcome) (pending put made : List Carried) (itself : Option Carried) → option_to_list itself ≡ o.itself → itself ≡ None → made ≡ o.made → reverse put ≡ made ++ reverse pending → reverse put ≡ going_on o ++ reverse pending
+stacked_none o pending put made itself one none these first =
+    let empty : o.itself ≡ [] = sym one ∙ ap option_to_list none in
+    first ∙ ap (λ l. l ++ reverse pending) these ∙ ap (λ l. (l ++ o.made) ++ reverse pending) (sym empty)
+
+-- a copy came through its table with a flow
+pub advanced : {flows : List Flow} {entry : Entry} {copy : Carried} (flow : Flow) → IsBest flows copy.table copy.regs copy.packet flow → (ops : List FlowOp) → ops ≡ flow.ops → (pending left : List Carried) → left ≡ going_on (outcome entry ops copy) ++ pending → (old : RunOut) (walk : List Step) (effects : List Effect)
+    → walk ≡ old.walk ++ record { table = copy.table; flow = flow } ∷ [] → effects ≡ old.effects ++ (outcome entry ops copy).effects → Advances flows entry copy pending left old (record { effects = effects; walk = walk })
+advanced {flows} {entry} {copy} flow best ops same pending left is old walk effects w e =
+    matched flow best (subst (λ os. left ≡ going_on (outcome entry os copy) ++ pending) same is) w (subst (λ os. effects ≡ old.effects ++ (outcome entry os copy).effects) same e)

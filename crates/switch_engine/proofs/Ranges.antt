@@ -17,6 +17,8 @@ use Rattle.flow_table.specs.declared.flow.FlowOp.{FlowOp}
 use Rattle.flow_table.specs.declared.flow.FlowOp.TheVariants.{Set, Go, Drop, Header, Frame, Copies, Output}
 use Rattle.switch_engine.specs.Actions.{set_flag, set_reg}
 use Rattle.switch_engine.specs.Range.{IsInRange}
+use Rattle.switch_engine.specs.Walk.{start_regs}
+use Rattle.switch_engine.specs.declared.effect.Entry.{Entry}
 use Rattle.switch_engine.specs.Proper.{all_bits, asked, CanBeSet, Raises}
 
 -- a flag that is set or cleared leaves eight flags
@@ -161,3 +163,21 @@ total_rises Own n flow regs packet h r fits =
 total_rises Arrived n flow regs packet h r fits =
     let more : regs.flags.0 < (set_flag 16 n regs.flags).0 = flag_rises regs.flags.0 n 16 flow.cube.flags.mask flow.cube.flags.value h.can.within fits.state.flags_fits h.whole h.greater in
     omega arith
+
+-- at the start all are 0
+pub start_in_range : (entry : Entry) → IsInRange (start_regs entry)
+start_in_range entry =
+    record {
+      dp_within = omega arith;
+      in_port_within = omega arith;
+      out_port_within = omega arith;
+      next_within = omega arith;
+      z_in_within = omega arith;
+      z_out_within = omega arith;
+      z_dnat_within = omega arith;
+      z_snat_within = omega arith;
+      state_within = omega arith;
+      verdict_within = omega arith;
+      tier_within = omega arith;
+      flags_within = omega arith;
+    }

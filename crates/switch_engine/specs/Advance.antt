@@ -1,5 +1,5 @@
 -- One step of a walk.
-use Rattle.std.specs.Prelude.{◌≡◌, ◌++◌, List, [], ◌∷◌}
+use Rattle.std.specs.Prelude.{◌≡◌, ◌<◌, ◌^◌, ◌++◌, List, [], ◌∷◌}
 use Rattle.flow_table.specs.declared.flow.Flow.{Flow}
 use Rattle.flow_table.specs.Matching.{IsBest, NoneMatches}
 use Rattle.switch_engine.specs.declared.carried.Carried.{Carried}
@@ -30,6 +30,7 @@ pub record Extends (old new : List Effect) : Type 0 where
   pub more : List Effect
   pub all_effects : new ≡ old ++ more
 
--- the numbers in a copy's registers lie within them
-abbrev pub IsCarriedInRange : Carried → Type 0
-IsCarriedInRange copy = IsInRange copy.regs
+-- a copy's table is one of 256, and the numbers in its registers lie within them
+pub record IsCarriedInRange (copy : Carried) : Type 0 where
+  pub table : copy.table < 2 ^ 8
+  pub regs : IsInRange copy.regs

@@ -56,7 +56,10 @@ fn set(regs: &mut Regs, reg: Reg, value: u32)
 
 // Sets the registers from the header of the tunnel from which the packet came.
 fn read_header(entry: &Entry, regs: &mut Regs)
-    ensures { regs.new ≡ with_header entry.now regs.old }
+    requires entry { IsEntry entry.now }
+    requires in_range { IsInRange regs.old }
+    ensures regs { regs.new ≡ with_header entry.now regs.old }
+    ensures in_range { IsInRange regs.new }
 {
     if let Entry::Tunnel {
         vni,

@@ -93,7 +93,7 @@ fn advance<T: Lookup>(
 ) -> Result<(), NoMemory>
     requires proper { IsProper (T.flows tables.now) }
     requires entry { IsEntry entry.now }
-    requires in_range { IsInRange copy.regs }
+    requires in_range { IsCarriedInRange copy }
     requires all_in_range { AllByRecursion IsCarriedInRange (reverse pending.old) }
     ensures ok { OnOk result (Advances (T.flows tables.now) entry.now copy (reverse pending.old) (reverse pending.new) out.old out.new) }
     ensures all_in_range { OnOk result (AllByRecursion IsCarriedInRange (reverse pending.new)) }
