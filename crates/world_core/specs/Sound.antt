@@ -1,5 +1,9 @@
 -- What holds of the state of a world after every event, and of the flows that its chassis holds.
-use Rattle.std.specs.Prelude.{◌≡◌, ◌≤◌, ◌<◌, ◌↔◌, ◌^◌, ℕ, List, [], Some, IsSome, length, map}
+use Rattle.std.specs.Prelude.{◌≡◌, ◌≢◌, ◌≤◌, ◌<◌, ◌↔◌, ◌+◌, ◌*◌, ◌^◌, ℕ, IsTrue, List, [], Some, IsSome, length}
+use Rattle.std.specs.Cmp.Lexicographic.{slice_cmp}
+use Rattle.std.specs.List.Sorted.{IsStrictlySortedBy}
+use Rattle.std.specs.Map.{keys_of}
+use Rattle.std.specs.Ordering.{nat_cmp}
 use Rattle.ovn_base.specs.Among.{Among}
 use Rattle.ovn_base.specs.Address.{IsMac}
 use Rattle.ovn_base.specs.declared.address.Ip4.{Ip4}
@@ -7,9 +11,11 @@ use Rattle.ovn_base.specs.declared.address.Mac.{Mac}
 use Rattle.ovn_base.specs.declared.name.Name.{Name}
 use Rattle.ovn_base.specs.Once.{EachOnce}
 use Rattle.ovn_base.specs.ByName.{at, IsByName}
+use Rattle.inet_packet.specs.Frame.{frame_of}
+use Rattle.inet_packet.specs.Whole.{IsWhole}
+use Rattle.inet_packet.specs.declared.packet.Packet.{Packet}
 use Rattle.flow_table.specs.declared.flow.Flow.{Flow}
 use Rattle.nb_records.specs.Network.{Network, empty_network}
-use Rattle.nb_records.specs.declared.record.PortAddress.{PortAddress}
 use Rattle.nb_records.specs.declared.record.Switch.{Switch}
 use Rattle.nb_records.specs.declared.record.SwitchPort.{SwitchPort}
 use Rattle.tunnel_keys.specs.Keys.{Keys, IsKeys, held_datapaths, held_ports}
@@ -17,7 +23,12 @@ use Rattle.tunnel_keys.specs.declared.owner.DatapathKey.{DatapathKey}
 use Rattle.tunnel_keys.specs.declared.owner.PortKey.{PortKey}
 use Rattle.tunnel_keys.specs.declared.owner.HeldDatapath.{HeldDatapath}
 use Rattle.tunnel_keys.specs.declared.owner.HeldPort.{HeldPort}
-use Rattle.world_core.specs.Addresses.{mac_of, HasMac, HasIp, IsOfStation}
+use Rattle.tunnel_keys.specs.declared.owner.Identity.{Identity}
+use Rattle.world_core.specs.Addresses.{macs_in, HasMac, HasIp, IsOfStation}
+use Rattle.world_core.specs.Crossing.{Crossing}
+use Rattle.world_core.specs.declared.crossing.Aim.{Aim}
+use Rattle.world_core.specs.declared.crossing.Aim.TheVariants.{ToPort, ToGroup}
+use Rattle.world_core.specs.Visit.{is_switch}
 use Rattle.world_core.specs.State.{State, events_of}
 use Rattle.world_core.specs.Stages.{Basis}
 use Rattle.world_core.specs.Tables.{TableFlow}
