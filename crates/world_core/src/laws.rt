@@ -1,7 +1,14 @@
-//! Laws of the whole network.
-ghost use Rattle.world_core.specs.WalkLaw.{WalkLaw};
+//! What the tables of a chassis do with a packet.
+ghost use Rattle.world_core.specs.WalkLaw.{ArrivalLaw, EntryLaw};
 
-/// Whatever walk a packet takes through the tables of its chassis, what it comes to is what the logical network says of the packet.
-pub fn walk_law()
-    ensures { WalkLaw }
-{}
+/// What the tables of a chassis do with a packet from a port is what the logical network says.
+pub fn entry_law()
+    ensures { EntryLaw }
+{
+}
+
+/// What they do with the packet of a crossing is what the logical network says of its arrival.
+pub fn arrival_law()
+    ensures { ArrivalLaw }
+{
+}
