@@ -1,52 +1,112 @@
--- What a world needs to add a record: numbers in range, keys that are free, and what it keeps.
-use Rattle.std.specs.Prelude.{◌≡◌, ◌≤◌, ◌<◌, ◌+◌, ◌^◌, ℕ, List, [], ◌∷◌, Some, None, length, refl}
-use Rattle.std.proofs.Common.{arith, sym, subst}
+-- An added switch, and an added port: edits of the network, which leave a consistent state.
+use Rattle.std.specs.Prelude.{◌≡◌, ◌≢◌, ◌<◌, ◌+◌, ◌^◌, ◌++◌, ℕ, List, [], ◌∷◌, Option, Some, None, IsSome, cond, flat_map, length, map, unwrap_or, refl}
+use Rattle.std.specs.List.{cons_option}
+use Rattle.std.specs.List.Sorted.{IsStrictlySortedBy}
+use Rattle.std.proofs.Common.{sym, ap, subst, ◌∙◌, inl, inr}
+use Rattle.std.proofs.lemmas.Bool.{cases_Bool}
+use Rattle.std.proofs.lemmas.Option.{none-some}
+use Rattle.ovn_base.specs.Among.{Among, here, there}
+use Rattle.ovn_base.specs.SameName.{bytes_decides, same_name}
+use Rattle.ovn_base.specs.declared.address.Birth.{Birth}
 use Rattle.ovn_base.specs.declared.name.Name.{Name}
-use Rattle.ovn_base.specs.ByName.{at, put}
+use Rattle.ovn_base.specs.ByName.{at, put, in_order, IsByName}
+use Rattle.ovn_base.proofs.Puts.{above_among, at_tail, below_apart, one_or_two}
 use Rattle.nb_records.specs.declared.record.Op.TheVariants.{Add}
 use Rattle.nb_records.specs.declared.record.Record.TheVariants as record_of
 use Rattle.nb_records.specs.declared.record.Switch.{Switch}
+use Rattle.nb_records.specs.declared.record.SwitchPort.{SwitchPort}
 use Rattle.switch_engine.specs.declared.effect.NetEffect.{NetEffect}
-use Rattle.switch_engine.specs.declared.effect.NetEffect.TheVariants as effect
-use Rattle.world_core.specs.declared.keys.DatapathKey.{DatapathKey}
-use Rattle.world_core.specs.Editing.{Edits, IsFreeDatapathKey, counted}
+use Rattle.tunnel_keys.specs.Edits.{GivesKeys}
+use Rattle.tunnel_keys.specs.Keys.{Keys, IsKeys}
+use Rattle.tunnel_keys.specs.Owners.{ports_in}
+use Rattle.tunnel_keys.specs.declared.owner.DatapathKey.{DatapathKey}
+use Rattle.tunnel_keys.specs.declared.owner.KeyOwner.{KeyOwner}
+use Rattle.tunnel_keys.specs.declared.owner.KeyOwner.TheVariants.{Datapath, Port}
+use Rattle.world_core.specs.Editing.{Edits, counted, datapath_effect, key_effects, port_effect, ports_in_order}
+use Rattle.world_core.specs.New.{AreNew}
 use Rattle.world_core.specs.Seen.{IsConsistent}
-use Rattle.world_core.specs.Sound.{AreSorted, HaveKeys}
 use Rattle.world_core.specs.State.{State, events_of}
-use Rattle.world_core.proofs.Coming.{switch_comes}
-use Rattle.world_core.proofs.Counts.{few_entries}
-use Rattle.world_core.proofs.Found.{some_of}
-use Rattle.world_core.proofs.FreeKeys.{datapath_key_free}
+use Rattle.world_core.proofs.Coming.{switch_comes, port_comes}
 
-pub few_datapath_keys : (m : State) → HaveKeys m.net m.keys → AreSorted m.keys.datapaths → length m.keys.datapaths ≤ length m.net.switches
-few_datapath_keys m have sorted = few_entries m.keys.datapaths m.net.switches sorted (λ a h. let s = some_of (at m.keys.datapaths a) h in have.datapath_of a s.0 s.1)
+-- ---- the line of the key
 
--- the next key of a datapath
-pub next_datapath_key : (m : State) → length m.keys.datapaths < 1024 → ((a : Name) (k : DatapathKey) → at m.keys.datapaths a ≡ Some k → k.key ≤ length m.keys.datapaths) → IsFreeDatapathKey m.keys (length m.keys.datapaths + 1)
-next_datapath_key m few small = record {
-  low = omega arith;
-  high = omega (arith, few);
-  free = λ a k has. datapath_key_free m.keys.datapaths small a k has;
-}
+module _ (name : Name) (birth : Birth) where
+  no_port : (ds : List (Name × DatapathKey)) → flat_map (λ d. in_order (ports_in d.0 (Datapath name birth ∷ []))) ds ≡ []
+  no_port [] = refl
+  no_port (d ∷ ds) = no_port ds
 
--- an added switch is an edit of the network
-pub edits_switch : (m n : State) (s : Switch) (key : ℕ) (effects : List NetEffect) → IsFreeDatapathKey m.keys key → effects ≡ effect.DatapathKey s.name key ∷ []
-    → n ≡ record (counted m) {
-      net = record m.net { switches = put m.net.switches s.name (record s { birth = record { 0 = events_of m + 1 } }) };
-      keys = record m.keys { datapaths = put m.keys.datapaths s.name (record { birth = record { 0 = events_of m + 1 }; key = key }) };
-    } → Edits m (Add (record_of.Switch s) ∷ []) effects n
-edits_switch m n s key effects free named is = record {
-  keys = record m.keys { datapaths = put m.keys.datapaths s.name (record { birth = record { 0 = events_of m + 1 }; key = key }) };
-  given = (key, [], free, named, (refl, refl));
-  state = is;
-}
+  datapath_named : (keys : Keys) → key_effects (Datapath name birth ∷ []) keys ≡ datapath_effect keys (name, birth) ∷ []
+  datapath_named keys = ap (λ ports. datapath_effect keys (name, birth) ∷ map (port_effect keys) ports) (no_port keys.datapaths)
 
--- and leaves a consistent state
-pub consistent_switch : (m n : State) (zones : List (Name × ℕ)) (s : Switch) (key : ℕ) → IsConsistent m zones → at m.net.switches s.name ≡ None → length m.net.switches < 1024 → events_of m < 2 ^ 42 → IsFreeDatapathKey m.keys key
-    → n ≡ record (counted m) {
-      net = record m.net { switches = put m.net.switches s.name (record s { birth = record { 0 = events_of m + 1 } }) };
-      keys = record m.keys { datapaths = put m.keys.datapaths s.name (record { birth = record { 0 = events_of m + 1 }; key = key }) };
-    } → IsConsistent n zones
-consistent_switch m n zones s key old absent few room free is =
-    subst (λ w. IsConsistent w zones) (sym is)
-    (switch_comes m zones (record s { birth = record { 0 = events_of m + 1 } }) (record { birth = record { 0 = events_of m + 1 }; key = key }) old absent few room refl refl free)
+module _ (datapath name : Name) (birth : Birth) where
+  -- the ports that come onto a datapath
+  abbrev coming : Name → List (Name × Birth)
+  coming d = in_order (ports_in d (Port datapath name birth ∷ []))
+
+  comes_there : (d : Name) → d ≡ datapath → coming d ≡ (name, birth) ∷ []
+  comes_there d same = ap (λ t. in_order (cons_option (cond {A = Option (Name × Birth)} t (Some (name, birth)) None) [])) ((bytes_decides d datapath).1 same)
+
+  comes_elsewhere : (d : Name) → d ≢ datapath → coming d ≡ []
+  comes_elsewhere d apart = elim (cases_Bool (same_name d datapath)) [
+    | inl same ↦ absurd (apart ((bytes_decides d datapath).0 same))
+    | inr other ↦ ap (λ t. in_order (cons_option (cond {A = Option (Name × Birth)} t (Some (name, birth)) None) [])) other
+  ]
+
+  none_comes : (es : List (Name × DatapathKey)) → ((e : Name × DatapathKey) → Among e es → e.0 ≢ datapath) → flat_map (λ e. coming e.0) es ≡ []
+  none_comes [] h = refl
+  none_comes (e ∷ es) h = ap (λ l. l ++ flat_map (λ e. coming e.0) es) (comes_elsewhere e.0 (h e here)) ∙ none_comes es (λ f m. h f (there m))
+
+  one_comes : (es : List (Name × DatapathKey)) (d : DatapathKey) → IsByName es → at es datapath ≡ Some d → flat_map (λ e. coming e.0) es ≡ (name, birth) ∷ []
+  unfolding IsStrictlySortedBy
+  one_comes [] d s f = absurd (none-some d f)
+  one_comes (e ∷ es) d s f = elim (one_or_two datapath e.0) [
+    | inl same ↦
+        ap (λ l. l ++ flat_map (λ e. coming e.0) es) (comes_there e.0 (sym same))
+        ∙ ap (λ l. (name, birth) ∷ l) (none_comes es (λ g m is. below_apart e.0 g.0 (above_among e.0 g.0 g.1 es s.0 m) (is ∙ same)))
+    | inr apart ↦ ap (λ l. l ++ flat_map (λ e. coming e.0) es) (comes_elsewhere e.0 (λ is. apart (sym is))) ∙ one_comes es d s.1 (sym (at_tail e es datapath apart) ∙ f)
+  ]
+
+  port_named : (keys : Keys) (d : DatapathKey) → IsByName keys.datapaths → at keys.datapaths datapath ≡ Some d → key_effects (Port datapath name birth ∷ []) keys ≡ port_effect keys (name, birth) ∷ []
+  port_named keys d s f = ap (λ ports. map (port_effect keys) ports) (one_comes keys.datapaths d s f)
+
+module _ (m n : State) (after : Keys) (hold : IsKeys after) where
+  -- ---- a switch
+
+  module _ (s : Switch) (gives : GivesKeys m.keys (Datapath s.name (record { 0 = events_of m + 1 }) ∷ []) [] after)
+      (is : n ≡ record (counted m) { net = record m.net { switches = put m.net.switches s.name (record s { birth = record { 0 = events_of m + 1 } }) }; keys = after }) where
+    pub edits_switch : (effects : List NetEffect) → effects ≡ datapath_effect after (s.name, record { 0 = events_of m + 1 }) ∷ [] → Edits m (Add (record_of.Switch s) ∷ []) effects n
+    edits_switch effects named = record {
+      keys = after;
+      datapaths_in_order = hold.datapaths_in_order;
+      ports_in_order = hold.ports_in_order;
+      given = gives;
+      effects_are = named ∙ sym (datapath_named s.name (record { 0 = events_of m + 1 }) after);
+      state = is;
+    }
+
+    pub consistent_switch : (zones : List (Name × ℕ)) → IsConsistent m zones → at m.net.switches s.name ≡ None → length m.net.switches < 1024 → events_of m < 2 ^ 42 → IsConsistent n zones
+    consistent_switch zones old absent few room =
+        subst (λ w. IsConsistent w zones) (sym is) (switch_comes m zones old room after hold (record s { birth = record { 0 = events_of m + 1 } }) absent few refl gives)
+
+  -- ---- a port
+
+  module _ (p : SwitchPort) (gives : GivesKeys m.keys (Port p.switch p.name (record { 0 = events_of m + 1 }) ∷ []) [] after)
+      (is : n ≡ record (counted m) { net = record m.net { ports = put m.net.ports p.name (record p { birth = record { 0 = events_of m + 1 } }) }; keys = after }) where
+    pub edits_port : (effects : List NetEffect) → effects ≡ port_effect after (p.name, record { 0 = events_of m + 1 }) ∷ [] → Edits m (Add (record_of.SwitchPort p) ∷ []) effects n
+    edits_port effects named =
+        let given = gives.port_given p.switch p.name (record { 0 = events_of m + 1 }) here in
+        record {
+          keys = after;
+          datapaths_in_order = hold.datapaths_in_order;
+          ports_in_order = hold.ports_in_order;
+          given = gives;
+          effects_are = named ∙ sym (port_named p.switch p.name (record { 0 = events_of m + 1 }) after given.1 hold.datapaths_in_order given.3);
+          state = is;
+        }
+
+    pub consistent_port : (zones : List (Name × ℕ)) → IsConsistent m zones → at m.net.ports p.name ≡ None → length m.net.ports < 10000 → IsSome (at m.net.switches p.switch) → AreNew m.net p → events_of m < 2 ^ 42
+        → IsConsistent n zones
+    consistent_port zones old absent few on new room =
+        subst (λ w. IsConsistent w zones) (sym is)
+        (port_comes m zones old room after hold (record p { birth = record { 0 = events_of m + 1 } }) absent few on
+        (record { macs = new.macs; stations = new.stations; once = new.once; apart = new.apart; ips_apart = new.ips_apart }) refl gives)

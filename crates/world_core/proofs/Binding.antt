@@ -3,26 +3,29 @@ use Rattle.std.specs.Prelude.{◌≡◌, ◌≢◌, ◌≤◌, ◌<◌, ◌+◌,
 use Rattle.std.proofs.Common.{arith, ap, ◌∙◌}
 use Rattle.ovn_base.specs.Among.{Among}
 use Rattle.ovn_base.specs.declared.name.Name.{Name}
-use Rattle.ovn_base.specs.ByName.{at, put}
+use Rattle.ovn_base.specs.ByName.{at, put, IsByName}
 use Rattle.world_core.specs.Editing.{counted}
 use Rattle.world_core.specs.Seen.{IsConsistent}
-use Rattle.world_core.specs.Sound.{AreBound, AreSorted}
+use Rattle.world_core.specs.Sound.{AreBound}
 use Rattle.world_core.specs.State.{State, events_of}
 use Rattle.world_core.specs.Zones.{zone_for}
-use Rattle.world_core.proofs.AddingPorts.{AreUpTo}
 use Rattle.world_core.proofs.Coming.{port_bound}
 use Rattle.world_core.proofs.Counts.{few_entries}
 use Rattle.world_core.proofs.Found.{some_of}
 
+-- no number is greater than this one
+abbrev pub AreUpTo : List (Name × ℕ) → ℕ → Type 0
+AreUpTo numbers most = (a : Name) (n : ℕ) → at numbers a ≡ Some n → n ≤ most
+
 -- zones are at most as many as ports
-pub few_zones : (m : State) (zones : List (Name × ℕ)) → AreBound m zones → AreSorted zones → length zones ≤ length m.net.ports
+pub few_zones : (m : State) (zones : List (Name × ℕ)) → AreBound m zones → IsByName zones → length zones ≤ length m.net.ports
 few_zones m zones bound sorted =
     few_entries zones m.net.ports sorted
     (λ q h. let s = some_of (at zones q) h in let b = some_of (at m.bindings q) (bound.zone_of q s.0 s.1) in bound.port_there q b.0 b.1)
 
 module _ (zones : List (Name × ℕ)) (p : Name) (small : AreUpTo zones (length zones)) where
   -- a bound port leaves a consistent state
-  pub consistent_bound : (m : State) (c : Name) → IsConsistent m zones → AreSorted zones → IsSome (at m.net.ports p) → Among c m.chassis → events_of m < 2 ^ 42
+  pub consistent_bound : (m : State) (c : Name) → IsConsistent m zones → IsByName zones → IsSome (at m.net.ports p) → Among c m.chassis → events_of m < 2 ^ 42
       → IsConsistent (record (counted m) { bindings = put m.bindings p c }) (put zones p (zone_for zones p))
   consistent_bound m c old sorted there known room =
       let few : length zones ≤ length m.net.ports = few_zones m zones old.bound sorted in

@@ -1,6 +1,6 @@
 -- A consistent state stays so where a record, a chassis or a binding comes.
 use Rattle.std.specs.Prelude.{◌≡◌, ◌≢◌, ◌≤◌, ◌<◌, ◌+◌, ◌^◌, ℕ, List, [], ◌∷◌, Some, None, IsSome, length, refl}
-use Rattle.std.proofs.Common.{arith, subst}
+use Rattle.std.proofs.Common.{arith, subst, ap}
 use Rattle.std.specs.Cmp.Lexicographic.{slice_cmp}
 use Rattle.std.specs.Ordering.{nat_cmp, match_ordering}
 use Rattle.std.specs.declared.cmp.Ordering.TheVariants.{Less, Equal, Greater}
@@ -9,13 +9,17 @@ use Rattle.ovn_base.specs.declared.name.Name.{Name}
 use Rattle.ovn_base.specs.ByName.{at, put}
 use Rattle.nb_records.specs.declared.record.Switch.{Switch}
 use Rattle.nb_records.specs.declared.record.SwitchPort.{SwitchPort}
-use Rattle.world_core.specs.declared.keys.DatapathKey.{DatapathKey}
-use Rattle.world_core.specs.declared.keys.PortKey.{PortKey}
-use Rattle.world_core.specs.Editing.{IsFreeDatapathKey, IsFreePortKey, counted}
+use Rattle.tunnel_keys.specs.Edits.{GivesKeys}
+use Rattle.tunnel_keys.specs.Keys.{Keys, IsKeys}
+use Rattle.tunnel_keys.specs.declared.owner.KeyOwner.{KeyOwner}
+use Rattle.tunnel_keys.specs.declared.owner.KeyOwner.TheVariants.{Datapath, Port}
+use Rattle.world_core.specs.Editing.{counted}
 use Rattle.world_core.specs.New.{AreNew}
 use Rattle.world_core.specs.Seen.{IsConsistent}
 use Rattle.world_core.specs.State.{State, events_of}
-use Rattle.world_core.proofs.Kept.{switch_valid, switch_keys, port_valid, port_keys, some_kept, bound_kept, bound_fresh, born_kept, born_switch, born_port}
+use Rattle.world_core.proofs.Given.{given_beside, switch_keys, port_keys, keys_born}
+use Rattle.world_core.proofs.Owning.{birth_in, the_one}
+use Rattle.world_core.proofs.Kept.{switch_valid, port_valid, some_kept, bound_kept, bound_fresh, born_kept, born_switch, born_port}
 
 -- one entry more at the most
 pub few_put : {X : Type 0} (entries : List (Name × X)) (name : Name) (value : X) → length (put entries name value) ≤ length entries + 1
@@ -28,35 +32,43 @@ few_put (e ∷ entries) name value =
       | Greater ↦ omega (arith, ih)
     ]
 
-pub switch_comes : (m : State) (zones : List (Name × ℕ)) (s : Switch) (k : DatapathKey) → IsConsistent m zones → at m.net.switches s.name ≡ None → length m.net.switches < 1024 → events_of m < 2 ^ 42
-    → s.birth.0 ≡ events_of m + 1 → k.birth ≡ s.birth → IsFreeDatapathKey m.keys k.key
-    → IsConsistent (record (counted m) { net = record m.net { switches = put m.net.switches s.name s }; keys = record m.keys { datapaths = put m.keys.datapaths s.name k } }) zones
-switch_comes m zones s k old absent few room birth same free = record {
-  valid = switch_valid m.net s.name s old.valid absent refl;
-  within = record { switches = omega (arith, few, few_put m.net.switches s.name s); ports = old.within.ports };
-  keys = switch_keys m.net s.name s m.keys k old.keys same free.low free.high free.free;
-  bound = bound_kept m n zones old.bound refl (λ q h. h) (λ c h. h) old.bound.one_chassis;
-  born = born_switch m n old.born (omega arith) (λ h. omega arith) s.name s refl (omega (arith, birth));
-  few = omega (arith, room);
-}
-  where
-    n : State
-    n = record (counted m) { net = record m.net { switches = put m.net.switches s.name s }; keys = record m.keys { datapaths = put m.keys.datapaths s.name k } }
+module _ (m : State) (zones : List (Name × ℕ)) (old : IsConsistent m zones) (room : events_of m < 2 ^ 42) (after : Keys) (hold : IsKeys after) where
+  pub switch_comes : (s : Switch) → at m.net.switches s.name ≡ None → length m.net.switches < 1024 → s.birth.0 ≡ events_of m + 1 → GivesKeys m.keys (Datapath s.name s.birth ∷ []) [] after
+      → IsConsistent (record (counted m) { net = record m.net { switches = put m.net.switches s.name s }; keys = after }) zones
+  switch_comes s absent few birth gives =
+      let beside = given_beside m.keys (Datapath s.name s.birth ∷ []) after gives in
+      let n = record (counted m) { net = record m.net { switches = put m.net.switches s.name s }; keys = after } in
+      record {
+        valid = switch_valid m.net s.name s old.valid absent refl;
+        within = record { switches = omega (arith, few, few_put m.net.switches s.name s); ports = old.within.ports };
+        keys = switch_keys m.net m.keys after old.keys hold s beside;
+        bound = bound_kept m n zones old.bound refl (λ q h. h) (λ c h. h) old.bound.one_chassis;
+        born = born_switch m n old.born (omega arith) (λ h. omega arith) s.name s refl (omega (arith, birth))
+            (keys_born m old.born old.keys after hold (events_of n) (omega arith) (Datapath s.name s.birth ∷ []) (λ owner among. in_time owner (Datapath s.name s.birth) among birth) beside);
+        few = omega (arith, room);
+      }
+    where
+      in_time : (owner one : KeyOwner) → Among owner (one ∷ []) → (birth_in one).0 ≡ events_of m + 1 → (birth_in owner).0 ≤ events_of (counted m)
+      in_time owner one among late = let same : (birth_in owner).0 ≡ (birth_in one).0 = ap (λ o. (birth_in o).0) (the_one owner one among) in omega (arith, same, late)
 
-pub port_comes : (m : State) (zones : List (Name × ℕ)) (p : SwitchPort) (k : PortKey) → IsConsistent m zones → at m.net.ports p.name ≡ None → length m.net.ports < 10000 → IsSome (at m.net.switches p.switch) → AreNew m.net p
-    → events_of m < 2 ^ 42 → p.birth.0 ≡ events_of m + 1 → k.birth ≡ p.birth → k.datapath ≡ p.switch → IsFreePortKey m.keys k.datapath k.key
-    → IsConsistent (record (counted m) { net = record m.net { ports = put m.net.ports p.name p }; keys = record m.keys { ports = put m.keys.ports p.name k } }) zones
-port_comes m zones p k old absent few on new room birth same of free = record {
-  valid = port_valid m.net p.name p old.valid absent refl on new;
-  within = record { switches = old.within.switches; ports = omega (arith, few, few_put m.net.ports p.name p) };
-  keys = port_keys m.net p.name p m.keys k old.keys same of free.low free.high free.free;
-  bound = bound_kept m n zones old.bound refl (λ q h. some_kept m.net.ports p.name p q h) (λ c h. h) old.bound.one_chassis;
-  born = born_port m n old.born (omega arith) (λ h. omega arith) p.name p refl (omega (arith, birth));
-  few = omega (arith, room);
-}
-  where
-    n : State
-    n = record (counted m) { net = record m.net { ports = put m.net.ports p.name p }; keys = record m.keys { ports = put m.keys.ports p.name k } }
+  pub port_comes : (p : SwitchPort) → at m.net.ports p.name ≡ None → length m.net.ports < 10000 → IsSome (at m.net.switches p.switch) → AreNew m.net p → p.birth.0 ≡ events_of m + 1
+      → GivesKeys m.keys (Port p.switch p.name p.birth ∷ []) [] after
+      → IsConsistent (record (counted m) { net = record m.net { ports = put m.net.ports p.name p }; keys = after }) zones
+  port_comes p absent few on new birth gives =
+      let beside = given_beside m.keys (Port p.switch p.name p.birth ∷ []) after gives in
+      let n = record (counted m) { net = record m.net { ports = put m.net.ports p.name p }; keys = after } in
+      record {
+        valid = port_valid m.net p.name p old.valid absent refl on new;
+        within = record { switches = old.within.switches; ports = omega (arith, few, few_put m.net.ports p.name p) };
+        keys = port_keys m.net m.keys after old.keys hold p beside;
+        bound = bound_kept m n zones old.bound refl (λ q h. some_kept m.net.ports p.name p q h) (λ c h. h) old.bound.one_chassis;
+        born = born_port m n old.born (omega arith) (λ h. omega arith) p.name p refl (omega (arith, birth))
+            (keys_born m old.born old.keys after hold (events_of n) (omega arith) (Port p.switch p.name p.birth ∷ []) (λ owner among. in_time owner (Port p.switch p.name p.birth) among birth) beside);
+        few = omega (arith, room);
+      }
+    where
+      in_time : (owner one : KeyOwner) → Among owner (one ∷ []) → (birth_in one).0 ≡ events_of m + 1 → (birth_in owner).0 ≤ events_of (counted m)
+      in_time owner one among late = let same : (birth_in owner).0 ≡ (birth_in one).0 = ap (λ o. (birth_in o).0) (the_one owner one among) in omega (arith, same, late)
 
 pub chassis_comes : (m : State) (zones : List (Name × ℕ)) (c : Name) → IsConsistent m zones → m.chassis ≡ [] → events_of m < 2 ^ 42 → IsConsistent (record (counted m) { chassis = c ∷ [] }) zones
 chassis_comes m zones c old none room = record {
@@ -64,7 +76,7 @@ chassis_comes m zones c old none room = record {
   within = old.within;
   keys = old.keys;
   bound = bound_kept m n zones old.bound refl (λ q h. h) (λ d h. absurd (elim (subst (λ cs. Among d cs) none h) [ ])) (omega arith);
-  born = born_kept m n old.born (omega arith) (λ h. absurd (omega arith)) refl;
+  born = born_kept m n old.born (omega arith) (λ h. absurd (omega arith)) refl refl;
   few = omega (arith, room);
 }
   where
@@ -79,7 +91,7 @@ port_bound m zones p c zone old there known room low high free = record {
   within = old.within;
   keys = old.keys;
   bound = bound_fresh m n zones p c zone old.bound refl refl refl there known low high free;
-  born = born_kept m n old.born (omega arith) (λ h. absurd (omega arith)) refl;
+  born = born_kept m n old.born (omega arith) (λ h. absurd (omega arith)) refl refl;
   few = omega (arith, room);
 }
   where

@@ -1,5 +1,6 @@
 -- The list of the flows of a chassis has exactly those of the set.
 use Rattle.std.specs.Prelude.{◌≡◌, ◌↔◌, ℕ, List, ◌++◌, Some, None, Option, flat_map, if◌then◌else◌, refl}
+use Rattle.std.specs.Option.{option_map}
 use mathlib.Core.Path.{sym, ap, subst, ◌∙◌}
 use mathlib.Core.Logic.{inl, inr}
 use Rattle.std.proofs.lemmas.Bool.{cases_Bool}
@@ -12,9 +13,10 @@ use Rattle.flow_table.specs.declared.flow.Flow.{Flow}
 use Rattle.ovn_base.proofs.Puts.{among_at, at_among}
 use Rattle.nb_records.specs.declared.record.Switch.{Switch}
 use Rattle.nb_records.specs.declared.record.SwitchPort.{SwitchPort}
-use Rattle.world_core.specs.declared.keys.DatapathKey.{DatapathKey}
-use Rattle.world_core.specs.declared.keys.PortKey.{PortKey}
+use Rattle.tunnel_keys.specs.declared.owner.DatapathKey.{DatapathKey}
+use Rattle.tunnel_keys.specs.declared.owner.PortKey.{PortKey}
 use Rattle.world_core.specs.Addresses.{mac_of}
+use Rattle.world_core.specs.Numbers.{datapath_number, port_number}
 use Rattle.world_core.specs.Rows.{entry_row, pass_row, address_row, unknown_row, stay_row, home_row, return_row, leave_row, output_row}
 use Rattle.world_core.specs.Sound.{IsValid, HaveKeys, AreExactly}
 use Rattle.world_core.specs.Stages.{Basis, IsDatapath, IsPort, IsHere, EntryRow, AdmitRow, PortSecRow, TrackRow, AclInRow, StateInRow, ArpRow, LookupRow, RemoteRow, HomeRow, ReturnRow, TrackOutRow, AclOutRow, StateOutRow, SecOutRow, OutputRow}
@@ -65,12 +67,14 @@ in_local b q port dp key on (Some zone) is f m =
     among_all (TableFlow b) f (local_rows dp q key zone)
     (TableFlow.in_entry (EntryRow.entry q port dp key zone on home refl), (TableFlow.in_home (HomeRow.home q port dp key zone on home refl), tt)) m
 
-in_switch_part : (b : Basis) (a : Name) (switch : Switch) → at b.net.switches a ≡ Some switch → (datapath : Option DatapathKey) → at b.keys.datapaths a ≡ datapath → (f : Flow) → Among f (switch_part datapath) → TableFlow b f
+in_switch_part : (b : Basis) (a : Name) (switch : Switch) → at b.net.switches a ≡ Some switch → (datapath : Option DatapathKey) → at b.keys.datapaths a ≡ datapath → (f : Flow)
+    → Among f (switch_part (option_map (λ (k : DatapathKey). k.key) datapath)) → TableFlow b f
 in_switch_part b a switch found None is f m = absurd (among_none f m)
 in_switch_part b a switch found (Some live) is f m = in_switch b a live.key (record { switch = switch; there = found; live = live; has = is; number = refl }) f m
 
 in_port_part : (b : Basis) (q : Name) (port : SwitchPort) (switch : Switch) → at b.net.ports q ≡ Some port → at b.net.switches port.switch ≡ Some switch
-    → (datapath : Option DatapathKey) → at b.keys.datapaths port.switch ≡ datapath → (of : Option PortKey) → at b.keys.ports q ≡ of → (f : Flow) → Among f (port_part datapath of (zone_here b q) q port) → TableFlow b f
+    → (datapath : Option DatapathKey) → at b.keys.datapaths port.switch ≡ datapath → (of : Option PortKey) → at b.keys.ports q ≡ of → (f : Flow)
+    → Among f (port_part (option_map (λ (k : DatapathKey). k.key) datapath) (option_map (λ (k : PortKey). k.key) of) (zone_here b q) q port) → TableFlow b f
 in_port_part b q port switch found beside None dp_is of key_is f m = absurd (among_none f m)
 in_port_part b q port switch found beside (Some d) dp_is None key_is f m = absurd (among_none f m)
 in_port_part b q port switch found beside (Some d) dp_is (Some live) key_is f m =
@@ -90,14 +94,14 @@ in_port_part b q port switch found beside (Some d) dp_is (Some live) key_is f m 
 -- ---- a row of the set is in the list
 
 abbrev of_switch : Basis → Name × Switch → List Flow
-of_switch b e = switch_part (at b.keys.datapaths e.0)
+of_switch b e = switch_part (datapath_number b.keys e.0)
 
 abbrev of_port : Basis → Name × SwitchPort → List Flow
-of_port b e = port_part (at b.keys.datapaths e.1.switch) (at b.keys.ports e.0) (zone_here b e.0) e.0 e.1
+of_port b e = port_part (datapath_number b.keys e.1.switch) (port_number b.keys e.0) (zone_here b e.0) e.0 e.1
 
 switch_among : (b : Basis) (a : Name) (dp : ℕ) → IsDatapath b a dp → (f : Flow) → Among f (switch_rows dp) → Among f (table_flows b)
 switch_among b a dp on f m =
-    let part : Among f (switch_part (at b.keys.datapaths a)) = subst (λ o. Among f (switch_part o)) (sym on.has) (subst (λ n. Among f (switch_rows n)) (sym on.number) m) in
+    let part : Among f (switch_part (datapath_number b.keys a)) = subst (λ (o : Option DatapathKey). Among f (switch_part (option_map (λ k. k.key) o))) (sym on.has) (subst (λ n. Among f (switch_rows n)) (sym on.number) m) in
     there (there (among_left f (flat_map (of_switch b) b.net.switches) _ (among_flat_map (of_switch b) (a, on.switch) f b.net.switches (at_among b.net.switches a on.switch on.there) part)))
 
 unit_among : (b : Basis) (q : Name) (port : SwitchPort) (dp key : ℕ) → IsPort b q port dp key → (f : Flow) → Among f (port_rows dp q port key ++ local_part (zone_here b q) dp q key) → Among f (table_flows b)
@@ -105,8 +109,9 @@ unit_among b q port dp key on f m =
     let keyed : Among f (port_rows on.on.live.key q port on.live.key ++ local_part (zone_here b q) on.on.live.key q on.live.key) =
     subst (λ n. Among f (port_rows on.on.live.key q port n ++ local_part (zone_here b q) on.on.live.key q n)) (sym on.number)
     (subst (λ n. Among f (port_rows n q port key ++ local_part (zone_here b q) n q key)) (sym on.on.number) m) in
-    let part : Among f (port_part (at b.keys.datapaths port.switch) (at b.keys.ports q) (zone_here b q) q port) =
-    subst (λ o. Among f (port_part o (at b.keys.ports q) (zone_here b q) q port)) (sym on.on.has) (subst (λ o. Among f (port_part (Some on.on.live) o (zone_here b q) q port)) (sym on.has) keyed) in
+    let part : Among f (port_part (datapath_number b.keys port.switch) (port_number b.keys q) (zone_here b q) q port) =
+    subst (λ (o : Option DatapathKey). Among f (port_part (option_map (λ k. k.key) o) (port_number b.keys q) (zone_here b q) q port)) (sym on.on.has)
+    (subst (λ (o : Option PortKey). Among f (port_part (Some on.on.live.key) (option_map (λ k. k.key) o) (zone_here b q) q port)) (sym on.has) keyed) in
     there (there (
     among_right f (flat_map (of_switch b) b.net.switches) _ (among_flat_map (of_port b) (q, port) f b.net.ports (at_among b.net.ports q port on.there) part)))
 

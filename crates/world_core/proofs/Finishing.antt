@@ -35,7 +35,7 @@ packet_done old new p frame effects walks taken room sent count counts is =
     let seen =
     law m old.zones old.flows sent.chassis now.valid now.keys now.bound (taken.compiled.exact sent.chassis (now.bound.chassis_there p sent.chassis sent.home)) p sent.home sent.packet sent.whole.dst sent.steps sent.ends sent.walked in
     let named : AllZip (IsNamed m.keys) sent.ends effects =
-    subst (λ es. AllZip (IsNamed m.keys) sent.ends es) (shown_only m.net m.keys now.keys sent.ends seen.names seen.named ∙ sym sent.effects_are) seen.named in
+    subst (λ es. AllZip (IsNamed m.keys) sent.ends es) (shown_only m.net m.keys now.valid now.keys sent.ends seen.names seen.named ∙ sym sent.effects_are) seen.named in
     record {
       step = record {
         packet = sent.packet;
@@ -64,7 +64,7 @@ packet_done old new p frame effects walks taken room sent count counts is =
           within = now.within;
           keys = now.keys;
           bound = bound_kept m (counted m) old.zones now.bound refl (λ q h. h) (λ c h. h) now.bound.one_chassis;
-          born = born_kept m (counted m) now.born (omega arith) (λ h. absurd (omega arith)) refl;
+          born = born_kept m (counted m) now.born (omega arith) (λ h. absurd (omega arith)) refl refl;
           few = omega (arith, room);
         };
         compiled = record { exact = taken.compiled.exact };
@@ -84,7 +84,7 @@ refused_taken w taken room =
         within = now.within;
         keys = now.keys;
         bound = bound_kept m n w.zones now.bound refl (λ q h. h) (λ c h. h) now.bound.one_chassis;
-        born = born_kept m n now.born (omega arith) (λ h. h) refl;
+        born = born_kept m n now.born (omega arith) (λ h. h) refl refl;
         few = omega (arith, room);
       };
       compiled = record { exact = taken.compiled.exact };

@@ -1,4 +1,4 @@
--- What stays true of the records, the keys, the bindings and the births, when a record comes, a port is bound, a chassis comes.
+-- What stays true of the records, the bindings and the births, when a record comes, a port is bound, a chassis comes.
 use Rattle.std.specs.Prelude.{◌≡◌, ◌≢◌, ◌≤◌, ◌<◌, ◌^◌, ◌⊎◌, ℕ, List, [], ◌∷◌, Some, None, Option, IsSome, is_some, length, map, refl}
 use mathlib.Core.Path.{sym, ap, subst, ◌∙◌}
 use mathlib.Core.Logic.{inl, inr}
@@ -17,12 +17,13 @@ use Rattle.ovn_base.proofs.Puts.{put_there, put_other, put_cases, put_sorted, on
 use Rattle.nb_records.specs.declared.record.PortAddress.{PortAddress}
 use Rattle.nb_records.specs.declared.record.Switch.{Switch}
 use Rattle.nb_records.specs.declared.record.SwitchPort.{SwitchPort}
-use Rattle.world_core.specs.declared.keys.DatapathKey.{DatapathKey}
-use Rattle.world_core.specs.declared.keys.PortKey.{PortKey}
-use Rattle.world_core.specs.State.{State, Keys, events_of}
+use Rattle.tunnel_keys.specs.Keys.{Keys, held_datapaths, held_ports}
+use Rattle.tunnel_keys.specs.declared.owner.HeldDatapath.{HeldDatapath}
+use Rattle.tunnel_keys.specs.declared.owner.HeldPort.{HeldPort}
+use Rattle.world_core.specs.State.{State, events_of}
 use Rattle.world_core.specs.Addresses.{mac_of, HasMac, HasIp, IsOfStation}
 use Rattle.world_core.specs.New.{AreNew}
-use Rattle.world_core.specs.Sound.{IsValid, HaveKeys, AreBound, AreBorn}
+use Rattle.world_core.specs.Sound.{IsValid, AreBound, AreBorn}
 use Rattle.world_core.proofs.Found.{some_of, is_some_of}
 
 -- what is there at a name stays there, whatever is put
@@ -54,45 +55,6 @@ module _ (net : Network) (name : Name) (switch : Switch) where
     once = valid.once;
     apart = valid.apart;
     ips_apart = valid.ips_apart;
-  }
-
-  -- with a key that no other has
-  pub switch_keys : (keys : Keys) (key : DatapathKey) → HaveKeys net keys → key.birth ≡ switch.birth → 1 ≤ key.key → key.key < 2 ^ 24
-      → ((a : Name) (k : DatapathKey) → at keys.datapaths a ≡ Some k → k.key ≢ key.key)
-      → HaveKeys (record net { switches = put net.switches name switch }) (record keys { datapaths = put keys.datapaths name key })
-  switch_keys keys key have born low high free = record {
-    datapaths_sorted = put_sorted keys.datapaths name key have.datapaths_sorted;
-    ports_sorted = have.ports_sorted;
-    datapath_has = λ a s found. elim (put_cases net.switches name switch a s found) [
-      | inl new ↦ (
-        key,
-        ap (λ n. at (put keys.datapaths name key) n) new.0 ∙ put_there keys.datapaths name key,
-        born ∙ sym (ap (λ (w : Switch). w.birth) new.1),
-      )
-      | inr old ↦ let own = have.datapath_has a s old.1 in (own.0, put_other keys.datapaths name key a old.0 ∙ own.1, own.2)
-    ];
-    datapath_of = λ a k has. elim (put_cases keys.datapaths name key a k has) [
-      | inl new ↦ subst (λ n. IsSome (at (put net.switches name switch) n)) (sym new.0) (some_put net.switches name switch)
-      | inr old ↦ some_kept net.switches name switch a (have.datapath_of a k old.1)
-    ];
-    datapath_fits = λ a k has. elim (put_cases keys.datapaths name key a k has) [
-      | inl new ↦ subst (λ (w : DatapathKey). (1 ≤ w.key) × (w.key < 2 ^ 24)) (sym new.1) (low, high)
-      | inr old ↦ have.datapath_fits a k old.1
-    ];
-    datapaths_apart = λ a b j k at_a at_b same. elim (put_cases keys.datapaths name key a j at_a) [
-      | inl new ↦ elim (put_cases keys.datapaths name key b k at_b) [
-        | inl also ↦ new.0 ∙ sym also.0
-        | inr old ↦ absurd (free b k old.1 (sym same ∙ ap (λ (w : DatapathKey). w.key) new.1))
-      ]
-      | inr old ↦ elim (put_cases keys.datapaths name key b k at_b) [
-        | inl new ↦ absurd (free a j old.1 (same ∙ ap (λ (w : DatapathKey). w.key) new.1))
-        | inr also ↦ have.datapaths_apart a b j k old.1 also.1 same
-      ]
-    ];
-    port_has = have.port_has;
-    port_of = have.port_of;
-    port_fits = have.port_fits;
-    ports_apart = have.ports_apart;
   }
 
 -- ---- a port comes
@@ -156,46 +118,6 @@ module _ (net : Network) (name : Name) (port : SwitchPort) where
       | inr old ↦ elim (put_cases net.ports name port q theirs at_q) [
         | inl is ↦ absurd (new.ips_apart p ours old.1 (same ∙ ap (λ (w : SwitchPort). w.switch) is.1) ip has (subst (λ (w : SwitchPort). HasIp w.addresses ip) is.1 also))
         | inr too ↦ valid.ips_apart p q ours theirs ip old.1 too.1 same has also
-      ]
-    ];
-  }
-
-  -- with a key that no other of its switch has
-  pub port_keys : (keys : Keys) (key : PortKey) → HaveKeys net keys → key.birth ≡ port.birth → key.datapath ≡ port.switch → 1 ≤ key.key → key.key < 2 ^ 15
-      → ((q : Name) (k : PortKey) → at keys.ports q ≡ Some k → k.datapath ≡ key.datapath → k.key ≢ key.key)
-      → HaveKeys (record net { ports = put net.ports name port }) (record keys { ports = put keys.ports name key })
-  port_keys keys key have born on low high free = record {
-    datapaths_sorted = have.datapaths_sorted;
-    ports_sorted = put_sorted keys.ports name key have.ports_sorted;
-    datapath_has = have.datapath_has;
-    datapath_of = have.datapath_of;
-    datapath_fits = have.datapath_fits;
-    datapaths_apart = have.datapaths_apart;
-    port_has = λ q p found. elim (put_cases net.ports name port q p found) [
-      | inl is ↦ (
-        key,
-        ap (λ n. at (put keys.ports name key) n) is.0 ∙ put_there keys.ports name key,
-        born ∙ sym (ap (λ (w : SwitchPort). w.birth) is.1),
-        on ∙ sym (ap (λ (w : SwitchPort). w.switch) is.1),
-      )
-      | inr old ↦ let own = have.port_has q p old.1 in (own.0, put_other keys.ports name key q old.0 ∙ own.1, own.2, own.3)
-    ];
-    port_of = λ q k has. elim (put_cases keys.ports name key q k has) [
-      | inl is ↦ subst (λ n. IsSome (at (put net.ports name port) n)) (sym is.0) (some_put net.ports name port)
-      | inr old ↦ some_kept net.ports name port q (have.port_of q k old.1)
-    ];
-    port_fits = λ q k has. elim (put_cases keys.ports name key q k has) [
-      | inl is ↦ subst (λ (w : PortKey). (1 ≤ w.key) × (w.key < 2 ^ 15)) (sym is.1) (low, high)
-      | inr old ↦ have.port_fits q k old.1
-    ];
-    ports_apart = λ p q j k at_p at_q together same. elim (put_cases keys.ports name key p j at_p) [
-      | inl is ↦ elim (put_cases keys.ports name key q k at_q) [
-        | inl too ↦ is.0 ∙ sym too.0
-        | inr old ↦ absurd (free q k old.1 (sym together ∙ ap (λ (w : PortKey). w.datapath) is.1) (sym same ∙ ap (λ (w : PortKey). w.key) is.1))
-      ]
-      | inr old ↦ elim (put_cases keys.ports name key q k at_q) [
-        | inl is ↦ absurd (free p j old.1 (together ∙ ap (λ (w : PortKey). w.datapath) is.1) (same ∙ ap (λ (w : PortKey). w.key) is.1))
-        | inr too ↦ have.ports_apart p q j k old.1 too.1 together same
       ]
     ];
   }
@@ -269,30 +191,41 @@ no_zone m zones p bound free = by (at zones p) refl
 
 -- ---- births
 
+-- no owner of a key is younger than the last event
+pub record AreKeysBorn (keys : Keys) (last : ℕ) : Type 0 where
+  pub datapaths : (a : HeldDatapath) → Among a (held_datapaths keys) → a.owner.birth.0 ≤ last
+  pub ports : (a : HeldPort) → Among a (held_ports keys) → a.owner.birth.0 ≤ last
+
 module _ (m n : State) (born : AreBorn m) (later : events_of m ≤ events_of n) where
-  pub born_kept : (n.accepted ≡ 0 → m.accepted ≡ 0) → n.net ≡ m.net → AreBorn n
-  born_kept fresh net = record {
+  pub born_kept : (n.accepted ≡ 0 → m.accepted ≡ 0) → n.net ≡ m.net → n.keys ≡ m.keys → AreBorn n
+  born_kept fresh net keys = record {
     none = λ h. net ∙ born.none (fresh h);
     switches = λ a s e. let old : s.birth.0 ≤ events_of m = born.switches a s (ap (λ (w : Network). at w.switches a) (sym net) ∙ e) in omega (arith, old, later);
     ports = λ q p e. let old : p.birth.0 ≤ events_of m = born.ports q p (ap (λ (w : Network). at w.ports q) (sym net) ∙ e) in omega (arith, old, later);
+    datapath_keys = λ a held. let old : a.owner.birth.0 ≤ events_of m = born.datapath_keys a (subst (λ k. Among a (held_datapaths k)) keys held) in omega (arith, old, later);
+    port_keys = λ a held. let old : a.owner.birth.0 ≤ events_of m = born.port_keys a (subst (λ k. Among a (held_ports k)) keys held) in omega (arith, old, later);
   }
 
-  pub born_switch : n.accepted ≢ 0 → (name : Name) (switch : Switch) → n.net ≡ record m.net { switches = put m.net.switches name switch } → switch.birth.0 ≤ events_of n → AreBorn n
-  born_switch some name switch net in_time = record {
+  pub born_switch : n.accepted ≢ 0 → (name : Name) (switch : Switch) → n.net ≡ record m.net { switches = put m.net.switches name switch } → switch.birth.0 ≤ events_of n → AreKeysBorn n.keys (events_of n) → AreBorn n
+  born_switch some name switch net in_time keys = record {
     none = λ h. absurd (some h);
     switches = λ a s e. elim (put_cases m.net.switches name switch a s (ap (λ (w : Network). at w.switches a) (sym net) ∙ e)) [
       | inl is ↦ subst (λ (w : Switch). w.birth.0 ≤ events_of n) (sym is.1) in_time
       | inr rest ↦ let old : s.birth.0 ≤ events_of m = born.switches a s rest.1 in omega (arith, old, later)
     ];
     ports = λ q p e. let old : p.birth.0 ≤ events_of m = born.ports q p (ap (λ (w : Network). at w.ports q) (sym net) ∙ e) in omega (arith, old, later);
+    datapath_keys = keys.datapaths;
+    port_keys = keys.ports;
   }
 
-  pub born_port : n.accepted ≢ 0 → (name : Name) (port : SwitchPort) → n.net ≡ record m.net { ports = put m.net.ports name port } → port.birth.0 ≤ events_of n → AreBorn n
-  born_port some name port net in_time = record {
+  pub born_port : n.accepted ≢ 0 → (name : Name) (port : SwitchPort) → n.net ≡ record m.net { ports = put m.net.ports name port } → port.birth.0 ≤ events_of n → AreKeysBorn n.keys (events_of n) → AreBorn n
+  born_port some name port net in_time keys = record {
     none = λ h. absurd (some h);
     switches = λ a s e. let old : s.birth.0 ≤ events_of m = born.switches a s (ap (λ (w : Network). at w.switches a) (sym net) ∙ e) in omega (arith, old, later);
     ports = λ q p e. elim (put_cases m.net.ports name port q p (ap (λ (w : Network). at w.ports q) (sym net) ∙ e)) [
       | inl is ↦ subst (λ (w : SwitchPort). w.birth.0 ≤ events_of n) (sym is.1) in_time
       | inr rest ↦ let old : p.birth.0 ≤ events_of m = born.ports q p rest.1 in omega (arith, old, later)
     ];
+    datapath_keys = keys.datapaths;
+    port_keys = keys.ports;
   }

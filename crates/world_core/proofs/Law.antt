@@ -18,7 +18,7 @@ use Rattle.switch_engine.specs.declared.effect.Effect.TheVariants as effect
 use Rattle.switch_engine.specs.declared.effect.NetEffect.{NetEffect}
 use Rattle.switch_engine.specs.declared.effect.NetEffect.TheVariants as net
 use Rattle.nb_records.specs.declared.record.SwitchPort.{SwitchPort}
-use Rattle.world_core.specs.declared.keys.PortKey.{PortKey}
+use Rattle.tunnel_keys.specs.declared.owner.PortKey.{PortKey}
 use Rattle.world_core.specs.Naming.{IsNamed}
 use Rattle.world_core.specs.Shown.{shown}
 use Rattle.world_core.specs.State.{State}
@@ -36,7 +36,7 @@ module _ (m : State) (zones : List (Name × ℕ)) (flows : List Flow) (c : Name)
   b = basis_at m zones c
 
   abbrev in_names : List Effect → List NetEffect
-  in_names ends = map (λ e. shown m.keys e) ends
+  in_names ends = map (λ e. shown m.net m.keys e) ends
 
   -- the effects have the names that are shown
   abbrev HaveNames : List Effect → Type 0
@@ -47,7 +47,7 @@ module _ (m : State) (zones : List (Name × ℕ)) (flows : List Flow) (c : Name)
   drop_is q port dp key cause of = (IsNamed.drop (datapath_has m zones flows c valid keys exact port.switch dp of.on) (port_has m zones flows c valid keys exact q port dp key of), tt)
 
   drop_named : (q : Name) (port : SwitchPort) (dp key : ℕ) (cause : Cause) → IsPort b q port dp key → in_names (effect.Drop dp key cause ∷ []) ≡ net.Drop port.switch q cause ∷ []
-  drop_named q port dp key cause of = sym (shown_only m.net m.keys keys (effect.Drop dp key cause ∷ []) (net.Drop port.switch q cause ∷ []) (drop_is q port dp key cause of))
+  drop_named q port dp key cause of = sym (shown_only m.net m.keys valid keys (effect.Drop dp key cause ∷ []) (net.Drop port.switch q cause ∷ []) (drop_is q port dp key cause of))
 
   drop_has : (q : Name) (port : SwitchPort) (dp key : ℕ) (cause : Cause) → IsPort b q port dp key → HaveNames (effect.Drop dp key cause ∷ [])
   drop_has q port dp key cause of =
@@ -128,7 +128,7 @@ pub law : WalkLaw
 law m zones flows c valid keys bound exact p home packet is_mac path ends walk =
     let w = walk_0 m zones flows c valid keys bound exact (bound.chassis_there p c home) p home packet is_mac _ refl refl path ends walk in
     record {
-      names = map (λ e. shown m.keys e) ends;
+      names = map (λ e. shown m.net m.keys e) ends;
       named = have_names m zones flows c valid keys exact p w.0 w.1 w.2 w.3 packet ends w.4;
-      visit = λ effects named. subst (λ es. Visit m p packet es) (sym (shown_only m.net m.keys keys ends effects named)) (visit m zones flows c valid keys exact p w.0 w.1 w.2 w.3 packet ends w.4);
+      visit = λ effects named. subst (λ es. Visit m p packet es) (sym (shown_only m.net m.keys valid keys ends effects named)) (visit m zones flows c valid keys exact p w.0 w.1 w.2 w.3 packet ends w.4);
     }

@@ -1,16 +1,19 @@
 -- Lemmas.
 pub mod Found
+pub mod KeyLaws
 pub mod OnceLaws
 pub mod Once
 pub mod Compiled
 pub mod Kept
+pub mod Owning
+pub mod Given
+pub mod Planning
 pub mod Counts
 pub mod Recompiling
 pub mod ByTable
 pub mod RowFits
 pub mod ProperTables
 pub mod Coming
-pub mod FreeKeys
 pub mod Unheld
 pub mod Adding
 pub mod WalkSteps
@@ -19,7 +22,6 @@ pub mod Names
 pub mod Law
 pub mod Finishing
 pub mod Refusals
-pub mod AddingPorts
 pub mod Binding
 pub mod OneStep
 pub mod OneWalk

@@ -1,12 +1,16 @@
 -- Names stay names: in the records, in effects and in refusals.
-use Rattle.std.specs.Prelude.{◌≡◌, ◌+◌, ℕ, Bool, true, false, List, [], ◌∷◌, Some, None, Option, is_some, cond}
+use Rattle.std.specs.Prelude.{◌≡◌, ◌≤◌, ◌<◌, ◌+◌, ◌^◌, ◌++◌, ℕ, Bool, true, false, List, [], ◌∷◌, Some, None, Option, is_some, cond, map, flat_map, unwrap_or}
 use Rattle.std.specs.List.{AllByRecursion}
-use Rattle.std.proofs.Common.{sym, subst, arith, inl, inr}
+use Rattle.std.specs.Option.{option_map}
+use Rattle.std.proofs.Common.{sym, ap, subst, arith, inl, inr}
 use Rattle.ovn_base.specs.NameText.{IsName}
 use Rattle.ovn_base.specs.declared.name.Name.{Name}
 use Rattle.inet_packet.specs.declared.packet.Packet as inet
 use Rattle.flow_table.specs.declared.flow.Cause.TheVariants.{Loopback, Unbound}
-use Rattle.ovn_base.specs.ByName.{at}
+use Rattle.ovn_base.specs.Among.{Among}
+use Rattle.ovn_base.specs.ByName.{at, in_order}
+use Rattle.ovn_base.specs.declared.address.Birth.{Birth}
+use Rattle.ovn_base.proofs.AmongLaws.{all_among, among_all, among_append, flat_map_among, map_among}
 use Rattle.ovn_base.specs.SameName.{same_name}
 use Rattle.nb_records.specs.Network.{Network, with_record}
 use Rattle.nb_records.specs.declared.record.Op.{Op}
@@ -22,9 +26,19 @@ use Rattle.event_lines.specs.declared.refusal.Refusal.TheVariants as why
 use Rattle.event_lines.specs.Picks.{IsNamedEffect, AreNamed, IsNamedRefusal}
 use Rattle.switch_engine.specs.declared.effect.NetEffect.{NetEffect}
 use Rattle.switch_engine.specs.declared.effect.NetEffect.TheVariants as effect
-use Rattle.world_core.specs.Editing.{GivesKeys, IsLegalPick, Owner, datapath_owner, port_owner, owner_of, owners_of, with_key, key_effect, accepted, born}
+use Rattle.tunnel_keys.specs.Edits.{GivesKeysAfter}
+use Rattle.tunnel_keys.specs.Keys.{Keys, retire}
+use Rattle.tunnel_keys.specs.Owners.{datapaths_in, ports_in}
+use Rattle.tunnel_keys.specs.declared.owner.DatapathKey.{DatapathKey}
+use Rattle.tunnel_keys.specs.declared.owner.KeyOwner.{KeyOwner}
+use Rattle.tunnel_keys.specs.declared.owner.KeyOwner.TheVariants.{Datapath, Port}
+use Rattle.tunnel_keys.specs.declared.owner.PortKey.{PortKey}
+use Rattle.tunnel_keys.proofs.Lists.{in_order_among}
+use Rattle.tunnel_keys.proofs.OwnerLaws.{in_datapaths, in_ports}
+use Rattle.world_core.specs.Editing.{owner_of, owners_of, datapath_effect, port_effect, ports_in_order, key_effects, accepted, born}
+use Rattle.world_core.specs.Numbers.{datapath_number, port_number}
 use Rattle.world_core.specs.Refusing.{refusal, refusal_of_record, is_chassis}
-use Rattle.world_core.specs.State.{State, Keys, events_of}
+use Rattle.world_core.specs.State.{State, empty, events_of}
 use Rattle.world_core.specs.Step.{Step}
 use Rattle.world_core.specs.Unbuilt.{is_unbuilt_port}
 use Rattle.world_core.specs.Visit.{HasTarget, Target, Visit, ends_at, to_none, to_port, known, unknown}
@@ -48,11 +62,16 @@ IsNamedEvent NotBuilt = Unit {0}
 pub record ArePortsNamed (net : Network) : Type 0 where
   pub of : (q : Name) (port : SwitchPort) → at net.ports q ≡ Some port → IsName q × IsName port.switch
 
+-- the ranges of the keys are numbers of 64 bits
+pub record AreRanged (keys : Keys) : Type 0 where
+  pub datapaths : keys.datapath_range < 2 ^ 64
+  pub ports : keys.port_range < 2 ^ 64
+
 -- ---- edits
 
-abbrev IsNamedOwner : Owner → Type 0
-IsNamedOwner (datapath_owner name birth) = IsName name
-IsNamedOwner (port_owner of name birth) = IsName name
+abbrev IsNamedOwner : KeyOwner → Type 0
+IsNamedOwner (Datapath name birth) = IsName name
+IsNamedOwner (Port datapath name birth) = IsName name
 
 owner_named : (row : Record) (n : ℕ) → IsNamedRecord row → IsNamedOwner (owner_of row n)
 owner_named (record_of.Switch switch) n named = named
@@ -62,14 +81,37 @@ owners_named : (ops : List Op) (n : ℕ) → AllByRecursion IsNamedOp ops → Al
 owners_named [] n named = tt
 owners_named (Add row ∷ ops) n named = (owner_named row n named.0, owners_named ops n named.1)
 
-key_named : (owner : Owner) (keys : Keys) (key : ℕ) → IsNamedOwner owner → IsLegalPick keys owner key → IsNamedEffect (key_effect owner key)
-key_named (datapath_owner name birth) keys key named legal = let high = legal.high in (named, omega (arith, high))
-key_named (port_owner of name birth) keys key named legal = let high = legal.high in (named, omega (arith, high))
+module _ (between after : Keys) (owners : List KeyOwner) (ranged : AreRanged between) (named : AllByRecursion IsNamedOwner owners) (gives : GivesKeysAfter between owners after) where
+  datapath_line : (o : Name × Birth) → Among o (in_order (datapaths_in owners)) → IsNamedEffect (datapath_effect after o)
+  datapath_line o among =
+      let owner : Among (Datapath o.0 o.1) owners = in_datapaths owners o.0 o.1 (in_order_among (datapaths_in owners) o.0 o.1 among) in
+      let given = gives.datapath_given o.0 o.1 owner in
+      let number : unwrap_or (datapath_number after o.0) 0 ≡ given.0 = ap (λ (k : Option DatapathKey). unwrap_or (option_map (λ d. d.key) k) 0) given.1 in
+      let high : given.0 ≤ between.datapath_range = given.2.high in
+      let range : between.datapath_range < 2 ^ 64 = ranged.datapaths in
+      (among_all IsNamedOwner (Datapath o.0 o.1) owners named owner, omega (arith, number, high, range))
 
-keys_named : (owners : List Owner) (keys after : Keys) (effects : List NetEffect) → AllByRecursion IsNamedOwner owners → GivesKeys owners keys effects after → AreNamed effects
-keys_named [] keys after effects named h = subst AreNamed (sym h.0) tt
-keys_named (owner ∷ owners) keys after effects named h =
-    subst AreNamed (sym h.3) (key_named owner keys h.0 named.0 h.2, keys_named owners (with_key keys owner h.0) after h.1 named.1 h.4)
+  port_line : (o : Name × Birth) → Among o (ports_in_order owners after) → IsNamedEffect (port_effect after o)
+  port_line o among =
+      let d = flat_map_among (λ (d : Name × DatapathKey). in_order (ports_in d.0 owners)) o after.datapaths among in
+      let owner : Among (Port d.0.0 o.0 o.1) owners = in_ports owners d.0.0 o.0 o.1 (in_order_among (ports_in d.0.0 owners) o.0 o.1 d.2) in
+      let given = gives.port_given d.0.0 o.0 o.1 owner in
+      let number : unwrap_or (port_number after o.0) 0 ≡ given.0 = ap (λ (k : Option PortKey). unwrap_or (option_map (λ p. p.key) k) 0) given.2 in
+      let high : given.0 ≤ between.port_range = given.4.high in
+      let range : between.port_range < 2 ^ 64 = ranged.ports in
+      (among_all IsNamedOwner (Port d.0.0 o.0 o.1) owners named owner, omega (arith, number, high, range))
+
+  keys_named : AreNamed (key_effects owners after)
+  keys_named = all_among IsNamedEffect (key_effects owners after) (λ effect among. elim (among_append effect (map (datapath_effect after) (in_order (datapaths_in owners))) (map (port_effect after) (ports_in_order owners after)) among) [
+    | inl a ↦ let r = map_among (datapath_effect after) effect (in_order (datapaths_in owners)) a in subst IsNamedEffect (sym r.2) (datapath_line r.0 r.1)
+    | inr b ↦ let r = map_among (port_effect after) effect (ports_in_order owners after) b in subst IsNamedEffect (sym r.2) (port_line r.0 r.1)
+  ])
+
+  still_ranged : AreRanged after
+  still_ranged = record {
+    datapaths = subst (λ n. n < 2 ^ 64) (sym gives.datapath_range) ranged.datapaths;
+    ports = subst (λ n. n < 2 ^ 64) (sym gives.port_range) ranged.ports;
+  }
 
 with_named : (net : Network) (row : Record) (n : ℕ) → ArePortsNamed net → IsNamedRecord row → ArePortsNamed (with_record net (born n row))
 with_named net (record_of.Switch switch) n named fine = record { of = named.of }
@@ -113,15 +155,29 @@ visit_named m p packet effects named v =
 
 -- ---- steps
 
+-- what stays so of a state: names are names, and the ranges of keys numbers of 64 bits
+pub record IsNamedState (m : State) : Type 0 where
+  pub ports : ArePortsNamed m.net
+  pub keys : AreRanged m.keys
+
 -- the effects of a step are in names, and its records too
-pub step_named : (m : State) (event : Event) (effects : List NetEffect) (after : State) → ArePortsNamed m.net → IsNamedEvent event → Step m event effects after → AreNamed effects × ArePortsNamed after.net
-step_named m (Edit ops) effects after named fine h = (
-  keys_named (owners_of ops (events_of m + 1)) m.keys h.keys effects (owners_named ops (events_of m + 1) fine) h.given,
-  subst (λ (s : State). ArePortsNamed s.net) (sym h.state) (accepted_named m.net ops (events_of m + 1) named fine),
+pub step_named : (m : State) (event : Event) (effects : List NetEffect) (after : State) → IsNamedState m → IsNamedEvent event → Step m event effects after → AreNamed effects × IsNamedState after
+step_named m (Edit ops) effects after named fine h =
+    let owners = owners_of ops (events_of m + 1) in
+    let between : AreRanged (retire m.keys []) = record { datapaths = named.keys.datapaths; ports = named.keys.ports } in
+    (
+      subst AreNamed (sym h.effects_are) (keys_named (retire m.keys []) h.keys owners between (owners_named ops (events_of m + 1) fine) h.given),
+      subst (λ (s : State). IsNamedState s) (sym h.state) (record {
+        ports = accepted_named m.net ops (events_of m + 1) named.ports fine;
+        keys = still_ranged (retire m.keys []) h.keys owners between (owners_named ops (events_of m + 1) fine) h.given;
+      }),
+    )
+step_named m (Bind p chassis) effects after named fine h = (subst AreNamed (sym h.0) tt, subst (λ (s : State). IsNamedState s) (sym h.1) (record { ports = named.ports; keys = named.keys }))
+step_named m (AddChassis chassis) effects after named fine h = (subst AreNamed (sym h.0) tt, subst (λ (s : State). IsNamedState s) (sym h.1) (record { ports = named.ports; keys = named.keys }))
+step_named m (Packet p frame) effects after named fine h = (
+  visit_named m p h.packet effects named.ports h.visit,
+  subst (λ (s : State). IsNamedState s) (sym h.state) (record { ports = named.ports; keys = named.keys }),
 )
-step_named m (Bind p chassis) effects after named fine h = (subst AreNamed (sym h.0) tt, subst (λ (s : State). ArePortsNamed s.net) (sym h.1) named)
-step_named m (AddChassis chassis) effects after named fine h = (subst AreNamed (sym h.0) tt, subst (λ (s : State). ArePortsNamed s.net) (sym h.1) named)
-step_named m (Packet p frame) effects after named fine h = (visit_named m p h.packet effects named h.visit, subst (λ (s : State). ArePortsNamed s.net) (sym h.state) named)
 step_named m (Unread fault) effects after named fine h = absurd h
 step_named m NotBuilt effects after named fine h = absurd h
 
@@ -160,5 +216,5 @@ pub refusal_named : (m : State) (event : Event) (cause : Refusal) → IsNamedEve
 refusal_named m event cause named e = subst IsNamedCause e (cause_named m event named)
 
 -- no record has no name that is none
-pub none_named : ArePortsNamed (record { switches = []; ports = [] })
-none_named = record { of = λ q port found. cc }
+pub none_named : IsNamedState empty
+none_named = record { ports = record { of = λ q port found. cc }; keys = record { datapaths = omega arith; ports = omega arith } }

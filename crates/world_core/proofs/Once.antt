@@ -19,13 +19,15 @@ use Rattle.flow_table.specs.declared.flow.FlowOp.TheVariants.{Set, Go, Drop, Out
 use Rattle.ovn_base.proofs.Puts.{among_at}
 use Rattle.nb_records.specs.declared.record.PortAddress.{PortAddress}
 use Rattle.nb_records.specs.declared.record.SwitchPort.{SwitchPort}
-use Rattle.world_core.specs.declared.keys.DatapathKey.{DatapathKey}
-use Rattle.world_core.specs.declared.keys.PortKey.{PortKey}
+use Rattle.tunnel_keys.specs.declared.owner.DatapathKey.{DatapathKey}
+use Rattle.tunnel_keys.specs.declared.owner.PortKey.{PortKey}
 use Rattle.world_core.specs.Addresses.{mac_of}
+use Rattle.world_core.specs.Numbers.{datapath_number, port_number}
 use Rattle.world_core.specs.Rows.{pass_row, address_row, stay_row, return_row, leave_row, output_row}
 use Rattle.world_core.specs.Sound.{IsValid, HaveKeys}
 use Rattle.world_core.specs.Stages.{Basis}
 use Rattle.world_core.specs.Tables.{switch_rows, address_rows, port_rows, local_rows, switch_part, local_part, port_part, zone_here, table_flows}
+use Rattle.world_core.proofs.KeyLaws.{of_number, datapaths_apart, ports_apart}
 use Rattle.world_core.proofs.OnceLaws.{once_by, once_image, once_parts, once_rising, once_keys, AreRising}
 
 -- ---- what a row tells
@@ -128,26 +130,26 @@ module _ (dp key : ℕ) where
 -- ---- the parts of the list
 
 -- where a row of a switch stands, the switch has a key, and the row is of it
-switch_part_row : (datapath : Option DatapathKey) (f : Flow) → Among f (switch_part datapath) → (live : DatapathKey) × (datapath ≡ Some live) × IsSwitchRow live.key f
+switch_part_row : (datapath : Option ℕ) (f : Flow) → Among f (switch_part datapath) → (dp : ℕ) × (datapath ≡ Some dp) × IsSwitchRow dp f
 switch_part_row None f m = absurd (among_none f m)
-switch_part_row (Some live) f m = (live, refl, switch_row live.key f m)
+switch_part_row (Some dp) f m = (dp, refl, switch_row dp f m)
 
-once_switch_part : (datapath : Option DatapathKey) → EachOnce (switch_part datapath)
+once_switch_part : (datapath : Option ℕ) → EachOnce (switch_part datapath)
 once_switch_part None = tt
-once_switch_part (Some live) = once_switch live.key
+once_switch_part (Some dp) = once_switch dp
 
 -- and likewise for a port
-port_part_row : (datapath : Option DatapathKey) (of : Option PortKey) (zone : Option ℕ) (q : Name) (port : SwitchPort) (f : Flow) → Among f (port_part datapath of zone q port)
-    → (d : DatapathKey) × (live : PortKey) × (datapath ≡ Some d) × (of ≡ Some live) × IsPortRow d.key live.key f
+port_part_row : (datapath of : Option ℕ) (zone : Option ℕ) (q : Name) (port : SwitchPort) (f : Flow) → Among f (port_part datapath of zone q port)
+    → (dp : ℕ) × (key : ℕ) × (datapath ≡ Some dp) × (of ≡ Some key) × IsPortRow dp key f
 port_part_row None of number q port f m = absurd (among_none f m)
 port_part_row (Some d) None number q port f m = absurd (among_none f m)
-port_part_row (Some d) (Some live) number q port f m = (d, live, refl, refl, port_row d.key live.key number q port f m)
+port_part_row (Some dp) (Some key) number q port f m = (dp, key, refl, refl, port_row dp key number q port f m)
 
-once_port_part : (datapath : Option DatapathKey) (of : Option PortKey) (zone : Option ℕ) (q : Name) (port : SwitchPort) → ((entry : PortAddress) → Among entry port.addresses → IsMac (mac_of entry))
+once_port_part : (datapath of : Option ℕ) (zone : Option ℕ) (q : Name) (port : SwitchPort) → ((entry : PortAddress) → Among entry port.addresses → IsMac (mac_of entry))
     → EachOnce (map (λ entry. mac_of entry) port.addresses) → EachOnce (port_part datapath of zone q port)
 once_port_part None of number q port macs once = tt
 once_port_part (Some d) None number q port macs once = tt
-once_port_part (Some d) (Some live) number q port macs once = once_port d.key live.key number q port macs once
+once_port_part (Some dp) (Some key) number q port macs once = once_port dp key number q port macs once
 
 module _ (b : Basis) (valid : IsValid b.net) (keys : HaveKeys b.net b.keys) where
   -- the key of a port that is there is of the port's switch
@@ -156,50 +158,59 @@ module _ (b : Basis) (valid : IsValid b.net) (keys : HaveKeys b.net b.keys) wher
       let own = keys.port_has q port found in
       ap (λ k. k.datapath) (same_Some live own.0 (sym has ∙ own.1)) ∙ own.3
 
-  once_switches : EachOnce (flat_map (λ e. switch_part (at b.keys.datapaths e.0)) b.net.switches)
-  once_switches =
-      once_parts (λ e. switch_part (at b.keys.datapaths e.0)) (λ e. e.0) b.net.switches (once_keys b.net.switches valid.switches_sorted)
-      (λ e m. once_switch_part (at b.keys.datapaths e.0))
-      (λ d e f m n p q.
-      let r = switch_part_row (at b.keys.datapaths d.0) f p in
-      let s = switch_part_row (at b.keys.datapaths e.0) f q in
-      keys.datapaths_apart d.0 e.0 r.0 s.0 r.1 s.1 (sym r.2.on ∙ s.2.on))
+  -- a number is that of one datapath
+  one_switch : (a c : Name) (m n : ℕ) → datapath_number b.keys a ≡ Some m → datapath_number b.keys c ≡ Some n → m ≡ n → a ≡ c
+  one_switch a c m n e f same =
+      let j = of_number (λ (k : DatapathKey). k.key) (at b.keys.datapaths a) m e in
+      let k = of_number (λ (k : DatapathKey). k.key) (at b.keys.datapaths c) n f in
+      datapaths_apart b.net b.keys keys a c j.0 k.0 j.1 k.1 (j.2 ∙ same ∙ sym k.2)
 
-  once_ports : EachOnce (flat_map (λ e. port_part (at b.keys.datapaths e.1.switch) (at b.keys.ports e.0) (zone_here b e.0) e.0 e.1) b.net.ports)
+  once_switches : EachOnce (flat_map (λ e. switch_part (datapath_number b.keys e.0)) b.net.switches)
+  once_switches =
+      once_parts (λ e. switch_part (datapath_number b.keys e.0)) (λ e. e.0) b.net.switches (once_keys b.net.switches valid.switches_sorted)
+      (λ e m. once_switch_part (datapath_number b.keys e.0))
+      (λ d e f m n p q.
+      let r = switch_part_row (datapath_number b.keys d.0) f p in
+      let s = switch_part_row (datapath_number b.keys e.0) f q in
+      one_switch d.0 e.0 r.0 s.0 r.1 s.1 (sym r.2.on ∙ s.2.on))
+
+  once_ports : EachOnce (flat_map (λ e. port_part (datapath_number b.keys e.1.switch) (port_number b.keys e.0) (zone_here b e.0) e.0 e.1) b.net.ports)
   once_ports =
-      once_parts (λ e. port_part (at b.keys.datapaths e.1.switch) (at b.keys.ports e.0) (zone_here b e.0) e.0 e.1) (λ e. e.0) b.net.ports (once_keys b.net.ports valid.ports_sorted)
+      once_parts (λ e. port_part (datapath_number b.keys e.1.switch) (port_number b.keys e.0) (zone_here b e.0) e.0 e.1) (λ e. e.0) b.net.ports (once_keys b.net.ports valid.ports_sorted)
       (λ e m.
       let found : at b.net.ports e.0 ≡ Some e.1 = among_at e.0 e.1 b.net.ports valid.ports_sorted m in
-      once_port_part (at b.keys.datapaths e.1.switch) (at b.keys.ports e.0) (zone_here b e.0) e.0 e.1 (λ entry. valid.macs e.0 e.1 entry found) (valid.once e.0 e.1 found))
+      once_port_part (datapath_number b.keys e.1.switch) (port_number b.keys e.0) (zone_here b e.0) e.0 e.1 (λ entry. valid.macs e.0 e.1 entry found) (valid.once e.0 e.1 found))
       (λ d e f m n p q.
-      let r = port_part_row (at b.keys.datapaths d.1.switch) (at b.keys.ports d.0) (zone_here b d.0) d.0 d.1 f p in
-      let s = port_part_row (at b.keys.datapaths e.1.switch) (at b.keys.ports e.0) (zone_here b e.0) e.0 e.1 f q in
-      let switches : d.1.switch ≡ e.1.switch = keys.datapaths_apart d.1.switch e.1.switch r.0 s.0 r.2 s.2 (sym r.4.on ∙ s.4.on) in
-      let mine : r.1.datapath ≡ d.1.switch = key_on d.0 d.1 r.1 (among_at d.0 d.1 b.net.ports valid.ports_sorted m) r.3 in
-      let theirs : s.1.datapath ≡ e.1.switch = key_on e.0 e.1 s.1 (among_at e.0 e.1 b.net.ports valid.ports_sorted n) s.3 in
-      keys.ports_apart d.0 e.0 r.1 s.1 r.3 s.3 (mine ∙ switches ∙ sym theirs) (sym r.4.of ∙ s.4.of))
+      let r = port_part_row (datapath_number b.keys d.1.switch) (port_number b.keys d.0) (zone_here b d.0) d.0 d.1 f p in
+      let s = port_part_row (datapath_number b.keys e.1.switch) (port_number b.keys e.0) (zone_here b e.0) e.0 e.1 f q in
+      let switches : d.1.switch ≡ e.1.switch = one_switch d.1.switch e.1.switch r.0 s.0 r.2 s.2 (sym r.4.on ∙ s.4.on) in
+      let j = of_number (λ (k : PortKey). k.key) (at b.keys.ports d.0) r.1 r.3 in
+      let k = of_number (λ (k : PortKey). k.key) (at b.keys.ports e.0) s.1 s.3 in
+      let mine : j.0.datapath ≡ d.1.switch = key_on d.0 d.1 j.0 (among_at d.0 d.1 b.net.ports valid.ports_sorted m) j.1 in
+      let theirs : k.0.datapath ≡ e.1.switch = key_on e.0 e.1 k.0 (among_at e.0 e.1 b.net.ports valid.ports_sorted n) k.1 in
+      ports_apart b.net b.keys keys d.0 e.0 j.0 k.0 j.1 k.1 (mine ∙ switches ∙ sym theirs) (j.2 ∙ sym r.4.of ∙ s.4.of ∙ sym k.2))
 
   -- a row of a switch isn't one of a port
-  apart : (f : Flow) → Among f (flat_map (λ e. switch_part (at b.keys.datapaths e.0)) b.net.switches)
-      → ¬ Among f (flat_map (λ e. port_part (at b.keys.datapaths e.1.switch) (at b.keys.ports e.0) (zone_here b e.0) e.0 e.1) b.net.ports)
+  apart : (f : Flow) → Among f (flat_map (λ e. switch_part (datapath_number b.keys e.0)) b.net.switches)
+      → ¬ Among f (flat_map (λ e. port_part (datapath_number b.keys e.1.switch) (port_number b.keys e.0) (zone_here b e.0) e.0 e.1) b.net.ports)
   apart f m n =
-      let d = flat_map_among (λ e. switch_part (at b.keys.datapaths e.0)) f b.net.switches m in
-      let e = flat_map_among (λ e. port_part (at b.keys.datapaths e.1.switch) (at b.keys.ports e.0) (zone_here b e.0) e.0 e.1) f b.net.ports n in
-      let last : f.priority ≡ 0 = (switch_part_row (at b.keys.datapaths d.0.0) f d.2).2.last in
-      let before : 50 ≤ f.priority = (port_part_row (at b.keys.datapaths e.0.1.switch) (at b.keys.ports e.0.0) (zone_here b e.0.0) e.0.0 e.0.1 f e.2).4.before in
+      let d = flat_map_among (λ e. switch_part (datapath_number b.keys e.0)) f b.net.switches m in
+      let e = flat_map_among (λ e. port_part (datapath_number b.keys e.1.switch) (port_number b.keys e.0) (zone_here b e.0) e.0 e.1) f b.net.ports n in
+      let last : f.priority ≡ 0 = (switch_part_row (datapath_number b.keys d.0.0) f d.2).2.last in
+      let before : 50 ≤ f.priority = (port_part_row (datapath_number b.keys e.0.1.switch) (port_number b.keys e.0.0) (zone_here b e.0.0) e.0.0 e.0.1 f e.2).4.before in
       omega arith
 
   -- a row of one of the units matches the datapath, or stands before the last
   unit_row : (f : Flow) → Among f (
-      flat_map (λ e. switch_part (at b.keys.datapaths e.0)) b.net.switches
-      ++ flat_map (λ e. port_part (at b.keys.datapaths e.1.switch) (at b.keys.ports e.0) (zone_here b e.0) e.0 e.1) b.net.ports) → (f.cube.dp.mask ≡ 2 ^ 24 - 1) ⊎ (50 ≤ f.priority)
-  unit_row f m = elim (among_append f (flat_map (λ e. switch_part (at b.keys.datapaths e.0)) b.net.switches) _ m) [
+      flat_map (λ e. switch_part (datapath_number b.keys e.0)) b.net.switches
+      ++ flat_map (λ e. port_part (datapath_number b.keys e.1.switch) (port_number b.keys e.0) (zone_here b e.0) e.0 e.1) b.net.ports) → (f.cube.dp.mask ≡ 2 ^ 24 - 1) ⊎ (50 ≤ f.priority)
+  unit_row f m = elim (among_append f (flat_map (λ e. switch_part (datapath_number b.keys e.0)) b.net.switches) _ m) [
     | inl a ↦
-        let d = flat_map_among (λ e. switch_part (at b.keys.datapaths e.0)) f b.net.switches a in
-        inl (switch_part_row (at b.keys.datapaths d.0.0) f d.2).2.masked
+        let d = flat_map_among (λ e. switch_part (datapath_number b.keys e.0)) f b.net.switches a in
+        inl (switch_part_row (datapath_number b.keys d.0.0) f d.2).2.masked
     | inr n ↦
-        let e = flat_map_among (λ e. port_part (at b.keys.datapaths e.1.switch) (at b.keys.ports e.0) (zone_here b e.0) e.0 e.1) f b.net.ports n in
-        inr (port_part_row (at b.keys.datapaths e.0.1.switch) (at b.keys.ports e.0.0) (zone_here b e.0.0) e.0.0 e.0.1 f e.2).4.before
+        let e = flat_map_among (λ e. port_part (datapath_number b.keys e.1.switch) (port_number b.keys e.0) (zone_here b e.0) e.0 e.1) f b.net.ports n in
+        inr (port_part_row (datapath_number b.keys e.0.1.switch) (port_number b.keys e.0.0) (zone_here b e.0.0) e.0.0 e.0.1 f e.2).4.before
   ]
 
   -- each flow of the list stands once
@@ -211,7 +222,7 @@ module _ (b : Basis) (valid : IsValid b.net) (keys : HaveKeys b.net b.keys) wher
     ],
     (
       λ m. elim (unit_row leave_row m) [ inl e ↦ omega (arith, e) | inr l ↦ omega (arith, l) ],
-      once_append (flat_map (λ e. switch_part (at b.keys.datapaths e.0)) b.net.switches) _ once_switches once_ports apart,
+      once_append (flat_map (λ e. switch_part (datapath_number b.keys e.0)) b.net.switches) _ once_switches once_ports apart,
     ),
   )
 

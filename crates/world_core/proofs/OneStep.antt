@@ -1,14 +1,19 @@
 -- An event and its picks determine its effects and the state after it, and so events and picks determine a run.
-use Rattle.std.specs.Prelude.{◌≡◌, ◌+◌, ◌++◌, ◌||◌, ℕ, Bool, true, false, List, [], ◌∷◌, Some, None, Option, is_some, cond, nat_le, length, refl}
+use Rattle.std.specs.Prelude.{◌≡◌, ◌+◌, ◌++◌, ◌||◌, ℕ, Bool, true, false, List, [], ◌∷◌, Some, None, Option, is_some, cond, flat_map, map, nat_le, length, unwrap_or, refl}
 use Rattle.std.specs.List.{AllByRecursion}
-use Rattle.std.proofs.Common.{sym, ap, ◌∙◌, subst}
+use Rattle.std.specs.Option.{option_map}
+use Rattle.std.proofs.Common.{sym, ap, ◌∙◌, subst, inl, inr}
 use Rattle.std.proofs.lemmas.Option.{none-some, same_Some}
 use Rattle.ovn_base.specs.declared.address.Mac.{Mac}
 use Rattle.ovn_base.specs.declared.name.Name.{Name}
 use Rattle.inet_packet.specs.declared.packet.Packet as inet
 use Rattle.inet_packet.proofs.OnePacket.{one_packet_at_most}
 use Rattle.flow_table.specs.declared.flow.Cause.TheVariants.{Loopback, Unbound}
-use Rattle.ovn_base.specs.ByName.{at}
+use Rattle.ovn_base.specs.Among.{Among}
+use Rattle.ovn_base.specs.ByName.{at, put, put_all, in_order, IsByName}
+use Rattle.ovn_base.specs.declared.address.Birth.{Birth}
+use Rattle.ovn_base.proofs.AmongLaws.{among_cases, among_flat_map, among_none}
+use Rattle.ovn_base.proofs.Puts.{at_among, one_or_two, put_other, put_there}
 use Rattle.ovn_base.specs.SameName.{same_name}
 use Rattle.nb_records.specs.Network.{Network}
 use Rattle.nb_records.specs.declared.record.Op.TheVariants.{Add}
@@ -23,12 +28,21 @@ use Rattle.event_lines.specs.declared.refusal.Refusal.TheVariants as why
 use Rattle.event_lines.specs.Picks.{Pick, datapath_key, port_key, picks_of}
 use Rattle.switch_engine.specs.declared.effect.NetEffect.{NetEffect}
 use Rattle.switch_engine.specs.declared.effect.NetEffect.TheVariants as effect
+use Rattle.tunnel_keys.specs.Edits.{GivesKeysAfter}
+use Rattle.tunnel_keys.specs.Keys.{Keys, retire}
+use Rattle.tunnel_keys.specs.Owners.{datapaths_in, ports_in}
+use Rattle.tunnel_keys.specs.declared.owner.DatapathKey.{DatapathKey}
+use Rattle.tunnel_keys.specs.declared.owner.KeyOwner.{KeyOwner}
+use Rattle.tunnel_keys.specs.declared.owner.PortKey.{PortKey}
+use Rattle.tunnel_keys.proofs.Determined.{same_found}
+use Rattle.tunnel_keys.proofs.OwnerLaws.{datapaths_have, ports_have}
 use Rattle.world_core.specs.Admitted.{IsAdmitted, IsAdmittedRecord}
-use Rattle.world_core.specs.Editing.{GivesKeys, Owner, datapath_owner, port_owner, owners_of, with_key, key_effect, accepted, counted}
+use Rattle.world_core.specs.Editing.{owners_of, datapath_effect, port_effect, ports_in_order, key_effects, accepted, counted}
+use Rattle.world_core.specs.Numbers.{datapath_number, port_number}
 use Rattle.world_core.specs.Picks.{Fate, was_refused, was_accepted, Happens, Run}
 use Rattle.world_core.specs.Refusing.{refusal, refusal_of_record}
 use Rattle.world_core.specs.Sound.{IsValid}
-use Rattle.world_core.specs.State.{State, Keys, events_of}
+use Rattle.world_core.specs.State.{State, events_of}
 use Rattle.world_core.specs.Step.{Step}
 use Rattle.world_core.specs.Unbuilt.{is_unbuilt_port}
 use Rattle.world_core.specs.Visit.{HasTarget, Target, Visit, ends_at, to_none, to_port, known, unknown}
@@ -43,21 +57,9 @@ pub record Same (effects others : List NetEffect) (after later : State) (left mo
 
 -- ---- keys
 
-abbrev pick_for : Owner → ℕ → Pick
-pick_for (datapath_owner name birth) key = datapath_key name key
-pick_for (port_owner of name birth) key = port_key name key
-
-picks_given : (owner : Owner) (key : ℕ) (effects : List NetEffect) (left : List Pick) → picks_of (key_effect owner key ∷ effects) ++ left ≡ pick_for owner key ∷ (picks_of effects ++ left)
-picks_given (datapath_owner name birth) key effects left = refl
-picks_given (port_owner of name birth) key effects left = refl
-
 abbrev key_in : Pick → ℕ
 key_in (datapath_key name key) = key
 key_in (port_key name key) = key
-
-key_picked : (owner : Owner) (key : ℕ) → key_in (pick_for owner key) ≡ key
-key_picked (datapath_owner name birth) key = refl
-key_picked (port_owner of name birth) key = refl
 
 abbrev head_or : Pick → List Pick → Pick
 head_or d [] = d
@@ -67,20 +69,115 @@ abbrev rest_of : List Pick → List Pick
 rest_of [] = []
 rest_of (p ∷ ps) = ps
 
--- the same picks give the same keys
-same_keys : (owners : List Owner) (keys : Keys) (effects others : List NetEffect) (after later : Keys) (left more : List Pick) → GivesKeys owners keys effects after → GivesKeys owners keys others later
-    → picks_of effects ++ left ≡ picks_of others ++ more → (effects ≡ others) × (after ≡ later) × (left ≡ more)
-same_keys [] keys effects others after later left more h k e = (
-  h.0 ∙ sym k.0,
-  h.1 ∙ sym k.1,
-  sym (ap (λ es. picks_of es ++ left) h.0) ∙ e ∙ ap (λ es. picks_of es ++ more) k.0,
-)
-same_keys (owner ∷ owners) keys effects others after later left more h k e =
-    let picks : pick_for owner h.0 ∷ (picks_of h.1 ++ left) ≡ pick_for owner k.0 ∷ (picks_of k.1 ++ more) =
-    sym (ap (λ es. picks_of es ++ left) h.3 ∙ picks_given owner h.0 h.1 left) ∙ e ∙ ap (λ es. picks_of es ++ more) k.3 ∙ picks_given owner k.0 k.1 more in
-    let key : h.0 ≡ k.0 = sym (key_picked owner h.0) ∙ ap (λ ps. key_in (head_or (pick_for owner h.0) ps)) picks ∙ key_picked owner k.0 in
-    let rest = same_keys owners (with_key keys owner k.0) h.1 k.1 after later left more (subst (λ n. GivesKeys owners (with_key keys owner n) h.1 after) key h.4) k.4 (ap rest_of picks) in
-    (h.3 ∙ ap (λ n. key_effect owner n ∷ h.1) key ∙ ap (λ es. key_effect owner k.0 ∷ es) rest.0 ∙ sym k.3, rest.1, rest.2)
+-- the picks that the lines of owners name
+abbrev datapath_pick : Keys → Name × Birth → Pick
+datapath_pick keys owner = datapath_key owner.0 (unwrap_or (datapath_number keys owner.0) 0)
+
+abbrev port_pick : Keys → Name × Birth → Pick
+port_pick keys owner = port_key owner.0 (unwrap_or (port_number keys owner.0) 0)
+
+datapaths_picked : (keys : Keys) (owners : List (Name × Birth)) (effects : List NetEffect) (left : List Pick)
+    → picks_of (map (datapath_effect keys) owners ++ effects) ++ left ≡ map (datapath_pick keys) owners ++ (picks_of effects ++ left)
+datapaths_picked keys [] effects left = refl
+datapaths_picked keys (o ∷ os) effects left = ap (λ ps. datapath_pick keys o ∷ ps) (datapaths_picked keys os effects left)
+
+ports_picked : (keys : Keys) (owners : List (Name × Birth)) (left : List Pick) → picks_of (map (port_effect keys) owners) ++ left ≡ map (port_pick keys) owners ++ left
+ports_picked keys [] left = refl
+ports_picked keys (o ∷ os) left = ap (λ ps. port_pick keys o ∷ ps) (ports_picked keys os left)
+
+-- where two lists of picks are one, each owner's picks are one, and so are those that are left
+same_picks : (f g : Name × Birth → Pick) (owners : List (Name × Birth)) (left more : List Pick) → map f owners ++ left ≡ map g owners ++ more → ((o : Name × Birth) → Among o owners → f o ≡ g o) × (left ≡ more)
+same_picks f g [] left more e = ((λ o among. absurd (among_none o among)), e)
+same_picks f g (o ∷ os) left more e =
+    let first : f o ≡ g o = ap (λ ps. head_or (f o) ps) e in
+    let rest = same_picks f g os left more (ap rest_of e) in
+    (
+      (λ p among. elim (among_cases p o os among) [ inl is ↦ ap f is ∙ first ∙ ap g (sym is) | inr later ↦ rest.0 p later ]),
+      rest.1,
+    )
+
+-- some value stands at each name of a list, once the list is in order
+still_there : {X : Type 0} (es gs : List (Name × X)) (n : Name) (v : X) → at es n ≡ Some v → (w : X) × (at (put_all es gs) n ≡ Some w)
+still_there es [] n v found = (v, found)
+still_there es (g ∷ gs) n v found = elim (one_or_two n g.0) [
+  | inl same ↦ still_there (put es g.0 g.1) gs n g.1 (ap (λ k. at (put es g.0 g.1) k) same ∙ put_there es g.0 g.1)
+  | inr apart ↦ still_there (put es g.0 g.1) gs n v (put_other es g.0 g.1 n apart ∙ found)
+]
+
+put_somewhere : {X : Type 0} (es gs : List (Name × X)) (n : Name) (v : X) → Among (n, v) gs → (w : X) × (at (put_all es gs) n ≡ Some w)
+put_somewhere es [] n v among = absurd (among_none (n, v) among)
+put_somewhere es (g ∷ gs) n v among = elim (among_cases (n, v) g gs among) [
+  | inl is ↦ still_there (put es g.0 g.1) gs n g.1 (ap (λ (e : Name × _). at (put es g.0 g.1) e.0) is ∙ put_there es g.0 g.1)
+  | inr later ↦ put_somewhere (put es g.0 g.1) gs n v later
+]
+
+among_ordered : {X : Type 0} (gs : List (Name × X)) (n : Name) (v : X) → Among (n, v) gs → (w : X) × Among (n, w) (in_order gs)
+among_ordered gs n v among = let r = put_somewhere [] gs n v among in (r.0, at_among (in_order gs) n r.0 r.1)
+
+module _ (between : Keys) (owners : List KeyOwner) where
+  -- the datapaths that are given keys with the same picks have the same
+  datapath_found : (a b : Keys) → GivesKeysAfter between owners a → GivesKeysAfter between owners b
+      → ((o : Name × Birth) → Among o (in_order (datapaths_in owners)) → datapath_pick a o ≡ datapath_pick b o)
+      → (n : Name) (d : DatapathKey) → at a.datapaths n ≡ Some d → at b.datapaths n ≡ Some d
+  datapath_found a b ga gb same n d found = elim (ga.datapath_cases n d found) [
+    | inl old ↦ gb.datapath_kept n d old
+    | inr new ↦
+        let given = gb.datapath_given n d.birth new in
+        let o = among_ordered (datapaths_in owners) n d.birth (datapaths_have owners n d.birth new) in
+        let key : d.key ≡ given.0 =
+        sym (ap (λ (o : Option DatapathKey). unwrap_or (option_map (λ k. k.key) o) 0) found)
+        ∙ ap key_in (same (n, o.0) o.1)
+        ∙ ap (λ (o : Option DatapathKey). unwrap_or (option_map (λ k. k.key) o) 0) given.1 in
+        given.1 ∙ (λ i. Some (record { birth = d.birth; key = sym key i }))
+  ]
+
+  port_found : (a b : Keys) → GivesKeysAfter between owners a → GivesKeysAfter between owners b
+      → ((o : Name × Birth) → Among o (ports_in_order owners b) → port_pick a o ≡ port_pick b o)
+      → (n : Name) (p : PortKey) → at a.ports n ≡ Some p → at b.ports n ≡ Some p
+  port_found a b ga gb same n p found = elim (ga.port_cases n p found) [
+    | inl old ↦ gb.port_kept n p old
+    | inr new ↦
+        let given = gb.port_given p.datapath n p.birth new in
+        let o = among_ordered (ports_in p.datapath owners) n p.birth (ports_have owners p.datapath n p.birth new) in
+        let placed : Among (n, o.0) (ports_in_order owners b) =
+        among_flat_map (λ (d : Name × DatapathKey). in_order (ports_in d.0 owners)) (p.datapath, given.1) (n, o.0) b.datapaths (at_among b.datapaths p.datapath given.1 given.3) o.1 in
+        let key : p.key ≡ given.0 =
+        sym (ap (λ (o : Option PortKey). unwrap_or (option_map (λ k. k.key) o) 0) found)
+        ∙ ap key_in (same (n, o.0) placed)
+        ∙ ap (λ (o : Option PortKey). unwrap_or (option_map (λ k. k.key) o) 0) given.2 in
+        given.2 ∙ (λ i. Some (record { birth = p.birth; datapath = p.datapath; key = sym key i }))
+  ]
+
+  -- the same picks give the same keys
+  module _ (a b : Keys) (ga : GivesKeysAfter between owners a) (gb : GivesKeysAfter between owners b)
+      (da : IsByName a.datapaths) (pa : IsByName a.ports) (db : IsByName b.datapaths) (pb : IsByName b.ports) where
+    same_keys : (left more : List Pick) → picks_of (key_effects owners a) ++ left ≡ picks_of (key_effects owners b) ++ more → (a ≡ b) × (left ≡ more)
+    same_keys left more e =
+        let picked =
+        sym (datapaths_picked a (in_order (datapaths_in owners)) (map (port_effect a) (ports_in_order owners a)) left)
+        ∙ e
+        ∙ datapaths_picked b (in_order (datapaths_in owners)) (map (port_effect b) (ports_in_order owners b)) more in
+        let first = same_picks (datapath_pick a) (datapath_pick b) (in_order (datapaths_in owners)) (picks_of (map (port_effect a) (ports_in_order owners a)) ++ left) (picks_of (map (port_effect b) (ports_in_order owners b)) ++ more) picked in
+        let datapaths : a.datapaths ≡ b.datapaths =
+        same_found a.datapaths b.datapaths da db (datapath_found a b ga gb first.0) (datapath_found b a gb ga (λ o among. sym (first.0 o among))) in
+        let placed : ports_in_order owners a ≡ ports_in_order owners b = ap (λ ds. flat_map (λ (d : Name × DatapathKey). in_order (ports_in d.0 owners)) ds) datapaths in
+        let after =
+        ap (λ os. map (port_pick a) os ++ left) (sym placed)
+        ∙ sym (ports_picked a (ports_in_order owners a) left)
+        ∙ first.1
+        ∙ ports_picked b (ports_in_order owners b) more in
+        let second = same_picks (port_pick a) (port_pick b) (ports_in_order owners b) left more after in
+        let ports : a.ports ≡ b.ports =
+        same_found a.ports b.ports pa pb (port_found a b ga gb second.0)
+        (port_found b a gb ga (λ o among. sym (second.0 o (subst (λ os. Among o os) placed among)))) in
+        let datapath_range = ga.datapath_range ∙ sym gb.datapath_range in
+        let port_range = ga.port_range ∙ sym gb.port_range in
+        let retired_datapaths = ga.retired_datapaths ∙ sym gb.retired_datapaths in
+        let retired_ports = ga.retired_ports ∙ sym gb.retired_ports in
+        (
+          (λ i. record { datapath_range = datapath_range i; port_range = port_range i; datapaths = datapaths i; ports = ports i; retired_datapaths = retired_datapaths i; retired_ports = retired_ports i }),
+          second.1,
+        )
 
 -- ---- packets
 
@@ -129,11 +226,13 @@ still effects others after later left more then h k a b e = record {
 pub step_with : (m : State) (event : Event) (effects others : List NetEffect) (after later : State) (left more : List Pick) → IsValid m.net → Step m event effects after → Step m event others later
     → picks_of effects ++ left ≡ picks_of others ++ more → Same effects others after later left more
 step_with m (Edit ops) effects others after later left more valid h k e =
-    let given = same_keys (owners_of ops (events_of m + 1)) m.keys effects others h.keys k.keys left more h.given k.given e in
+    let owners = owners_of ops (events_of m + 1) in
+    let picked = sym (ap (λ es. picks_of es ++ left) h.effects_are) ∙ e ∙ ap (λ es. picks_of es ++ more) k.effects_are in
+    let same = same_keys (retire m.keys []) owners h.keys k.keys h.given k.given h.datapaths_in_order h.ports_in_order k.datapaths_in_order k.ports_in_order left more picked in
     record {
-      effects_are = given.0;
-      state = h.state ∙ ap (λ (keys : Keys). record (counted m) { net = accepted m.net ops (events_of m + 1); keys = keys }) given.1 ∙ sym k.state;
-      rest = given.2;
+      effects_are = h.effects_are ∙ ap (λ keys. key_effects owners keys) same.0 ∙ sym k.effects_are;
+      state = h.state ∙ ap (λ (keys : Keys). record (counted m) { net = accepted m.net ops (events_of m + 1); keys = keys }) same.0 ∙ sym k.state;
+      rest = same.1;
     }
 step_with m (Bind p chassis) effects others after later left more valid h k e = still effects others after later left more _ h.0 k.0 h.1 k.1 e
 step_with m (AddChassis chassis) effects others after later left more valid h k e = still effects others after later left more _ h.0 k.0 h.1 k.1 e

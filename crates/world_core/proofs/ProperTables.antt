@@ -15,15 +15,16 @@ use Rattle.world_core.specs.State as state
 use Rattle.world_core.specs.Sound.{HaveKeys, AreBound, AreExactly, basis_at}
 use Rattle.world_core.specs.Stages.{Basis, IsDatapath, IsPort, IsHere, EntryRow, AdmitRow, PortSecRow, TrackRow, AclInRow, StateInRow, ArpRow, LookupRow, RemoteRow, HomeRow, ReturnRow, TrackOutRow, AclOutRow, StateOutRow, SecOutRow, OutputRow}
 use Rattle.world_core.specs.Tables.{TableFlow}
+use Rattle.world_core.proofs.KeyLaws.{datapath_fits, port_fits}
 
 -- ---- numbers in range
 
 module _ (m : state.State) (zones : List (Name × ℕ)) (c : Name) where
   pub datapath_in_range : HaveKeys m.net m.keys → (a : Name) (dp : ℕ) → IsDatapath (basis_at m zones c) a dp → dp < 2 ^ 24
-  datapath_in_range keys a dp on = subst (λ n. n < 2 ^ 24) on.number (keys.datapath_fits a on.live on.has).1
+  datapath_in_range keys a dp on = subst (λ n. n < 2 ^ 24) on.number (datapath_fits m.net m.keys keys a on.live on.has).1
 
   pub port_in_range : HaveKeys m.net m.keys → (q : Name) (port : SwitchPort) (dp key : ℕ) → IsPort (basis_at m zones c) q port dp key → key < 2 ^ 15
-  port_in_range keys q port dp key of = subst (λ n. n < 2 ^ 15) of.number (keys.port_fits q of.live of.has).1
+  port_in_range keys q port dp key of = subst (λ n. n < 2 ^ 15) of.number (port_fits m.net m.keys keys q of.live of.has).1
 
   pub zone_in_range : AreBound m zones → (q : Name) (zone : ℕ) → IsHere (basis_at m zones c) q zone → zone < 2 ^ 16
   zone_in_range bound q zone home = (bound.zone_fits q zone home.zoned).1

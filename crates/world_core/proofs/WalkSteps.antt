@@ -16,13 +16,14 @@ use Rattle.switch_engine.specs.declared.effect.Effect.{Effect}
 use Rattle.switch_engine.specs.declared.walk.Step.{Step}
 use Rattle.ovn_base.specs.ByName.{at}
 use Rattle.nb_records.specs.declared.record.SwitchPort.{SwitchPort}
-use Rattle.world_core.specs.declared.keys.PortKey.{PortKey}
+use Rattle.tunnel_keys.specs.declared.owner.PortKey.{PortKey}
 use Rattle.world_core.specs.Rows.{pass_row}
 use Rattle.world_core.specs.State.{State}
 use Rattle.world_core.specs.Sound.{IsValid, HaveKeys, AreExactly, basis_at}
 use Rattle.world_core.specs.Stages.{Basis, IsDatapath, IsPort}
 use Rattle.world_core.specs.Tables.{TableFlow}
 use Rattle.world_core.proofs.Found.{some_of}
+use Rattle.world_core.proofs.KeyLaws.{datapaths_apart, ports_apart}
 use Rattle.world_core.proofs.ProperTables.{datapath_in_range}
 use Rattle.world_core.proofs.RowFits.{datapath_fits}
 
@@ -65,7 +66,7 @@ module _ (m : State) (zones : List (Name × ℕ)) (flows : List Flow) (c : Name)
 
   -- a key is that of one datapath
   pub one_datapath : (a e : Name) (dp d : ℕ) → IsDatapath b a dp → IsDatapath b e d → dp ≡ d → a ≡ e
-  one_datapath a e dp d on their same = keys.datapaths_apart a e on.live their.live on.has their.has (on.number ∙ same ∙ sym their.number)
+  one_datapath a e dp d on their same = datapaths_apart m.net m.keys keys a e on.live their.live on.has their.has (on.number ∙ same ∙ sym their.number)
 
   pub key_on : (q : Name) (port : SwitchPort) (dp key : ℕ) (of : IsPort b q port dp key) → of.live.datapath ≡ port.switch
   key_on q port dp key of = let own = keys.port_has q port of.there in ap (λ (k : PortKey). k.datapath) (same_Some of.live own.0 (sym of.has ∙ own.1)) ∙ own.3
@@ -74,7 +75,7 @@ module _ (m : State) (zones : List (Name × ℕ)) (flows : List Flow) (c : Name)
   pub one_port : (q r : Name) (port other : SwitchPort) (dp d key k : ℕ) → IsPort b q port dp key → IsPort b r other d k → dp ≡ d → key ≡ k → q ≡ r
   one_port q r port other dp d key k of their same equal =
       let switch : port.switch ≡ other.switch = one_datapath port.switch other.switch dp d of.on their.on same in
-      keys.ports_apart q r of.live their.live of.has their.has (key_on q port dp key of ∙ switch ∙ sym (key_on r other d k their)) (of.number ∙ equal ∙ sym their.number)
+      ports_apart m.net m.keys keys q r of.live their.live of.has their.has (key_on q port dp key of ∙ switch ∙ sym (key_on r other d k their)) (of.number ∙ equal ∙ sym their.number)
 
   -- the key of a port of a datapath
   pub port_on : (q : Name) (port : SwitchPort) (dp : ℕ) → at m.net.ports q ≡ Some port → IsDatapath b port.switch dp → (key : ℕ) × IsPort b q port dp key

@@ -55,10 +55,6 @@ ports_in_order owners keys = flat_map (λ d. in_order (ports_in d.0 owners)) key
 abbrev pub key_effects : List KeyOwner → Keys → List NetEffect
 key_effects owners keys = map (datapath_effect keys) (in_order (datapaths_in owners)) ++ map (port_effect keys) (ports_in_order owners keys)
 
--- the state, with one event more that was accepted
-abbrev pub counted : State → State
-counted m = record m { accepted = m.accepted + 1 }
-
 -- an accepted edit: the records come, keys are given, legal ones, and its effects name them
 pub record Edits (m : State) (ops : List Op) (effects : List NetEffect) (after : State) : Type 0 where
   pub keys : Keys
@@ -66,7 +62,7 @@ pub record Edits (m : State) (ops : List Op) (effects : List NetEffect) (after :
   pub ports_in_order : IsByName keys.ports
   pub given : GivesKeys m.keys (owners_of ops (events_of m + 1)) [] keys
   pub effects_are : effects ≡ key_effects (owners_of ops (events_of m + 1)) keys
-  pub state : after ≡ record (counted m) { net = accepted m.net ops (events_of m + 1); keys = keys }
+  pub state : after ≡ record m { net = accepted m.net ops (events_of m + 1); keys = keys }
 
 -- the names with one more, in order
 abbrev pub with_name : List Name → Name → List Name

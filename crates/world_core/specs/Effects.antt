@@ -10,7 +10,8 @@ use Rattle.tunnel_keys.specs.Same.{same_identity}
 use Rattle.tunnel_keys.specs.declared.owner.HeldDatapath.{HeldDatapath}
 use Rattle.tunnel_keys.specs.declared.owner.HeldPort.{HeldPort}
 use Rattle.tunnel_keys.specs.declared.owner.Identity.{Identity}
-use Rattle.world_core.specs.Crossing.{Crossing, group_key}
+use Rattle.world_core.specs.Crossing.{group_key}
+use Rattle.world_core.specs.declared.crossing.Crossing.{Crossing}
 use Rattle.world_core.specs.declared.crossing.Aim.{Aim}
 use Rattle.world_core.specs.declared.crossing.Aim.TheVariants.{ToPort, ToGroup}
 use Rattle.world_core.specs.Visit.{End, leaves, is_dropped, crosses, is_lost}

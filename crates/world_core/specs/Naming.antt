@@ -10,7 +10,7 @@ use Rattle.switch_engine.specs.declared.effect.Effect.TheVariants as effect
 use Rattle.tunnel_keys.specs.Keys.{Keys}
 use Rattle.tunnel_keys.specs.declared.owner.DatapathKey.{DatapathKey}
 use Rattle.tunnel_keys.specs.declared.owner.PortKey.{PortKey}
-use Rattle.world_core.specs.Crossing.{Crossing}
+use Rattle.world_core.specs.declared.crossing.Crossing.{Crossing}
 use Rattle.world_core.specs.Effects.{datapath_key, port_key, aim_key}
 use Rattle.world_core.specs.Visit.{End, leaves, is_dropped, crosses, is_lost}
 

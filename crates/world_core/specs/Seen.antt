@@ -12,7 +12,7 @@ use Rattle.switch_engine.specs.declared.walk.Walk.{Walk}
 use Rattle.tunnel_keys.specs.Keys.{Keys}
 use Rattle.tunnel_keys.specs.declared.owner.DatapathKey.{DatapathKey}
 use Rattle.tunnel_keys.specs.declared.owner.PortKey.{PortKey}
-use Rattle.world_core.specs.Crossing.{Crossing}
+use Rattle.world_core.specs.declared.crossing.Crossing.{Crossing}
 use Rattle.world_core.specs.Effects.{spelled}
 use Rattle.world_core.specs.Consistent.{IsConsistent}
 use Rattle.world_core.specs.Sound.{AreFlowsOf}

@@ -25,7 +25,7 @@ use Rattle.tunnel_keys.specs.declared.owner.HeldDatapath.{HeldDatapath}
 use Rattle.tunnel_keys.specs.declared.owner.HeldPort.{HeldPort}
 use Rattle.tunnel_keys.specs.declared.owner.Identity.{Identity}
 use Rattle.world_core.specs.Addresses.{macs_in, HasMac, HasIp, IsOfStation}
-use Rattle.world_core.specs.Crossing.{Crossing}
+use Rattle.world_core.specs.declared.crossing.Crossing.{Crossing}
 use Rattle.world_core.specs.declared.crossing.Aim.{Aim}
 use Rattle.world_core.specs.declared.crossing.Aim.TheVariants.{ToPort, ToGroup}
 use Rattle.world_core.specs.Visit.{is_switch}

@@ -6,7 +6,7 @@ use Rattle.ovn_base.specs.SameName.{same_name}
 use Rattle.ovn_base.specs.declared.name.Name.{Name}
 use Rattle.nb_records.specs.Network.{Network, empty_network}
 use Rattle.tunnel_keys.specs.Keys.{Keys, no_keys, settled}
-use Rattle.world_core.specs.Crossing.{Crossing}
+use Rattle.world_core.specs.declared.crossing.Crossing.{Crossing}
 
 pub record State : Type 0 where
   pub net : Network

@@ -12,7 +12,8 @@ use Rattle.inet_packet.specs.declared.packet.Packet as inet
 use Rattle.edit_reader.specs.declared.event.Event.{Event}
 use Rattle.edit_reader.specs.declared.event.Event.TheVariants.{Edit, Bind, AddChassis, Inject, Deliver, Lose, Repeat, Drain, Packet, Unread, NotBuilt}
 use Rattle.switch_engine.specs.declared.effect.NetEffect.{NetEffect}
-use Rattle.world_core.specs.Crossing.{Crossing, numbered_from}
+use Rattle.world_core.specs.Crossing.{numbered_from}
+use Rattle.world_core.specs.declared.crossing.Crossing.{Crossing}
 use Rattle.world_core.specs.Editing.{Edits, with_name}
 use Rattle.world_core.specs.Effects.{effects_of, crossings_in}
 use Rattle.world_core.specs.State.{State, finished}

@@ -17,7 +17,7 @@ use Rattle.nb_records.specs.declared.record.SwitchPort.{SwitchPort}
 use Rattle.ovn_base.specs.declared.address.Birth.{Birth}
 use Rattle.tunnel_keys.specs.declared.owner.Identity.{Identity}
 use Rattle.world_core.specs.Addresses.{HasMac}
-use Rattle.world_core.specs.Crossing.{Crossing}
+use Rattle.world_core.specs.declared.crossing.Crossing.{Crossing}
 use Rattle.world_core.specs.declared.crossing.Group.{Group}
 use Rattle.world_core.specs.declared.crossing.Group.TheVariants.{Flood, Unknown}
 use Rattle.world_core.specs.declared.crossing.Aim.{Aim}

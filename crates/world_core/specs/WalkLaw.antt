@@ -14,7 +14,7 @@ use Rattle.switch_engine.specs.declared.effect.Entry.{Entry}
 use Rattle.switch_engine.specs.declared.effect.Entry.TheVariants.{Vif, Tunnel}
 use Rattle.switch_engine.specs.declared.walk.Step.{Step}
 use Rattle.tunnel_keys.specs.Keys.{Keys}
-use Rattle.world_core.specs.Crossing.{Crossing}
+use Rattle.world_core.specs.declared.crossing.Crossing.{Crossing}
 use Rattle.world_core.specs.Effects.{datapath_key, port_key, aim_key}
 use Rattle.world_core.specs.Naming.{IsNumbered}
 use Rattle.world_core.specs.Consistent.{IsConsistent}

@@ -1,13 +1,12 @@
 //! The flows of a chassis, from its records, keys and homes.
 ghost use Rattle.std.specs.Prelude.{◌≡◌, ◌++◌, IfOk, OnOk};
-ghost use Rattle.ovn_base.specs.ByName.{at};
 ghost use Rattle.ovn_base.specs.Once.{EachOnce};
 ghost use Rattle.world_core.specs.Tables.{TableFlow, table_flows, zone_here, switch_part, port_part};
 ghost use Rattle.world_core.specs.Compiling.{basis_of};
+ghost use Rattle.world_core.specs.Numbers.{datapath_number, port_number};
 ghost use Rattle.world_core.specs.Holding.{HaveSame};
 ghost use Rattle.world_core.specs.Sound.{IsValid, HaveKeys, AreExactly};
 
-use crate::keys::{DatapathKey, PortKey};
 use crate::rows::{push_common, push_local, push_port, push_switch};
 use flow_table::flow::Flow;
 use flow_table::lookup::Lookup;
@@ -20,6 +19,7 @@ use ovn_base::memory::NoMemory;
 use ovn_base::name::Name;
 use std::alloc::Global;
 use std::collections::BTreeMap;
+use tunnel_keys::store::KeyStore;
 
 /// What the flows of a chassis follow from.
 #[derive(Clone, Copy)]
@@ -27,8 +27,7 @@ pub struct Maps<'a> {
     pub chassis: Name,
     pub records: &'a Records,
     pub bindings: &'a BTreeMap<Name, Name>,
-    pub datapath_keys: &'a BTreeMap<Name, DatapathKey>,
-    pub port_keys: &'a BTreeMap<Name, PortKey>,
+    pub keys: &'a KeyStore,
     pub zones: &'a BTreeMap<Name, u16>,
 }
 
@@ -50,11 +49,11 @@ impl Maps<'_> {
         name: &Name,
         flows: &mut List<Flow>,
     ) -> Result<(), NoMemory>
-        ensures { OnOk result (flows.new ≡ flows.old ++ switch_part (at (basis_of self.now).keys.datapaths name.now)) }
+        ensures { OnOk result (flows.new ≡ flows.old ++ switch_part (datapath_number (basis_of self.now).keys name.now)) }
     {
-        match self.datapath_keys.get(name) {
-            Some(live) => {
-                push_switch(alloc, live.key, flows)?;
+        match self.keys.datapath(name) {
+            Some(key) => {
+                push_switch(alloc, key, flows)?;
                 Ok(())
             }
             None => Ok(()),
@@ -70,18 +69,18 @@ impl Maps<'_> {
         flows: &mut List<Flow>,
     ) -> Result<(), NoMemory>
         ensures { OnOk result (flows.new ≡ flows.old ++ port_part
-            (at (basis_of self.now).keys.datapaths port.now.switch) (at (basis_of self.now).keys.ports name.now)
+            (datapath_number (basis_of self.now).keys port.now.switch) (port_number (basis_of self.now).keys name.now)
             (zone_here (basis_of self.now) name.now) name.now port.now) }
     {
-        let Some(datapath) = self.datapath_keys.get(&port.switch) else {
+        let Some(datapath) = self.keys.datapath(&port.switch) else {
             return Ok(());
         };
-        let Some(live) = self.port_keys.get(name) else {
+        let Some(key) = self.keys.port(name) else {
             return Ok(());
         };
-        push_port(alloc, datapath.key, *name, port, live.key, flows)?;
+        push_port(alloc, datapath, *name, port, key, flows)?;
         if let Some(zone) = self.zone_here(name) {
-            push_local(alloc, datapath.key, *name, live.key, zone, flows)?;
+            push_local(alloc, datapath, *name, key, zone, flows)?;
         }
         Ok(())
     }

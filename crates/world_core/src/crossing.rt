@@ -1,5 +1,7 @@
 //! Packets on their way between chassis.
 
+use ovn_base::list::Bytes;
+use ovn_base::name::Name;
 use tunnel_keys::owner::Identity;
 
 /// A group of ports of a switch.
@@ -19,10 +21,15 @@ pub enum Aim {
     ToGroup(Group),
 }
 
-/// Whom a crossing names: its switch, the port of entry, and to whom it goes. The frame that waits has the rest.
-#[derive(Clone, Copy, PartialEq, Eq, Debug)]
-pub struct Named {
+/// A packet on its way to a chassis; its switch and its ports are known by identity.
+#[derive(PartialEq, Eq, Debug, Drop)]
+pub struct Crossing {
     pub datapath: Identity,
+    /// The port of entry.
     pub in_port: Identity,
     pub aim: Aim,
+    /// The chassis to which it goes.
+    pub home: Name,
+    /// The packet, by its frame.
+    pub frame: Bytes,
 }

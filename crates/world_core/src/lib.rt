@@ -2,7 +2,6 @@
 #![tactic(auto)]
 
 mod compile;
-pub mod keys;
 pub mod laws;
 mod naming;
 pub mod one_run;

@@ -1,21 +1,23 @@
 //! The names of numbers: what the tables did, said in names.
 ghost use Rattle.std.specs.Prelude.{◌≡◌, ◌++◌, IfOk, codes, map};
-ghost use Rattle.world_core.specs.Shown.{datapath_named, port_named, shown};
-ghost use Rattle.world_core.specs.Numbers.{keys_in};
+ghost use Rattle.std.proofs.Math.Dec.{eqb as nat_eq};
+ghost use Rattle.std.specs.List.{find};
+ghost use Rattle.world_core.specs.Numbers.{datapath_number};
+ghost use Rattle.world_core.specs.Shown.{datapath_named, is_number, name_or_dash, port_named, shown};
 
-use crate::keys::{DatapathKey, PortKey};
+use nb_records::records::Records;
 use ovn_base::list::List;
 use ovn_base::memory::NoMemory;
 use ovn_base::name::Name;
 use std::alloc::Global;
-use std::collections::BTreeMap;
 use switch_engine::effect::{Effect, NetEffect};
+use tunnel_keys::store::KeyStore;
 
-/// The live keys, by the names that have them.
+/// The live keys, and the records that have them.
 #[derive(Clone, Copy)]
 pub struct Numbers<'a> {
-    pub datapaths: &'a BTreeMap<Name, DatapathKey>,
-    pub ports: &'a BTreeMap<Name, PortKey>,
+    pub records: &'a Records,
+    pub keys: &'a KeyStore,
 }
 
 // The name of what was never named.
@@ -28,13 +30,35 @@ fn dash() -> Name
     }
 }
 
+// The name of the port that has the key.
+fn name_of(ports: &[(Name, u16)], key: u16) -> Name
+    ensures { result ≡ name_or_dash (find (λ e. nat_eq e.1 key) ports.now) }
+{
+    'ports: for (name, number) in ports {
+        if *number == key {
+            return *name;
+        }
+    }
+    dash()
+}
+
 impl Numbers<'_> {
-    // The name of the datapath that has the key.
-    fn datapath(&self, key: u32) -> Name
-        ensures { result ≡ datapath_named (keys_in self.now) key }
+    // Whether the datapath has the key.
+    fn has_key(&self, name: &Name, key: u32) -> bool
+        ensures { result ≡ is_number (datapath_number self.now.keys.now name.now) key }
     {
-        'datapaths: for (name, live) in self.datapaths {
-            if live.key == key {
+        match self.keys.datapath(name) {
+            Some(number) => number == key,
+            None => false,
+        }
+    }
+
+    // The name of the switch that has the key.
+    fn datapath(&self, key: u32) -> Name
+        ensures { result ≡ datapath_named self.now.records.now self.now.keys.now key }
+    {
+        'switches: for (name, _switch) in self.records.switches() {
+            if self.has_key(name, key) {
                 return *name;
             }
         }
@@ -43,19 +67,17 @@ impl Numbers<'_> {
 
     // The name of the port of the datapath that has the key.
     fn port(&self, datapath: Name, key: u16) -> Name
-        ensures { result ≡ port_named (keys_in self.now) datapath key }
+        ensures { result ≡ port_named self.now.keys.now datapath key }
     {
-        'ports: for (name, live) in self.ports {
-            if live.datapath == datapath && live.key == key {
-                return *name;
-            }
+        match self.keys.ports(&datapath) {
+            Some(ports) => name_of(ports.list.as_slice(), key),
+            None => dash(),
         }
-        dash()
     }
 
     // The effect in names.
     fn named(&self, effect: Effect) -> NetEffect
-        ensures { result ≡ shown (keys_in self.now) effect }
+        ensures { result ≡ shown self.now.records.now self.now.keys.now effect }
     {
         match effect {
             Effect::Out { port, packet } => NetEffect::Out { port, packet },
@@ -76,7 +98,7 @@ impl Numbers<'_> {
         alloc: Global,
         effects: List<Effect>,
     ) -> Result<List<NetEffect>, NoMemory>
-        ensures { IfOk result (λ nets. nets ≡ map (λ effect. shown (keys_in self.now) effect) effects) }
+        ensures { IfOk result (λ nets. nets ≡ map (λ effect. shown self.now.records.now self.now.keys.now effect) effects) }
     {
         let mut nets = List::new(alloc);
         'effects: for effect in effects {

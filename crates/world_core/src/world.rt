@@ -17,7 +17,6 @@ ghost use Rattle.world_core.specs.Outcome.{Outcome};
 ghost use Rattle.world_core.specs.Parts.{IsRecompiled, IsTaken, Leaves, flow_at, new_world};
 
 use crate::compile::Maps;
-use crate::keys::{DatapathKey, PortKey};
 use edit_reader::event::Event;
 use event_lines::lines::{accepted, refused};
 use event_lines::refusal::{Refusal, StepFault};
@@ -36,6 +35,7 @@ use std::collections::BTreeMap;
 use std::marker::Model;
 use switch_engine::effect::NetEffect;
 use switch_engine::walk::Walk;
+use tunnel_keys::store::KeyStore;
 
 mod edits;
 mod homes;
@@ -48,10 +48,7 @@ pub struct World {
     records: Records,
     chassis: Option<Name>,
     bindings: BTreeMap<Name, Name>,
-    datapath_keys: BTreeMap<Name, DatapathKey>,
-    port_keys: BTreeMap<Name, PortKey>,
-    // The greatest port key of each datapath that has a port.
-    last_port_keys: BTreeMap<Name, u16>,
+    keys: KeyStore,
     zones: BTreeMap<Name, u16>,
     tables: Tables,
     walks: List<Walk>,
@@ -91,9 +88,7 @@ impl World {
             records: Records::new(alloc)?,
             chassis: None,
             bindings: BTreeMap::new(alloc),
-            datapath_keys: BTreeMap::new(alloc),
-            port_keys: BTreeMap::new(alloc),
-            last_port_keys: BTreeMap::new(alloc),
+            keys: KeyStore::with_ranges(alloc, 16_777_215, 32_767)?,
             zones: BTreeMap::new(alloc),
             tables: Tables::new(alloc)?,
             walks: List::new(alloc),
@@ -122,8 +117,7 @@ impl World {
                 chassis,
                 records: &self.records,
                 bindings: &self.bindings,
-                datapath_keys: &self.datapath_keys,
-                port_keys: &self.port_keys,
+                keys: &self.keys,
                 zones: &self.zones,
             };
             self.tables = maps.tables(alloc)?;

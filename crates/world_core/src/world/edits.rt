@@ -3,18 +3,39 @@ ghost use Rattle.std.specs.Prelude.{◌≡◌, ◌+◌, ◌<◌, ◌^◌, [], �
 ghost use Rattle.ovn_base.specs.ByName.{at, put};
 ghost use Rattle.nb_records.specs.declared.record.Op.TheVariants.{Add};
 ghost use Rattle.nb_records.specs.declared.record.Record.TheVariants as record_of;
+ghost use Rattle.tunnel_keys.specs.Causes.{HasKeys};
+ghost use Rattle.tunnel_keys.specs.Edits.{GivesKeys, IsEdit};
+ghost use Rattle.tunnel_keys.specs.Keys.{IsKeys};
 ghost use Rattle.world_core.specs.Editing.{Edits};
 ghost use Rattle.world_core.specs.New.{AreNew};
 ghost use Rattle.world_core.specs.Seen.{IsConsistent};
 ghost use Rattle.world_core.specs.State.{events_of};
 
-use crate::keys::{DatapathKey, PortKey};
 use crate::world::World;
 use nb_records::record::{Record, Switch, SwitchPort};
 use ovn_base::address::Birth;
 use ovn_base::list::List;
 use ovn_base::memory::NoMemory;
 use switch_engine::effect::NetEffect;
+use tunnel_keys::fault::KeyFault;
+use tunnel_keys::owner::KeyOwner;
+use tunnel_keys::store::{KeyPlan, KeyStore};
+
+// The keys after owners come, for all of whom there are keys.
+fn keys_with(keys: &mut KeyStore, added: &[KeyOwner]) -> Result<KeyPlan, NoMemory>
+    requires fits { IsEdit keys.old added.now [] }
+    requires enough { HasKeys keys.old added.now [] }
+    ensures kept { keys.new ≡ keys.old }
+    ensures gives { IfOk result (GivesKeys keys.old added.now []) }
+    ensures hold { IfOk result IsKeys }
+{
+    match keys.plan(added, &[]) {
+        Ok(plan) => Ok(plan),
+        Err(KeyFault::Memory) => Err(NoMemory),
+        Err(KeyFault::NoDatapathKey) => unreachable!(),
+        Err(KeyFault::NoPortKey(_)) => unreachable!(),
+    }
+}
 
 impl World {
     // A switch comes, and is given a key.
@@ -29,12 +50,13 @@ impl World {
         ensures rest { OnOk result (self.new ≡ record self.old { state = self.new.state }) }
     {
         let birth = Birth(self.accepted + self.refused + 1);
-        let key = self.datapath_keys.len() as u32 + 1;
         let name = switch.name;
+        let plan = keys_with(&mut self.keys, &[KeyOwner::Datapath { name, birth }])?;
+        let key = plan.after().datapath(&name).unwrap_or(0);
         let mut effects = List::new(self.walks.allocator());
         effects.push(NetEffect::DatapathKey { name, key })?;
         self.records.put(Record::Switch(Switch { name, birth }))?;
-        self.datapath_keys.insert(name, DatapathKey { birth, key })?;
+        self.keys.apply(plan);
         self.accepted += 1;
         Ok(effects)
     }
@@ -55,26 +77,23 @@ impl World {
         let birth = Birth(self.accepted + self.refused + 1);
         let name = port.name;
         let datapath = port.switch;
-        let last = self.last_port_keys.get(&datapath).copied().unwrap_or(0);
-        let key = last + 1;
+        let owner = KeyOwner::Port {
+            datapath,
+            name,
+            birth,
+        };
+        let addresses = port.addresses.copy()?;
+        let plan = keys_with(&mut self.keys, &[owner])?;
+        let key = plan.after().port(&name).unwrap_or(0);
         let mut effects = List::new(self.walks.allocator());
         effects.push(NetEffect::PortKey { name, key })?;
-        let addresses = port.addresses.copy()?;
         self.records.put(Record::SwitchPort(SwitchPort {
             name,
             birth,
             switch: datapath,
             addresses,
         }))?;
-        self.last_port_keys.insert(datapath, key)?;
-        self.port_keys.insert(
-            name,
-            PortKey {
-                datapath,
-                birth,
-                key,
-            },
-        )?;
+        self.keys.apply(plan);
         self.accepted += 1;
         Ok(effects)
     }

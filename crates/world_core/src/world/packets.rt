@@ -67,8 +67,8 @@ impl World {
         let RunOut { effects, walk } = out;
         let matched = walk.len();
         let numbers = Numbers {
-            datapaths: &self.datapath_keys,
-            ports: &self.port_keys,
+            records: &self.records,
+            keys: &self.keys,
         };
         let effects = numbers.all_named(alloc, effects)?;
         let mut walks = List::new(alloc);

@@ -1,8 +1,11 @@
 use Rattle.std.proofs.Common.{◌≡◌}
 use Rattle.std.specs.List.{find}
-use Rattle.std.proofs.Math.Dec.{eqb as nat_eq}
+use Rattle.world_core.specs.Numbers.{datapath_number}
+use Rattle.world_core.specs.Shown.{is_number}
 use Rattle.world_core.proofs.naming.Numbers.datapath.Given as goal
 
 -- it is among those that are left
-abbrev pub invariant-datapaths : goal.invariant-datapaths
-invariant-datapaths l = find (λ e. nat_eq e.1.key l.key) l.self.datapaths.now.entries ≡ find (λ e. nat_eq e.1.key l.key) l.name-iterator
+abbrev pub invariant-switches : goal.invariant-switches
+invariant-switches l =
+    find (λ e. is_number (datapath_number l.self.keys.now e.0) l.key) l.self.records.now.switches
+    ≡ find (λ e. is_number (datapath_number l.self.keys.now e.0) l.key) l.name-iterator
