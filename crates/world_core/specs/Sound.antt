@@ -115,14 +115,17 @@ pub record MayWait (m : State) (x : Crossing) : Type 0 where
   pub aim_live : IsAimOnLive m x.datapath x.aim
   pub no_return : x.aim ≢ ToPort x.in_port
 
--- the crossings that wait
-pub record AreOnTheWay (m : State) : Type 0 where
+-- the crossings that wait have numbers below the next one, each of its own
+pub record AreCrossings (m : State) : Type 0 where
   pub in_order : IsStrictlySortedBy nat_cmp (keys_of m.waiting)
   pub below : (n : ℕ) (x : Crossing) → Among (n, x) m.waiting → (1 ≤ n) × (n < m.next)
   pub may : (n : ℕ) (x : Crossing) → Among (n, x) m.waiting → MayWait m x
   pub first : 1 ≤ m.next
+
+-- between events: there weren't many; where none waits, no key is retired; and where no event was accepted, none waits
+pub record AreOnTheWay (m : State) : Type 0 where
+  pub crossings : AreCrossings m
   pub few : m.next ≤ 1 + 2 ^ 64 * events_of m
-  -- where none waits, no key is retired, and where no event was accepted, none waits
   pub none_retired : m.waiting ≡ [] → (m.keys.retired_datapaths ≡ []) × (m.keys.retired_ports ≡ [])
   pub none : m.accepted ≡ 0 → m.waiting ≡ []
 

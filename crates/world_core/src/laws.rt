@@ -1,4 +1,6 @@
-//! What the tables of a chassis do with a packet.
+//! What the tables of a chassis do with packets, and what the simulated chassis do. Each function does nothing: call it, and
+//! its clause is a fact of the call.
+ghost use Rattle.world_core.specs.Refinement.{ArrivalRefines, Begins, EntryRefines, Finishes};
 ghost use Rattle.world_core.specs.WalkLaw.{ArrivalLaw, EntryLaw};
 
 /// What the tables of a chassis do with a packet from a port is what the logical network says.
@@ -10,5 +12,15 @@ pub fn entry_law()
 /// What they do with the packet of a crossing is what the logical network says of its arrival.
 pub fn arrival_law()
     ensures { ArrivalLaw }
+{
+}
+
+/// What the simulated chassis do with a packet, and with a frame that arrives, is a step of the network, whose state they hold
+/// afterwards.
+pub fn refinement()
+    ensures begins { Begins }
+    ensures enters { EntryRefines }
+    ensures arrives { ArrivalRefines }
+    ensures finishes { Finishes }
 {
 }
