@@ -17,8 +17,7 @@ use Rattle.tunnel_keys.specs.Keys.{Keys}
 use Rattle.world_core.specs.declared.crossing.Crossing.{Crossing}
 use Rattle.world_core.specs.Effects.{datapath_key, port_key, aim_key}
 use Rattle.world_core.specs.Naming.{IsNumbered}
-use Rattle.world_core.specs.Consistent.{IsConsistent}
-use Rattle.world_core.specs.Sound.{AreFlowsOf, MayWait}
+use Rattle.world_core.specs.Sound.{IsValid, HaveKeys, AreBound, AreFlowsOf, MayWait}
 use Rattle.world_core.specs.State.{State}
 use Rattle.world_core.specs.Visit.{End, Visit, arrival}
 
@@ -32,7 +31,9 @@ pub record AreVisit (m : State) (p : Name) (packet : Packet) (chassis : Name) (e
 abbrev pub EntryLaw : Type 0
 EntryLaw =
     (m : State) (zones : List (Name × ℕ)) (c : Name) (flows : List Flow)
-    → IsConsistent m zones
+    → IsValid m.net
+    → HaveKeys m.net m.keys
+    → AreBound m zones
     → AreFlowsOf m zones c flows
     → (p : Name)
     → at m.bindings p ≡ Some c
@@ -51,7 +52,9 @@ entry_of keys x = Tunnel (datapath_key keys x.datapath) (port_key keys x.in_port
 abbrev pub ArrivalLaw : Type 0
 ArrivalLaw =
     (m : State) (zones : List (Name × ℕ)) (n : ℕ) (x : Crossing) (flows : List Flow)
-    → IsConsistent m zones
+    → IsValid m.net
+    → HaveKeys m.net m.keys
+    → AreBound m zones
     → MayWait m x
     → Among x.home m.chassis
     → AreFlowsOf m zones x.home flows
