@@ -22,6 +22,7 @@ pub mod Editing
 pub mod Seen
 pub mod Step
 pub mod Passing
+pub mod Packets
 pub mod Refinement
 pub mod Zones
 pub mod Admitted

@@ -1,0 +1,58 @@
+-- What packets that go through the chassis of a world leave.
+use Rattle.std.specs.Prelude.{◌≡◌, ◌++◌, ℕ, Bool, List, Some}
+use Rattle.ovn_base.specs.Among.{Among}
+use Rattle.ovn_base.specs.ByName.{at}
+use Rattle.ovn_base.specs.declared.name.Name.{Name}
+use Rattle.chassis_sim.specs.Passing as sim
+use Rattle.chassis_sim.specs.State as held
+use Rattle.chassis_sim.specs.declared.out.SimOut.{SimOut}
+use Rattle.nb_records.specs.declared.record.Switch.{Switch}
+use Rattle.nb_records.specs.declared.record.SwitchPort.{SwitchPort}
+use Rattle.switch_engine.specs.declared.effect.NetEffect.{NetEffect}
+use Rattle.world_core.specs.Effects.{spelled}
+use Rattle.world_core.specs.Passing.{AreDrained, GoesIn}
+use Rattle.world_core.specs.Refinement.{IsAmidst}
+use Rattle.world_core.specs.Seen.{Seen, AreHeld}
+use Rattle.world_core.specs.Sound.{MayWait}
+use Rattle.world_core.specs.State.{State}
+use Rattle.world_core.specs.Step.{Enters, Arrives, Drains}
+use Rattle.world_core.specs.declared.crossing.Crossing.{Crossing}
+
+-- how many frames an event may send, beside those for which its number of events leaves room
+abbrev pub most_sent : ℕ
+most_sent = 64
+
+-- The packets did this on the simulated chassis, and the effects are those of the network; the world holds the state that the network
+-- is in then, and nothing else of it changed.
+pub record HasPassed (old : Seen) (before after : SimOut) (new : Seen) (Passed : held.State → SimOut → SimOut → held.State → Type 0) (Happens : State → List NetEffect → State → Type 0) : Type 0 where
+  pub passed : Passed old.sim before after new.sim
+  pub effects : List NetEffect
+  pub all : after.effects ≡ before.effects ++ effects
+  pub happens : Happens old.state effects new.state
+  pub amidst : IsAmidst new.state new.zones most_sent
+  pub held : AreHeld new.state new.zones new.sim
+  pub rest : new ≡ record old { state = new.state; sim = new.sim }
+
+-- a packet went in at a port
+abbrev pub HasEntered : Seen → Name → List ℕ → SimOut → SimOut → Seen → Type 0
+HasEntered old p frame before after new = HasPassed old before after new (λ s b a t. GoesIn s p frame b a t) (λ m effects k. Enters m p frame effects k)
+
+-- a frame arrived
+abbrev pub HasArrived : Seen → ℕ → Bool → SimOut → SimOut → Seen → Type 0
+HasArrived old n keep before after new = HasPassed old before after new (λ s b a t. sim.Arrives s n keep b a t) (λ m effects k. Arrives m n keep effects k)
+
+-- the waiting frames arrived, up to so many
+abbrev pub AreGone : ℕ → Seen → SimOut → SimOut → Seen → Type 0
+AreGone most old before after new = HasPassed old before after new (λ s b a t. AreDrained most s b a t) (λ m effects k. Drains most m effects k)
+
+-- the crossing is one of a packet from the port, which its frame spells under the keys
+pub record IsSentFrom (m : State) (p to : Name) (bytes : List ℕ) (x : Crossing) : Type 0 where
+  pub port : SwitchPort
+  pub there : at m.net.ports p ≡ Some port
+  pub switch : Switch
+  pub on : at m.net.switches port.switch ≡ Some switch
+  pub datapath : x.datapath ≡ record { name = port.switch; birth = switch.birth }
+  pub in_port : x.in_port ≡ record { name = p; birth = port.birth }
+  pub may : MayWait m x
+  pub home : x.home ≡ to
+  pub spelled_so : bytes ≡ spelled m.keys x
