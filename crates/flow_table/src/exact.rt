@@ -4,10 +4,11 @@ ghost use Rattle.std.specs.Prelude.{◌≡◌, ◌↔◌, true, IfOk};
 ghost use Rattle.flow_table.specs.declared.flow.Cause.{Cause};
 ghost use Rattle.flow_table.specs.declared.flow.Flow.{Flow};
 ghost use Rattle.flow_table.specs.declared.flow.FlowOp.{FlowOp};
+ghost use Rattle.flow_table.specs.declared.flow.Member.{Member};
 
-use crate::flow::{Cause, Flow, FlowOp};
+use crate::flow::{Cause, Flow, FlowOp, Member};
 use inet_packet::exact::exact_cube;
-use ovn_base::equality::equal_where_same;
+use ovn_base::equality::{equal_where_same, exact_list, exact_list_clone};
 use ovn_base::memory::NoMemory;
 
 /// Causes are equal exactly where they are the same.
@@ -20,15 +21,32 @@ pub fn exact_cause_clone()
     ensures { (a b : Cause) → ⟦<Cause as Clone>⟧.is_clone a b → b ≡ a }
 {}
 
+/// Members are equal exactly where they are the same.
+pub fn exact_member()
+    ensures { (a b : Member) → (⟦<Member as PartialEq>⟧.eq a b ≡ true) ↔ (a ≡ b) }
+{}
+
+/// A clone of a member is that member.
+pub fn exact_member_clone()
+    ensures { (a b : Member) → ⟦<Member as Clone>⟧.is_clone a b → b ≡ a }
+{}
+
 /// Operations are equal exactly where they are the same.
 pub fn exact_op()
     ensures { (a b : FlowOp) → (⟦<FlowOp as PartialEq>⟧.eq a b ≡ true) ↔ (a ≡ b) }
-{}
+{
+    exact_member();
+    exact_list::<Member>();
+    equal_where_same::<FlowOp>();
+}
 
 /// A clone of an operation is that operation.
 pub fn exact_op_clone()
     ensures { (a b : FlowOp) → ⟦<FlowOp as Clone>⟧.is_clone a b → b ≡ a }
-{}
+{
+    exact_member_clone();
+    exact_list_clone::<Member>();
+}
 
 /// Flows are equal exactly where they are the same.
 pub fn exact_flow()
@@ -42,7 +60,10 @@ pub fn exact_flow()
 /// A clone of a flow is that flow.
 pub fn exact_flow_clone()
     ensures { (a b : Flow) → ⟦<Flow as Clone>⟧.is_clone a b → b ≡ a }
-{}
+{
+    exact_op_clone();
+    exact_list_clone::<FlowOp>();
+}
 
 impl Flow {
     /// An equal flow in memory of its own.

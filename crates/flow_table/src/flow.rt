@@ -6,6 +6,10 @@ use ovn_base::name::Name;
 /// Why a packet is dropped.
 #[derive(Clone, Copy, PartialEq, Eq, Hash, Debug)]
 pub enum Cause {
+    /// Its Ethernet source is a group's address.
+    BadSource,
+    /// It has a VLAN tag.
+    Vlan,
     /// No port of the switch has the address.
     UnknownAddress,
     /// The packet would leave by the port at which it came in.
@@ -14,8 +18,17 @@ pub enum Cause {
     Unbound,
 }
 
-/// What a flow does with a packet that it matches.
+/// A port that is a member of a group, as a chassis knows it.
 #[derive(Clone, Copy, PartialEq, Eq, Hash, Debug)]
+pub struct Member {
+    /// The key of the port.
+    pub key: u16,
+    /// The number of the port's zone on the chassis, 0 where it has none.
+    pub zone: u16,
+}
+
+/// What a flow does with a packet that it matches.
+#[derive(PartialEq, Eq, Hash, Clone, Debug, Drop)]
 pub enum FlowOp {
     /// Sets a register, or a flag to 0 or 1.
     Set { reg: Reg, value: u32 },
@@ -23,6 +36,12 @@ pub enum FlowOp {
     Go(u8),
     /// Drops the packet.
     Drop(Cause),
+    /// Sets the datapath and the two ports from the tunnel header, if the packet came from a tunnel.
+    Header,
+    /// Sends the packet as a frame to the chassis.
+    Frame(Name),
+    /// Makes a copy for each member but the port of entry, which goes on to that member.
+    Copies(List<Member>),
     /// Gives the packet out of the port.
     Output(Name),
 }

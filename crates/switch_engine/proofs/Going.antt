@@ -1,66 +1,103 @@
 -- A walk on its way.
-use Rattle.std.specs.Prelude.{◌≡◌, ℕ, List, [], ◌∷◌, ◌++◌, refl}
+use Rattle.std.specs.Prelude.{◌≡◌, List, [], ◌∷◌, ◌++◌, Option, Some, None, option_to_list, reverse, refl}
+use Rattle.std.proofs.lemmas.List.{reverse-append}
 use Rattle.std.proofs.Common.{sym, ap, ◌∙◌, subst, append_assoc, append-nil}
 use Rattle.inet_packet.specs.declared.packet.Packet.{Packet}
-use Rattle.inet_packet.specs.declared.regs.Regs.{Regs}
 use Rattle.flow_table.specs.declared.flow.Flow.{Flow}
-use Rattle.flow_table.specs.Matching.{IsBest, NoneMatches}
-use Rattle.switch_engine.specs.declared.actions.End.{End}
-use Rattle.switch_engine.specs.declared.actions.End.TheVariants.{Goes}
+use Rattle.flow_table.specs.declared.flow.FlowOp.{FlowOp}
+use Rattle.flow_table.specs.Matching.{IsBest}
+use Rattle.switch_engine.specs.declared.carried.Carried.{Carried}
 use Rattle.switch_engine.specs.declared.effect.Effect.{Effect}
 use Rattle.switch_engine.specs.declared.effect.Entry.{Entry}
-use Rattle.switch_engine.specs.declared.engine.Last.{Last}
+use Rattle.switch_engine.specs.declared.walk.RunOut.{RunOut}
 use Rattle.switch_engine.specs.declared.walk.Step.{Step}
-use Rattle.switch_engine.specs.Actions.{outcome}
-use Rattle.switch_engine.specs.Last.{effects_of, Walked}
-use Rattle.switch_engine.specs.Walk.{IsWalk, Follows, start_regs, unmatched}
+use Rattle.switch_engine.specs.Actions.{Outcome, outcome, going_on}
+use Rattle.switch_engine.specs.Advance.{Advances, unmatched_here, matched}
+use Rattle.switch_engine.specs.Gains.{Gains, Keeps}
+use Rattle.switch_engine.specs.Walk.{IsWalk, IsWalkOf, start, unmatched}
+use Rattle.switch_engine.specs.Walk.IsWalk.{over, ends, takes}
 
--- some steps were taken from table 0, and each walk from here goes on from them
-pub record Going (flows : List Flow) (entry : Entry) (packet : Packet) (before now : List Step) (table : ℕ) (regs : Regs) : Type 0 where
+-- steps and effects came to those before, and each walk of the copies that are left goes on from them
+pub record Going (flows : List Flow) (entry : Entry) (packet : Packet) (before now : RunOut) (pending : List Carried) : Type 0 where
   pub steps : List Step
-  pub all_steps : now ≡ before ++ steps
-  pub goes_on : (rest : List Step) (ends : List Effect) → IsWalk flows table regs packet rest ends → IsWalk flows 0 (start_regs entry) packet (steps ++ rest) ends
+  pub effects : List Effect
+  pub all_steps : now.walk ≡ before.walk ++ steps
+  pub all_effects : now.effects ≡ before.effects ++ effects
+  pub goes_on : (rest : List Step) (more : List Effect) → IsWalk flows entry pending rest more → IsWalkOf flows entry packet (steps ++ rest) (effects ++ more)
 
--- one step more
-module _ {flows : List Flow} {entry : Entry} {packet : Packet} {before now : List Step} {table : ℕ} {regs : Regs} (g : Going flows entry packet before now table regs) where
-  -- nothing matches
-  pub ends_unmatched : NoneMatches flows table regs packet → (last : Last) → effects_of last packet ≡ unmatched table regs → Walked flows entry packet before now last
-  ends_unmatched none last is =
-      record {
-        steps = g.steps;
-        all_steps = g.all_steps;
-        is_walk = subst (λ steps. IsWalk flows 0 (start_regs entry) packet steps (effects_of last packet)) (append-nil g.steps) (g.goes_on [] (effects_of last packet) (none, is));
-      }
+module _ {flows : List Flow} {entry : Entry} {packet : Packet} where
+  -- at the start
+  pub going_first : (before : RunOut) → Going flows entry packet before before (start entry packet ∷ [])
+  going_first before = record {
+    steps = [];
+    effects = [];
+    all_steps = sym (append-nil before.walk);
+    all_effects = sym (append-nil before.effects);
+    goes_on = λ rest more w. w;
+  }
 
-  -- a walk goes on with the flow that matched
-  stepped : (flow : Flow) → IsBest flows table regs packet flow → (rest : List Step) (ends : List Effect) (end : End) → (outcome flow.ops regs).0 ≡ end → Follows table end (outcome flow.ops regs).1 packet rest ends (λ next. IsWalk flows next (outcome flow.ops regs).1 packet rest ends) → IsWalk flows 0 (start_regs entry) packet ((g.steps ++ record { table = table; flow = flow } ∷ []) ++ rest) ends
-  stepped flow best rest ends end is follows =
-      let step : Step = record { table = table; flow = flow } in
-      subst (λ steps. IsWalk flows 0 (start_regs entry) packet steps ends) (sym (append_assoc g.steps (step ∷ []) rest))
-      (g.goes_on (step ∷ rest) ends (refl, best, subst (λ e. Follows table e (outcome flow.ops regs).1 packet rest ends (λ next. IsWalk flows next (outcome flow.ops regs).1 packet rest ends)) (sym is) follows))
-
-  -- the steps with that one
-  more_steps : (flow : Flow) (after : List Step) → after ≡ now ++ record { table = table; flow = flow } ∷ [] → after ≡ before ++ (g.steps ++ record { table = table; flow = flow } ∷ [])
-  more_steps flow after is =
-      let step : Step = record { table = table; flow = flow } in
-      is ∙ ap (λ steps. steps ++ step ∷ []) g.all_steps ∙ append_assoc before g.steps (step ∷ [])
-
-  -- the flow that matched goes on
-  pub goes_next : (flow : Flow) → IsBest flows table regs packet flow → (after : List Step) → after ≡ now ++ record { table = table; flow = flow } ∷ [] → (next : ℕ) (regs_after : Regs) → (outcome flow.ops regs).0 ≡ Goes next → regs_after ≡ (outcome flow.ops regs).1 → Going flows entry packet before after next regs_after
-  goes_next flow best after is next regs_after goes regs_is =
-      let step : Step = record { table = table; flow = flow } in
-      subst (λ rs. Going flows entry packet before after next rs) (sym regs_is) (record {
-        steps = g.steps ++ step ∷ [];
-        all_steps = more_steps flow after is;
-        goes_on = λ rest ends walk. stepped flow best rest ends (Goes next) goes walk;
-      })
-
-  -- the flow that matched ends the walk
-  pub ends_matched : (flow : Flow) → IsBest flows table regs packet flow → (after : List Step) → after ≡ now ++ record { table = table; flow = flow } ∷ [] → (end : End) (last : Last) → (outcome flow.ops regs).0 ≡ end → Follows table end (outcome flow.ops regs).1 packet [] (effects_of last packet) (λ next. IsWalk flows next (outcome flow.ops regs).1 packet [] (effects_of last packet)) → Walked flows entry packet before after last
-  ends_matched flow best after is end last goes follows =
-      let step : Step = record { table = table; flow = flow } in
+  -- one copy further
+  pub going_next : {before now after : RunOut} {copy : Carried} {others next : List Carried} → Going flows entry packet before now (copy ∷ others) → Advances flows entry copy others next now after → Going flows entry packet before after next
+  going_next {before} {now} {after} {copy} {others} {next} g (unmatched_here none left walk effects) = record {
+    steps = g.steps;
+    effects = g.effects ++ unmatched entry copy;
+    all_steps = walk ∙ g.all_steps;
+    all_effects = effects ∙ ap (λ l. l ++ unmatched entry copy) g.all_effects ∙ append_assoc before.effects g.effects (unmatched entry copy);
+    goes_on = λ rest more w.
+        subst (λ l. IsWalkOf flows entry packet (g.steps ++ rest) l) (sym (append_assoc g.effects (unmatched entry copy) more))
+        (g.goes_on rest (unmatched entry copy ++ more) (ends copy others rest more (unmatched entry copy ++ more) none (subst (λ l. IsWalk flows entry l rest more) left w) refl));
+  }
+  going_next {before} {now} {after} {copy} {others} {next} g (matched flow best left walk effects) =
+      let step : Step = record { table = copy.table; flow = flow } in
+      let brought = (outcome entry flow.ops copy).effects in
       record {
         steps = g.steps ++ step ∷ [];
-        all_steps = more_steps flow after is;
-        is_walk = subst (λ steps. IsWalk flows 0 (start_regs entry) packet steps (effects_of last packet)) (append-nil (g.steps ++ step ∷ [])) (stepped flow best [] (effects_of last packet) end goes follows);
+        effects = g.effects ++ brought;
+        all_steps = walk ∙ ap (λ l. l ++ step ∷ []) g.all_steps ∙ append_assoc before.walk g.steps (step ∷ []);
+        all_effects = effects ∙ ap (λ l. l ++ brought) g.all_effects ∙ append_assoc before.effects g.effects brought;
+        goes_on = λ rest more w.
+            subst (λ l. IsWalkOf flows entry packet l ((g.effects ++ brought) ++ more)) (sym (append_assoc g.steps (step ∷ []) rest))
+            (subst (λ l. IsWalkOf flows entry packet (g.steps ++ step ∷ rest) l) (sym (append_assoc g.effects brought more))
+            (g.goes_on (step ∷ rest) (brought ++ more) (takes copy others step rest more (brought ++ more) refl best (subst (λ l. IsWalk flows entry l rest more) left w) refl)));
       }
+
+  -- no copy is left
+  pub going_over : {before now : RunOut} → Going flows entry packet before now [] → Gains flows entry packet before now
+  going_over g = record {
+    steps = g.steps;
+    effects = g.effects;
+    all_steps = g.all_steps;
+    all_effects = g.all_effects;
+    is_walk = subst (λ l. IsWalkOf flows entry packet l g.effects) (append-nil g.steps) (subst (λ l. IsWalkOf flows entry packet (g.steps ++ []) l) (append-nil g.effects) (g.goes_on [] [] over));
+  }
+
+  -- what was there before stays at the front
+  pub going_keeps : {before now after : RunOut} {pending : List Carried} → Going flows entry packet before now pending → Keeps now after → Keeps before after
+  going_keeps {before} g k = record {
+    more_steps = g.steps ++ k.more_steps;
+    more_effects = g.effects ++ k.more_effects;
+    all_steps = k.all_steps ∙ ap (λ l. l ++ k.more_steps) g.all_steps ∙ append_assoc before.walk g.steps k.more_steps;
+    all_effects = k.all_effects ∙ ap (λ l. l ++ k.more_effects) g.all_effects ∙ append_assoc before.effects g.effects k.more_effects;
+  }
+
+-- a copy on top of the pending ones is the next
+pub on_top : (pending after : List Carried) (copy : Carried) → after ≡ pending ++ copy ∷ [] → reverse after ≡ copy ∷ reverse pending
+on_top pending after copy is = ap reverse is ∙ reverse-append pending (copy ∷ [])
+
+-- what goes on stands before the pending copies, where the copy itself goes on
+pub stacked_some : (o : Outcome) (pending put after made : List Carried) (itself : Option Carried) (copy : Carried) → option_to_list itself ≡ o.itself → itself ≡ Some copy → made ≡ o.made → reverse put ≡ made ++ reverse pending → after ≡ put ++ copy ∷ [] → reverse after ≡ going_on o ++ reverse pending
+stacked_some o pending put after made itself copy one some these first top =
+    let single : o.itself ≡ copy ∷ [] = sym one ∙ ap option_to_list some in
+    on_top put after copy top ∙ ap (λ l. copy ∷ l) (first ∙ ap (λ l. l ++ reverse pending) these) ∙ ap (λ l. (l ++ o.made) ++ reverse pending) (sym single)
+
+-- and where it doesn't
+pub stacked_none : (o : Outcome) (pending put made : List Carried) (itself : Option Carried) → option_to_list itself ≡ o.itself → itself ≡ None → made ≡ o.made → reverse put ≡ made ++ reverse pending → reverse put ≡ going_on o ++ reverse pending
+stacked_none o pending put made itself one none these first =
+    let empty : o.itself ≡ [] = sym one ∙ ap option_to_list none in
+    first ∙ ap (λ l. l ++ reverse pending) these ∙ ap (λ l. (l ++ o.made) ++ reverse pending) (sym empty)
+
+-- a copy came through its table with a flow
+pub advanced : {flows : List Flow} {entry : Entry} {copy : Carried} (flow : Flow) → IsBest flows copy.table copy.regs copy.packet flow → (ops : List FlowOp) → ops ≡ flow.ops → (pending left : List Carried) → left ≡ going_on (outcome entry ops copy) ++ pending → (old : RunOut) (walk : List Step) (effects : List Effect)
+    → walk ≡ old.walk ++ record { table = copy.table; flow = flow } ∷ [] → effects ≡ old.effects ++ (outcome entry ops copy).effects → Advances flows entry copy pending left old (record { effects = effects; walk = walk })
+advanced {flows} {entry} {copy} flow best ops same pending left is old walk effects w e =
+    matched flow best (subst (λ os. left ≡ going_on (outcome entry os copy) ++ pending) same is) w (subst (λ os. effects ≡ old.effects ++ (outcome entry os copy).effects) same e)

@@ -14,25 +14,12 @@ use Rattle.inet_packet.specs.declared.regs.Reg.TheVariants.{Dp, InPort, OutPort,
 use Rattle.inet_packet.specs.declared.regs.Regs.{Regs}
 use Rattle.flow_table.specs.declared.flow.Flow.{Flow}
 use Rattle.flow_table.specs.declared.flow.FlowOp.{FlowOp}
-use Rattle.flow_table.specs.declared.flow.FlowOp.TheVariants.{Set, Go, Drop, Output}
-use Rattle.switch_engine.specs.declared.actions.End.TheVariants.{Goes}
-use Rattle.switch_engine.specs.Actions.{set_flag, set_reg, outcome}
-use Rattle.switch_engine.specs.Proper.{all_bits, asked, CanBeSet, Rises, Raises, IsProperFlow, rising, raising}
-
--- each register holds a number that lies within it
-pub record IsInRange (regs : Regs) : Type 0 where
-  pub dp_within : regs.dp < 2 ^ 24
-  pub in_port_within : regs.in_port < 2 ^ 16
-  pub out_port_within : regs.out_port < 2 ^ 16
-  pub next_within : regs.next < 2 ^ 32
-  pub z_in_within : regs.z_in < 2 ^ 16
-  pub z_out_within : regs.z_out < 2 ^ 16
-  pub z_dnat_within : regs.z_dnat < 2 ^ 16
-  pub z_snat_within : regs.z_snat < 2 ^ 16
-  pub state_within : regs.state < 2 ^ 3
-  pub verdict_within : regs.verdict < 2 ^ 3
-  pub tier_within : regs.tier < 2 ^ 3
-  pub flags_within : regs.flags.0 < 2 ^ 8
+use Rattle.flow_table.specs.declared.flow.FlowOp.TheVariants.{Set, Go, Drop, Header, Frame, Copies, Output}
+use Rattle.switch_engine.specs.Actions.{set_flag, set_reg}
+use Rattle.switch_engine.specs.Range.{IsInRange}
+use Rattle.switch_engine.specs.Walk.{start_regs}
+use Rattle.switch_engine.specs.declared.effect.Entry.{Entry}
+use Rattle.switch_engine.specs.Proper.{all_bits, asked, CanBeSet, Raises}
 
 -- a flag that is set or cleared leaves eight flags
 flags_kept : (flag n flags : ℕ) → flag < 2 ^ 8 → flags < 2 ^ 8 → cond (nat_eq n 0) (bit_and flags (255 - flag)) (bit_or flags flag) < 2 ^ 8
@@ -44,7 +31,7 @@ flags_kept flag n flags small fits = elim (nat_eq n 0) as (λ b. cond b (bit_and
 -- a register that is set as it can be holds what lies within it
 pub set_in_range : (reg : Reg) (n : ℕ) (regs : Regs) → CanBeSet reg n → IsInRange regs → IsInRange (set_reg reg n regs)
 set_in_range Dp n regs c r = record { dp_within = c.within; in_port_within = r.in_port_within; out_port_within = r.out_port_within; next_within = r.next_within; z_in_within = r.z_in_within; z_out_within = r.z_out_within; z_dnat_within = r.z_dnat_within; z_snat_within = r.z_snat_within; state_within = r.state_within; verdict_within = r.verdict_within; tier_within = r.tier_within; flags_within = r.flags_within }
-set_in_range InPort n regs c r = record { dp_within = r.dp_within; in_port_within = c.within; out_port_within = r.out_port_within; next_within = r.next_within; z_in_within = r.z_in_within; z_out_within = r.z_out_within; z_dnat_within = r.z_dnat_within; z_snat_within = r.z_snat_within; state_within = r.state_within; verdict_within = r.verdict_within; tier_within = r.tier_within; flags_within = r.flags_within }
+set_in_range InPort n regs c r = record { dp_within = r.dp_within; in_port_within = c.of_port refl; out_port_within = r.out_port_within; next_within = r.next_within; z_in_within = r.z_in_within; z_out_within = r.z_out_within; z_dnat_within = r.z_dnat_within; z_snat_within = r.z_snat_within; state_within = r.state_within; verdict_within = r.verdict_within; tier_within = r.tier_within; flags_within = r.flags_within }
 set_in_range OutPort n regs c r = record { dp_within = r.dp_within; in_port_within = r.in_port_within; out_port_within = c.within; next_within = r.next_within; z_in_within = r.z_in_within; z_out_within = r.z_out_within; z_dnat_within = r.z_dnat_within; z_snat_within = r.z_snat_within; state_within = r.state_within; verdict_within = r.verdict_within; tier_within = r.tier_within; flags_within = r.flags_within }
 set_in_range Next n regs c r = record { dp_within = r.dp_within; in_port_within = r.in_port_within; out_port_within = r.out_port_within; next_within = c.within; z_in_within = r.z_in_within; z_out_within = r.z_out_within; z_dnat_within = r.z_dnat_within; z_snat_within = r.z_snat_within; state_within = r.state_within; verdict_within = r.verdict_within; tier_within = r.tier_within; flags_within = r.flags_within }
 set_in_range ZIn n regs c r = record { dp_within = r.dp_within; in_port_within = r.in_port_within; out_port_within = r.out_port_within; next_within = r.next_within; z_in_within = c.within; z_out_within = r.z_out_within; z_dnat_within = r.z_dnat_within; z_snat_within = r.z_snat_within; state_within = r.state_within; verdict_within = r.verdict_within; tier_within = r.tier_within; flags_within = r.flags_within }
@@ -59,22 +46,6 @@ set_in_range Tracked n regs c r = record { dp_within = r.dp_within; in_port_with
 set_in_range Blocked n regs c r = record { dp_within = r.dp_within; in_port_within = r.in_port_within; out_port_within = r.out_port_within; next_within = r.next_within; z_in_within = r.z_in_within; z_out_within = r.z_out_within; z_dnat_within = r.z_dnat_within; z_snat_within = r.z_snat_within; state_within = r.state_within; verdict_within = r.verdict_within; tier_within = r.tier_within; flags_within = flags_kept 4 n regs.flags.0 (omega arith) r.flags_within }
 set_in_range Own n regs c r = record { dp_within = r.dp_within; in_port_within = r.in_port_within; out_port_within = r.out_port_within; next_within = r.next_within; z_in_within = r.z_in_within; z_out_within = r.z_out_within; z_dnat_within = r.z_dnat_within; z_snat_within = r.z_snat_within; state_within = r.state_within; verdict_within = r.verdict_within; tier_within = r.tier_within; flags_within = flags_kept 8 n regs.flags.0 (omega arith) r.flags_within }
 set_in_range Arrived n regs c r = record { dp_within = r.dp_within; in_port_within = r.in_port_within; out_port_within = r.out_port_within; next_within = r.next_within; z_in_within = r.z_in_within; z_out_within = r.z_out_within; z_dnat_within = r.z_dnat_within; z_snat_within = r.z_snat_within; state_within = r.state_within; verdict_within = r.verdict_within; tier_within = r.tier_within; flags_within = flags_kept 16 n regs.flags.0 (omega arith) r.flags_within }
-
--- so do actions that rise
-pub outcome_in_range : (table : ℕ) (ops : List FlowOp) (regs : Regs) → AllByRecursion (Rises table) ops → IsInRange regs → IsInRange (outcome ops regs).1
-outcome_in_range table [] regs h r = r
-outcome_in_range table (Set reg n ∷ ops) regs h r = outcome_in_range table ops (set_reg reg n regs) h.1 (set_in_range reg n regs h.0 r)
-outcome_in_range table (Go next ∷ ops) regs h r = r
-outcome_in_range table (Drop cause ∷ ops) regs h r = r
-outcome_in_range table (Output port ∷ ops) regs h r = r
-
--- and they go on at later tables
-pub goes_later : (table : ℕ) (ops : List FlowOp) (regs : Regs) (next : ℕ) → AllByRecursion (Rises table) ops → (outcome ops regs).0 ≡ Goes next → table < next
-goes_later table [] regs next h e = cc
-goes_later table (Set reg n ∷ ops) regs next h e = goes_later table ops (set_reg reg n regs) next h.1 e
-goes_later table (Go other ∷ ops) regs next h e = let same : other ≡ next = cc in subst (λ t. table < t) same h.0
-goes_later table (Drop cause ∷ ops) regs next h e = cc
-goes_later table (Output port ∷ ops) regs next h e = cc
 
 -- the word in which the register stands
 abbrev pub word_of : Reg → Regs → ℕ
@@ -147,7 +118,8 @@ total_rises Dp n flow regs packet h r fits =
     let more : regs.dp < n = number_rises 24 regs.dp n (all_bits Dp) flow.cube.dp.mask flow.cube.dp.value refl r.dp_within fits.place.dp_fits h.whole h.greater in
     omega arith
 total_rises InPort n flow regs packet h r fits =
-    let more : regs.in_port < n = number_rises 16 regs.in_port n (all_bits InPort) flow.cube.in_port.mask flow.cube.in_port.value refl r.in_port_within fits.place.in_port_fits h.whole h.greater in
+    let small : regs.in_port < 2 ^ 16 = omega (arith, r.in_port_within) in
+    let more : regs.in_port < n = number_rises 16 regs.in_port n (all_bits InPort) flow.cube.in_port.mask flow.cube.in_port.value refl small fits.place.in_port_fits h.whole h.greater in
     omega arith
 total_rises OutPort n flow regs packet h r fits =
     let more : regs.out_port < n = number_rises 16 regs.out_port n (all_bits OutPort) flow.cube.out_port.mask flow.cube.out_port.value refl r.out_port_within fits.place.out_port_fits h.whole h.greater in
@@ -192,33 +164,20 @@ total_rises Arrived n flow regs packet h r fits =
     let more : regs.flags.0 < (set_flag 16 n regs.flags).0 = flag_rises regs.flags.0 n 16 flow.cube.flags.mask flow.cube.flags.value h.can.within fits.state.flags_fits h.whole h.greater in
     omega arith
 
-less : (table next sum sum_after : ℕ) → (table < next) ⊎ ((next ≡ table) × (sum < sum_after)) → next < 256 → sum < 2 ^ 33 → sum_after < 2 ^ 33 → (256 - next) * 2 ^ 33 + (2 ^ 33 - sum_after) < (256 - table) * 2 ^ 33 + (2 ^ 33 - sum)
-less table next sum sum_after (inl later) small before after = omega arith
-less table next sum sum_after (inr same) small before after = let t = same.0 in let s = same.1 in omega arith
-
--- how much is left above a table and the registers: a later table, or greater registers, leave less
-abbrev pub left : ℕ → Regs → ℕ
-left table regs = (256 - table) * 2 ^ 33 + (2 ^ 33 - total regs)
-
--- a proper flow leaves numbers that lie within the registers
-pub proper_in_range : (flow : Flow) (regs : Regs) → IsProperFlow flow → IsInRange regs → IsInRange (outcome flow.ops regs).1
-proper_in_range flow regs (rising h) r = outcome_in_range flow.table flow.ops regs h r
-proper_in_range flow regs (raising reg n h) r =
-    subst (λ ops. IsInRange (outcome ops regs).1) (sym h.only) (set_in_range reg n regs h.can r)
-
--- and where it goes on, it leaves less
-pub proper_leaves_less : (flow : Flow) (table : ℕ) (regs : Regs) (packet : Packet) (next : ℕ) → IsProperFlow flow → flow.table ≡ table → next < 256 → IsInRange regs → CubeFits flow.cube regs packet → (outcome flow.ops regs).0 ≡ Goes next → left next (outcome flow.ops regs).1 < left table regs
-proper_leaves_less flow table regs packet next (rising h) here small r fits goes =
-    let later : flow.table < next = goes_later flow.table flow.ops regs next h goes in
-    let before : total regs < 2 ^ 33 = total_small regs r in
-    let after : total (outcome flow.ops regs).1 < 2 ^ 33 = total_small _ (outcome_in_range flow.table flow.ops regs h r) in
-    less table next (total regs) (total (outcome flow.ops regs).1) (inl (omega arith)) small before after
-proper_leaves_less flow table regs packet next (raising reg n h) here small r fits goes =
-    let before : total regs < 2 ^ 33 = total_small regs r in
-    let more : total regs < total (set_reg reg n regs) = total_rises reg n flow regs packet h r fits in
-    let after : total (set_reg reg n regs) < 2 ^ 33 = total_small _ (set_in_range reg n regs h.can r) in
-    let goes_to : Goes flow.table ≡ Goes next = ap (λ ops. (outcome ops regs).0) (sym h.only) ∙ goes in
-    let same : flow.table ≡ next = cc in
-    let e : total (outcome flow.ops regs).1 ≡ total (set_reg reg n regs) = ap (λ ops. total (outcome ops regs).1) h.only in
-    let small_after : total (outcome flow.ops regs).1 < 2 ^ 33 = omega arith in
-    less table next (total regs) (total (outcome flow.ops regs).1) (inr (omega arith, omega arith)) small before small_after
+-- at the start all are 0
+pub start_in_range : (entry : Entry) → IsInRange (start_regs entry)
+start_in_range entry =
+    record {
+      dp_within = omega arith;
+      in_port_within = omega arith;
+      out_port_within = omega arith;
+      next_within = omega arith;
+      z_in_within = omega arith;
+      z_out_within = omega arith;
+      z_dnat_within = omega arith;
+      z_snat_within = omega arith;
+      state_within = omega arith;
+      verdict_within = omega arith;
+      tier_within = omega arith;
+      flags_within = omega arith;
+    }

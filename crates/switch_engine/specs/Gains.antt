@@ -6,7 +6,7 @@ use Rattle.switch_engine.specs.declared.effect.Effect.{Effect}
 use Rattle.switch_engine.specs.declared.effect.Entry.{Entry}
 use Rattle.switch_engine.specs.declared.walk.RunOut.{RunOut}
 use Rattle.switch_engine.specs.declared.walk.Step.{Step}
-use Rattle.switch_engine.specs.Walk.{IsWalk, start_regs}
+use Rattle.switch_engine.specs.Walk.{IsWalkOf}
 
 -- to what was there came the walk of the packet from table 0 on, and its effects
 pub record Gains (flows : List Flow) (entry : Entry) (packet : Packet) (old new : RunOut) : Type 0 where
@@ -14,7 +14,7 @@ pub record Gains (flows : List Flow) (entry : Entry) (packet : Packet) (old new 
   pub effects : List Effect
   pub all_steps : new.walk ≡ old.walk ++ steps
   pub all_effects : new.effects ≡ old.effects ++ effects
-  pub is_walk : IsWalk flows 0 (start_regs entry) packet steps effects
+  pub is_walk : IsWalkOf flows entry packet steps effects
 
 -- what was there stands at the front of what is there now
 pub record Keeps (old new : RunOut) : Type 0 where

@@ -1,7 +1,9 @@
 -- Definitions that contracts cite.
 pub mod Actions
+pub mod Advance
+pub mod Framed
+pub mod Gains
+pub mod Proper
+pub mod Range
 pub mod Steps
 pub mod Walk
-pub mod Proper
-pub mod Gains
-pub mod Last

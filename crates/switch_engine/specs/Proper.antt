@@ -8,7 +8,9 @@ use Rattle.inet_packet.specs.declared.regs.Reg.{Reg}
 use Rattle.inet_packet.specs.declared.regs.Reg.TheVariants.{Dp, InPort, OutPort, Next, ZIn, ZOut, ZDnat, ZSnat, State, Verdict, Tier, Loopback, Tracked, Blocked, Own, Arrived}
 use Rattle.flow_table.specs.declared.flow.Flow.{Flow}
 use Rattle.flow_table.specs.declared.flow.FlowOp.{FlowOp}
-use Rattle.flow_table.specs.declared.flow.FlowOp.TheVariants.{Set, Go, Drop, Output}
+use Rattle.flow_table.specs.declared.flow.FlowOp.TheVariants.{Set, Go, Drop, Header, Frame, Copies, Output}
+use Rattle.switch_engine.specs.declared.effect.Entry.{Entry}
+use Rattle.switch_engine.specs.declared.effect.Entry.TheVariants.{Vif, Tunnel}
 
 -- how many bits a register has
 abbrev pub width : Reg → ℕ
@@ -76,12 +78,26 @@ pub record CanBeSet (reg : Reg) (n : ℕ) : Type 0 where
   pub within : n < 2 ^ width reg
   pub of_port : reg ≡ InPort → n < 32768
 
--- an action that may stand in a flow of the table: it sets what can be set, and goes on at later tables alone
+-- an action that may stand in a flow of the table: it sets what can be set, and goes on at later tables alone; copies, which
+-- go on at table 34, are made before it
 abbrev pub Rises : ℕ → FlowOp → Type 0
 Rises table (Set reg n) = CanBeSet reg n
 Rises table (Go next) = table < next
 Rises table (Drop cause) = Unit {0}
+Rises table Header = Unit {0}
+Rises table (Frame chassis) = Unit {0}
+Rises table (Copies members) = table < 34
 Rises table (Output port) = Unit {0}
+
+-- an action that sets no register beyond what can be set in it
+abbrev pub Sets : FlowOp → Type 0
+Sets (Set reg n) = CanBeSet reg n
+Sets (Go next) = Unit {0}
+Sets (Drop cause) = Unit {0}
+Sets Header = Unit {0}
+Sets (Frame chassis) = Unit {0}
+Sets (Copies members) = Unit {0}
+Sets (Output port) = Unit {0}
 
 -- a flow that matches the register whole, sets it to a greater number, goes on at its own table and does nothing else
 pub record Raises (flow : Flow) (reg : Reg) (n : ℕ) : Type 0 where
@@ -98,3 +114,8 @@ pub data IsProperFlow (flow : Flow) : Type 0 where
 -- all flows are
 abbrev pub IsProper : List Flow → Type 0
 IsProper flows = (flow : Flow) → Among flow flows → IsProperFlow flow
+
+-- a tunnel entry names a datapath by a key of 24 bits, and a port of entry by one of 15
+abbrev pub IsEntry : Entry → Type 0
+IsEntry (Vif port) = Unit {0}
+IsEntry (Tunnel vni in_key out_key) = (vni < 2 ^ 24) × (in_key < 2 ^ 15)

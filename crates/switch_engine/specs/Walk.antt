@@ -1,25 +1,29 @@
 -- How a packet goes from table to table.
-use Rattle.std.specs.Prelude.{◌≡◌, ℕ, cond, List, [], ◌∷◌}
-use Rattle.std.proofs.Math.Dec.{eqb as nat_eq, leb as nat_le}
+use Rattle.std.specs.Prelude.{◌≡◌, ℕ, cond, List, [], ◌∷◌, ◌++◌}
+use Rattle.std.proofs.Math.Dec.{eqb as nat_eq}
 use Rattle.inet_packet.specs.declared.packet.Packet.{Packet}
-use Rattle.inet_packet.specs.declared.regs.At.TheVariants.{Local}
+use Rattle.inet_packet.specs.declared.regs.At.{At}
+use Rattle.inet_packet.specs.declared.regs.At.TheVariants as at
 use Rattle.inet_packet.specs.declared.regs.Regs.{Regs}
-use Rattle.flow_table.specs.declared.flow.Cause.{Cause}
 use Rattle.flow_table.specs.declared.flow.Cause.TheVariants.{Unbound}
 use Rattle.flow_table.specs.declared.flow.Flow.{Flow}
 use Rattle.flow_table.specs.Matching.{IsBest, NoneMatches}
-use Rattle.switch_engine.specs.declared.actions.End.{End}
-use Rattle.switch_engine.specs.declared.actions.End.TheVariants.{Ended, Goes, Dropped, GivesOut}
+use Rattle.switch_engine.specs.declared.carried.Carried.{Carried}
 use Rattle.switch_engine.specs.declared.effect.Effect.{Effect}
-use Rattle.switch_engine.specs.declared.effect.Effect.TheVariants as effect
+use Rattle.switch_engine.specs.declared.effect.Effect.TheVariants.{Lost}
 use Rattle.switch_engine.specs.declared.effect.Entry.{Entry}
-use Rattle.switch_engine.specs.declared.effect.Entry.TheVariants.{Vif}
+use Rattle.switch_engine.specs.declared.effect.Entry.TheVariants.{Vif, Tunnel}
 use Rattle.switch_engine.specs.declared.walk.Step.{Step}
-use Rattle.switch_engine.specs.Actions.{outcome}
+use Rattle.switch_engine.specs.Actions.{drop_at, outcome, going_on}
+
+-- where a packet came in, as flows match it
+abbrev pub came_in : Entry → At
+came_in (Vif port) = at.Local port
+came_in (Tunnel vni in_key out_key) = at.Tunnel
 
 -- the registers with which a packet comes to table 0: all are 0
 abbrev pub start_regs : Entry → Regs
-start_regs (Vif port) =
+start_regs entry =
     record {
       dp = 0;
       in_port = 0;
@@ -33,28 +37,37 @@ start_regs (Vif port) =
       verdict = 0;
       tier = 0;
       flags = record { 0 = 0 };
-      at = Local port;
+      at = came_in entry;
     }
 
--- a drop names the port of entry up to the last look-up, in table 14, and the port of exit later
-abbrev pub drop_at : ℕ → Cause → Regs → Effect
-drop_at table cause regs = effect.Drop regs.dp (cond (nat_le table 14) regs.in_port regs.out_port) cause
+-- the packet as it comes to table 0
+abbrev pub start : Entry → Packet → Carried
+start entry packet = record { from = 0; table = 0; regs = start_regs entry; packet = packet }
 
--- what becomes of a packet that no flow of the table matches: in table 33 its port is at home nowhere
-abbrev pub unmatched : ℕ → Regs → List Effect
-unmatched table regs = cond (nat_eq table 33) (drop_at table Unbound regs ∷ []) []
+-- a copy whose port isn't at home here is lost where it came straight from a tunnel entry, and else dropped
+abbrev pub stray : Entry → Carried → Effect
+stray (Vif port) copy = drop_at copy.table Unbound copy.regs
+stray (Tunnel vni in_key out_key) copy = cond (nat_eq copy.from 0) Lost (drop_at copy.table Unbound copy.regs)
 
--- how it goes on after the actions of a flow of the table
-abbrev pub Follows : ℕ → End → Regs → Packet → List Step → List Effect → (ℕ → Type 0) → Type 0
-Follows table Ended regs packet steps effects walk = (steps ≡ []) × (effects ≡ [])
-Follows table (Goes next) regs packet steps effects walk = walk next
-Follows table (Dropped cause) regs packet steps effects walk = (steps ≡ []) × (effects ≡ drop_at table cause regs ∷ [])
-Follows table (GivesOut port) regs packet steps effects walk = (steps ≡ []) × (effects ≡ effect.Out port packet ∷ [])
+-- what becomes of a copy that no flow of its table matches: in table 33 its port is at home nowhere, elsewhere it ends
+abbrev pub unmatched : Entry → Carried → List Effect
+unmatched entry copy = cond (nat_eq copy.table 33) (stray entry copy ∷ []) []
 
--- from the table on, the packet may match these flows in turn, with these effects
-abbrev pub IsWalk : List Flow → ℕ → Regs → Packet → List Step → List Effect → Type 0
-IsWalk flows table regs packet [] effects = NoneMatches flows table regs packet × (effects ≡ unmatched table regs)
-IsWalk flows table regs packet (step ∷ steps) effects =
-    (step.table ≡ table)
-    × IsBest flows table regs packet step.flow
-    × Follows table (outcome step.flow.ops regs).0 (outcome step.flow.ops regs).1 packet steps effects (λ next. IsWalk flows next (outcome step.flow.ops regs).1 packet steps effects)
+-- the copies that are left may match these flows in turn, with these effects, each copy going to its end before the next begins
+pub data IsWalk (flows : List Flow) (entry : Entry) : List Carried → List Step → List Effect → Type 0 where
+  over : IsWalk flows entry [] [] []
+  ends : (copy : Carried) (others : List Carried) (steps : List Step) (more all : List Effect)
+      → NoneMatches flows copy.table copy.regs copy.packet
+      → IsWalk flows entry others steps more
+      → all ≡ unmatched entry copy ++ more
+      → IsWalk flows entry (copy ∷ others) steps all
+  takes : (copy : Carried) (others : List Carried) (step : Step) (steps : List Step) (more all : List Effect)
+      → step.table ≡ copy.table
+      → IsBest flows copy.table copy.regs copy.packet step.flow
+      → IsWalk flows entry (going_on (outcome entry step.flow.ops copy) ++ others) steps more
+      → all ≡ (outcome entry step.flow.ops copy).effects ++ more
+      → IsWalk flows entry (copy ∷ others) (step ∷ steps) all
+
+-- the packet may match these flows from table 0 on, until no copy is left, with these effects
+abbrev pub IsWalkOf : List Flow → Entry → Packet → List Step → List Effect → Type 0
+IsWalkOf flows entry packet steps effects = IsWalk flows entry (start entry packet ∷ []) steps effects

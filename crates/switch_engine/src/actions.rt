@@ -1,23 +1,24 @@
 //! What the actions of a flow do.
-ghost use Rattle.std.specs.Prelude.{◌≡◌};
-ghost use Rattle.switch_engine.specs.Actions.{set_flag, set_reg, outcome};
+ghost use Rattle.std.specs.Prelude.{◌≡◌, ◌++◌, [], ◌∷◌, IfOk, OnOk, OnErr, option_to_list};
+ghost use Rattle.std.specs.List.{AllByRecursion};
+ghost use Rattle.switch_engine.specs.Actions.{set_flag, set_reg, with_header, drop_at, frame_to, gone_on, copies_for, outcome};
+ghost use Rattle.switch_engine.specs.Advance.{Extends, IsCarriedInRange};
+ghost use Rattle.switch_engine.specs.Proper.{IsEntry, Sets};
+ghost use Rattle.switch_engine.specs.Range.{IsInRange};
 
-use flow_table::flow::{Cause, FlowOp};
+use crate::carried::Carried;
+use crate::effect::{Effect, Entry};
+use flow_table::flow::{Cause, FlowOp, Member};
 use inet_packet::regs::{Reg, RegFlags, Regs};
+use ovn_base::list::List;
+use ovn_base::memory::NoMemory;
 use ovn_base::name::Name;
 
-/// What the actions of a flow come to.
-#[derive(Clone, Copy, PartialEq, Eq, Debug)]
-pub enum End {
-    /// They ran out.
-    Ended,
-    /// The packet goes on at the table.
-    Goes(u8),
-    /// The packet is dropped.
-    Dropped(Cause),
-    /// The packet leaves the port.
-    GivesOut(Name),
-}
+// The table of the last look-up on the way in.
+const LAST_OF_ENTRY: u8 = 14;
+
+// The table to which the copies for the members of a group go.
+const TO_MEMBER: u8 = 34;
 
 // The flags, with one of them cleared at 0 and set otherwise.
 fn with_flag(flags: RegFlags, flag: RegFlags, value: u32) -> RegFlags
@@ -53,18 +54,122 @@ fn set(regs: &mut Regs, reg: Reg, value: u32)
     }
 }
 
-// Does the actions with the registers, up to the first that ends them or goes on at a table.
-pub(crate) fn run_ops(ops: &[FlowOp], regs: &mut Regs) -> End
-    ensures end { result ≡ (outcome ops.now regs.old).0 }
-    ensures regs { regs.new ≡ (outcome ops.now regs.old).1 }
+// Sets the registers from the header of the tunnel from which the packet came.
+fn read_header(entry: &Entry, regs: &mut Regs)
+    requires entry { IsEntry entry.now }
+    requires in_range { IsInRange regs.old }
+    ensures regs { regs.new ≡ with_header entry.now regs.old }
+    ensures in_range { IsInRange regs.new }
 {
+    if let Entry::Tunnel {
+        vni,
+        in_key,
+        out_key,
+    } = *entry
+    {
+        regs.dp = vni;
+        regs.in_port = u32::from(in_key);
+        regs.out_port = u32::from(out_key);
+    }
+}
+
+// The drop of a packet in the table.
+pub(crate) fn dropped(table: u8, cause: Cause, regs: &Regs) -> Effect
+    requires { IsInRange regs.now }
+    ensures { result ≡ drop_at table cause regs.now }
+{
+    let port = if table <= LAST_OF_ENTRY {
+        regs.in_port
+    } else {
+        regs.out_port
+    };
+    Effect::Drop {
+        vni: regs.dp,
+        port: port as u16,
+        cause,
+    }
+}
+
+// The frame that takes the copy to the chassis.
+fn framed(chassis: Name, copy: &Carried) -> Result<Effect, NoMemory>
+    requires { IsInRange copy.now.regs }
+    ensures { IfOk result (λ e. e ≡ frame_to chassis copy.now) }
+{
+    Ok(Effect::Frame {
+        chassis,
+        vni: copy.regs.dp,
+        in_key: copy.regs.in_port as u16,
+        out_key: copy.regs.out_port as u16,
+        packet: copy.packet.copy()?,
+    })
+}
+
+// Makes a copy for each of the members but the port of entry.
+fn copy_to(members: &[Member], copy: &Carried, made: &mut List<Carried>) -> Result<(), NoMemory>
+    requires in_range { IsInRange copy.now.regs }
+    requires all_in_range { AllByRecursion IsCarriedInRange made.old }
+    ensures ok { OnOk result (made.new ≡ made.old ++ copies_for copy.now members.now) }
+    ensures all_in_range { OnOk result (AllByRecursion IsCarriedInRange made.new) }
+{
+    'members: for member in members {
+        let out_port = u32::from(member.key);
+        if out_port == copy.regs.in_port {
+            continue;
+        }
+        let mut regs = copy.regs;
+        regs.out_port = out_port;
+        regs.z_out = u32::from(member.zone);
+        made.push(Carried {
+            from: copy.table,
+            table: TO_MEMBER,
+            regs,
+            packet: copy.packet.copy()?,
+        })?;
+    }
+    Ok(())
+}
+
+// Does the actions with the copy, up to the first that drops it or goes on at a table. Adds their effects and the copies that
+// are made, and gives the copy itself back where it goes on.
+pub(crate) fn run_ops(
+    entry: &Entry,
+    ops: &[FlowOp],
+    copy: Carried,
+    effects: &mut List<Effect>,
+    made: &mut List<Carried>,
+) -> Result<Option<Carried>, NoMemory>
+    requires entry { IsEntry entry.now }
+    requires sets { AllByRecursion Sets ops.now }
+    requires in_range { IsInRange copy.regs }
+    requires all_in_range { AllByRecursion IsCarriedInRange made.old }
+    ensures itself { IfOk result (λ left. option_to_list left ≡ (outcome entry.now ops.now copy).itself) }
+    ensures effects { OnOk result (effects.new ≡ effects.old ++ (outcome entry.now ops.now copy).effects) }
+    ensures made { OnOk result (made.new ≡ made.old ++ (outcome entry.now ops.now copy).made) }
+    ensures itself_in_range { IfOk result (λ left. AllByRecursion IsCarriedInRange (option_to_list left)) }
+    ensures all_in_range { OnOk result (AllByRecursion IsCarriedInRange made.new) }
+    ensures err { OnErr result (Extends effects.old effects.new) }
+{
+    let mut copy = copy;
     'ops: for op in ops {
-        match *op {
-            FlowOp::Set { reg, value } => set(regs, reg, value),
-            FlowOp::Go(table) => return End::Goes(table),
-            FlowOp::Drop(cause) => return End::Dropped(cause),
-            FlowOp::Output(port) => return End::GivesOut(port),
+        match op {
+            FlowOp::Set { reg, value } => set(&mut copy.regs, *reg, *value),
+            FlowOp::Go(table) => {
+                copy.from = copy.table;
+                copy.table = *table;
+                return Ok(Some(copy));
+            }
+            FlowOp::Drop(cause) => {
+                effects.push(dropped(copy.table, *cause, &copy.regs))?;
+                return Ok(None);
+            }
+            FlowOp::Header => read_header(entry, &mut copy.regs),
+            FlowOp::Frame(chassis) => effects.push(framed(*chassis, &copy)?)?,
+            FlowOp::Copies(members) => copy_to(members.as_slice(), &copy, made)?,
+            FlowOp::Output(port) => effects.push(Effect::Out {
+                port: *port,
+                packet: copy.packet.copy()?,
+            })?,
         }
     }
-    End::Ended
+    Ok(None)
 }

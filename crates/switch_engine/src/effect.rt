@@ -3,6 +3,7 @@ ghost use Rattle.std.specs.Prelude.{◌≡◌, IfOk};
 
 use flow_table::flow::Cause;
 use inet_packet::packet::Packet;
+use ovn_base::list::Bytes;
 use ovn_base::memory::NoMemory;
 use ovn_base::name::Name;
 
@@ -11,15 +12,36 @@ use ovn_base::name::Name;
 pub enum Entry {
     /// At the local port.
     Vif(Name),
+    /// From a tunnel, with the keys of its header: of the datapath (24 bits), of the port of entry (15 bits), and of the
+    /// port or group to which the packet goes.
+    Tunnel { vni: u32, in_key: u16, out_key: u16 },
 }
 
 /// What the tables of a chassis do with a packet.
 #[derive(PartialEq, Eq, Debug, Drop)]
 pub enum Effect {
     /// The packet leaves the port.
-    Out { port: Name, packet: Packet },
+    Out {
+        port: Name,
+        packet: Packet,
+    },
+    /// The packet is sent as a frame to the chassis, with the keys of its datapath (24 bits), of the port of entry (15 bits),
+    /// and of the port or group to which it goes.
+    Frame {
+        chassis: Name,
+        vni: u32,
+        in_key: u16,
+        out_key: u16,
+        packet: Packet,
+    },
     /// The packet is dropped on the datapath of the key (24 bits) at the port of the key (16 bits).
-    Drop { vni: u32, port: u16, cause: Cause },
+    Drop {
+        vni: u32,
+        port: u16,
+        cause: Cause,
+    },
+    /// The packet came from a tunnel for a port that isn't here.
+    Lost,
 }
 
 impl Effect {
@@ -32,11 +54,25 @@ impl Effect {
                 port: *port,
                 packet: packet.copy()?,
             }),
+            Effect::Frame {
+                chassis,
+                vni,
+                in_key,
+                out_key,
+                packet,
+            } => Ok(Effect::Frame {
+                chassis: *chassis,
+                vni: *vni,
+                in_key: *in_key,
+                out_key: *out_key,
+                packet: packet.copy()?,
+            }),
             Effect::Drop { vni, port, cause } => Ok(Effect::Drop {
                 vni: *vni,
                 port: *port,
                 cause: *cause,
             }),
+            Effect::Lost => Ok(Effect::Lost),
         }
     }
 }
@@ -54,6 +90,13 @@ pub enum NetEffect {
         name: Name,
         key: u16,
     },
+    /// The bytes are the frame of the number, which is sent from one chassis to another.
+    Tunnel {
+        frame: u128,
+        from: Name,
+        to: Name,
+        bytes: Bytes,
+    },
     /// The packet leaves the port.
     Out {
         port: Name,
@@ -64,6 +107,10 @@ pub enum NetEffect {
         datapath: Name,
         port: Name,
         cause: Cause,
+    },
+    /// The frame of the number is lost where it arrived.
+    Lost {
+        frame: u128,
     },
 }
 
@@ -81,6 +128,17 @@ impl NetEffect {
                 name: *name,
                 key: *key,
             }),
+            NetEffect::Tunnel {
+                frame,
+                from,
+                to,
+                bytes,
+            } => Ok(NetEffect::Tunnel {
+                frame: *frame,
+                from: *from,
+                to: *to,
+                bytes: bytes.copy()?,
+            }),
             NetEffect::Out { port, packet } => Ok(NetEffect::Out {
                 port: *port,
                 packet: packet.copy()?,
@@ -94,6 +152,7 @@ impl NetEffect {
                 port: *port,
                 cause: *cause,
             }),
+            NetEffect::Lost { frame } => Ok(NetEffect::Lost { frame: *frame }),
         }
     }
 }

@@ -1,12 +1,14 @@
 //! Takes packets through tables.
-ghost use Rattle.std.specs.Prelude.{◌≡◌, ◌<◌, ◌^◌, [], ◌∷◌, IfOk, OnOk, OnErr};
-ghost use Rattle.inet_packet.specs.declared.packet.Packet.{Packet};
-ghost use Rattle.switch_engine.specs.Walk.{start_regs, drop_at, unmatched};
-ghost use Rattle.switch_engine.specs.Last.{effects_of, Walked, Extends};
-ghost use Rattle.switch_engine.specs.Proper.{IsProper};
+ghost use Rattle.std.specs.Prelude.{◌≡◌, ◌++◌, [], ◌∷◌, OnOk, OnErr, reverse};
+ghost use Rattle.std.specs.List.{AllByRecursion};
+ghost use Rattle.switch_engine.specs.Advance.{Advances, Extends, IsCarriedInRange};
 ghost use Rattle.switch_engine.specs.Gains.{Gains, Keeps};
+ghost use Rattle.switch_engine.specs.Proper.{IsEntry, IsProper};
+ghost use Rattle.switch_engine.specs.Range.{IsInRange};
+ghost use Rattle.switch_engine.specs.Walk.{start, unmatched};
 
-use crate::actions::{End, run_ops};
+use crate::actions::{dropped, run_ops};
+use crate::carried::Carried;
 use crate::effect::{Effect, Entry};
 use crate::walk::{RunOut, Step};
 use crate::zones::Zones;
@@ -16,20 +18,20 @@ use inet_packet::packet::Packet;
 use inet_packet::regs::{At, RegFlags, Regs};
 use ovn_base::list::List;
 use ovn_base::memory::NoMemory;
-use ovn_base::name::Name;
 use std::alloc::Global;
-
-// The table of the last look-up on the way in.
-const LAST_OF_ENTRY: u8 = 14;
 
 // The table that finds the local port to which a packet goes.
 const LOCAL_OUT: u8 = 33;
 
-fn registers_at(entry: &Entry) -> Regs
-    ensures { result ≡ start_regs entry.now }
+// The packet as it comes to table 0.
+fn at_start(entry: &Entry, packet: Packet) -> Carried
+    ensures { result ≡ start entry.now packet }
 {
-    let Entry::Vif(port) = *entry;
-    Regs {
+    let at = match *entry {
+        Entry::Vif(port) => At::Local(port),
+        Entry::Tunnel { .. } => At::Tunnel,
+    };
+    let regs = Regs {
         dp: 0,
         in_port: 0,
         out_port: 0,
@@ -42,77 +44,83 @@ fn registers_at(entry: &Entry) -> Regs
         verdict: 0,
         tier: 0,
         flags: RegFlags(0),
-        at: At::Local(port),
-    }
-}
-
-// What a packet comes to at the end of its walk.
-#[derive(Clone, Copy, PartialEq, Eq, Debug)]
-enum Last {
-    Nothing,
-    Drop { vni: u32, port: u16, cause: Cause },
-    Out(Name),
-}
-
-fn dropped(table: u8, cause: Cause, regs: &Regs) -> Last
-    requires in_port { regs.now.in_port < 2 ^ 16 }
-    requires out_port { regs.now.out_port < 2 ^ 16 }
-    ensures { (packet : Packet) → effects_of result packet ≡ drop_at table cause regs.now ∷ [] }
-{
-    let port = if table <= LAST_OF_ENTRY {
-        regs.in_port
-    } else {
-        regs.out_port
+        at,
     };
-    Last::Drop {
-        vni: regs.dp,
-        port: port as u16,
-        cause,
+    Carried {
+        from: 0,
+        table: 0,
+        regs,
+        packet,
     }
 }
 
-fn last_unmatched(table: u8, regs: &Regs) -> Last
-    requires in_port { regs.now.in_port < 2 ^ 16 }
-    requires out_port { regs.now.out_port < 2 ^ 16 }
-    ensures { (packet : Packet) → effects_of result packet ≡ unmatched table regs.now }
+// Ends a copy that matches no flow of its table.
+fn end_unmatched(entry: &Entry, copy: &Carried, effects: &mut List<Effect>) -> Result<(), NoMemory>
+    requires { IsInRange copy.now.regs }
+    ensures ok { OnOk result (effects.new ≡ effects.old ++ unmatched entry.now copy.now) }
+    ensures err { OnErr result (Extends effects.old effects.new) }
 {
-    if table == LOCAL_OUT {
-        dropped(table, Cause::Unbound, regs)
-    } else {
-        Last::Nothing
+    if copy.table != LOCAL_OUT {
+        return Ok(());
     }
+    let effect = match *entry {
+        Entry::Tunnel { .. } if copy.from == 0 => Effect::Lost,
+        _ => dropped(copy.table, Cause::Unbound, &copy.regs),
+    };
+    effects.push(effect)
 }
 
-// Takes a packet from table 0 on, adds the flows that it matches, and tells what it comes to.
-fn follow<T: Lookup>(
+// Puts the copies onto the pending ones, the first of them last.
+fn put_all(copies: List<Carried>, pending: &mut List<Carried>) -> Result<(), NoMemory>
+    ensures { OnOk result (reverse pending.new ≡ copies ++ reverse pending.old) }
+{
+    let mut copies = copies;
+    'copies: while let Some(copy) = copies.pop() {
+        pending.push(copy)?;
+    }
+    Ok(())
+}
+
+// Takes a copy through the table to which it comes: adds the flow that it matches and the effects, and puts what goes on
+// onto the pending copies, of which the last is the next to be carried.
+fn advance<T: Lookup>(
     alloc: Global,
     tables: &T,
     entry: &Entry,
-    packet: &Packet,
-    steps: &mut List<Step>,
-) -> Result<Last, NoMemory>
+    copy: Carried,
+    pending: &mut List<Carried>,
+    out: &mut RunOut,
+) -> Result<(), NoMemory>
     requires proper { IsProper (T.flows tables.now) }
-    ensures ok { IfOk result (Walked (T.flows tables.now) entry.now packet.now steps.old steps.new) }
-    ensures err { OnErr result (Extends steps.old steps.new) }
+    requires entry { IsEntry entry.now }
+    requires in_range { IsCarriedInRange copy }
+    requires all_in_range { AllByRecursion IsCarriedInRange (reverse pending.old) }
+    ensures ok { OnOk result (Advances (T.flows tables.now) entry.now copy (reverse pending.old) (reverse pending.new) out.old out.new) }
+    ensures all_in_range { OnOk result (AllByRecursion IsCarriedInRange (reverse pending.new)) }
+    ensures err { OnErr result (Keeps out.old out.new) }
 {
-    let mut regs = registers_at(entry);
-    let mut table = 0;
-    'tables: loop {
-        let Some(flow) = tables.lookup(table, &regs, packet) else {
-            return Ok(last_unmatched(table, &regs));
-        };
-        steps.push(Step::of(alloc, table, flow)?)?;
-        match run_ops(flow.ops.as_slice(), &mut regs) {
-            End::Ended => return Ok(Last::Nothing),
-            End::Goes(next) => table = next,
-            End::Dropped(cause) => return Ok(dropped(table, cause, &regs)),
-            End::GivesOut(port) => return Ok(Last::Out(port)),
-        }
+    let Some(flow) = tables.lookup(copy.table, &copy.regs, &copy.packet) else {
+        return end_unmatched(entry, &copy, &mut out.effects);
+    };
+    out.walk.push(Step::of(copy.table, flow)?)?;
+    let mut made = List::new(alloc);
+    let itself = run_ops(
+        entry,
+        flow.ops.as_slice(),
+        copy,
+        &mut out.effects,
+        &mut made,
+    )?;
+    put_all(made, pending)?;
+    if let Some(copy) = itself {
+        pending.push(copy)?;
     }
+    Ok(())
 }
 
-/// Takes the packet from table 0 on through the tables, and adds its effects and the flows that it matched. Without
-/// memory what was there stays, with a part of them.
+/// Takes the packet from table 0 on through the tables until no copy of it is left, and adds its effects and the flows that
+/// it matched. Each copy is carried to its end before the next begins: first the one that the actions were done with, then
+/// those that were made of it, in order. Without memory what was there stays, with a part of them.
 pub fn run<T: Lookup>(
     alloc: Global,
     tables: &T,
@@ -123,14 +131,15 @@ pub fn run<T: Lookup>(
     out: &mut RunOut,
 ) -> Result<(), NoMemory>
     requires proper { IsProper (T.flows tables.now) }
+    requires entry { IsEntry entry.now }
     ensures ok { OnOk result (Gains (T.flows tables.now) entry.now packet out.old out.new) }
     ensures err { OnErr result (Keeps out.old out.new) }
     ensures zones { zones.new ≡ zones.old }
 {
-    match follow(alloc, tables, entry, &packet, &mut out.walk)? {
-        Last::Nothing => {}
-        Last::Drop { vni, port, cause } => out.effects.push(Effect::Drop { vni, port, cause })?,
-        Last::Out(port) => out.effects.push(Effect::Out { port, packet })?,
+    let mut pending = List::new(alloc);
+    pending.push(at_start(entry, packet))?;
+    'copies: while let Some(copy) = pending.pop() {
+        advance(alloc, tables, entry, copy, &mut pending, out)?;
     }
     Ok(())
 }

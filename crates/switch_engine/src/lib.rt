@@ -2,8 +2,10 @@
 #![tactic(auto)]
 
 pub mod actions;
+pub mod carried;
 pub mod effect;
 pub mod engine;
+pub mod laws;
 #[cfg(test)]
 mod tests;
 pub mod walk;

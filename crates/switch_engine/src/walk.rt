@@ -18,18 +18,13 @@ pub struct Step {
 
 impl Step {
     // The step that matched the flow in the table, with a copy of the flow.
-    pub(crate) fn of(alloc: Global, table: u8, flow: &Flow) -> Result<Self, NoMemory>
+    pub(crate) fn of(table: u8, flow: &Flow) -> Result<Self, NoMemory>
         ensures { IfOk result (IsStep table flow.now) }
     {
-        let flow = Flow {
-            table: flow.table,
-            priority: flow.priority,
-            rank: flow.rank,
-            cube: flow.cube,
-            ops: List::from_slice(alloc, flow.ops.as_slice())?,
-            cookie: flow.cookie,
-        };
-        Ok(Step { table, flow })
+        Ok(Step {
+            table,
+            flow: flow.copy()?,
+        })
     }
 
     /// An equal step in memory of its own.
@@ -59,6 +54,8 @@ fn copy_steps(steps: &List<Step>) -> Result<List<Step>, NoMemory>
 pub enum Start {
     /// A packet at the port.
     Port(Name),
+    /// The frame of the number, which arrived.
+    Frame(u128),
 }
 
 /// The flows that were matched on a chassis, from one entry.

@@ -1,7 +1,6 @@
-use Rattle.std.proofs.Common.{◌≡◌, drop}
-use Rattle.switch_engine.specs.Actions.{outcome}
+use Rattle.std.proofs.Common.{drop}
+use Rattle.switch_engine.proofs.Doing.{Doing}
 use Rattle.switch_engine.proofs.actions.run_ops.Given as goal
 
--- what is left comes from here to what all comes to
 abbrev pub invariant-ops : goal.invariant-ops
-invariant-ops l = outcome (drop l.op-index l.ops) l.regs ≡ outcome l.fn.ops l.fn.regs
+invariant-ops l = Doing l.fn.entry l.fn.ops l.fn.copy l.fn.effects l.fn.made (drop l.op-index l.ops) l.copy l.effects l.made

@@ -1,0 +1,5 @@
+use Rattle.switch_engine.proofs.Framed.{walk_framed}
+use Rattle.switch_engine.proofs.laws.frames_fit.Goals as goal
+
+pub returns : goal.returns
+returns c = walk_framed
