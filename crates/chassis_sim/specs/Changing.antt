@@ -1,0 +1,80 @@
+-- How what the chassis hold is changed.
+use Rattle.std.specs.Prelude.{◌≡◌, ◌≤◌, ℕ, List, [], ◌∷◌, ◌++◌, map, length, Option, Some, None}
+use Rattle.std.specs.List.{AllByRecursion}
+use Rattle.std.specs.Map.{keys_of}
+use Rattle.ovn_base.specs.declared.delta.Delta.{Delta}
+use Rattle.ovn_base.specs.declared.name.Name.{Name}
+use Rattle.ovn_base.specs.Among.{Among}
+use Rattle.ovn_base.specs.Once.{EachOnce}
+use Rattle.ovn_base.specs.SameName.{same_name}
+use Rattle.flow_table.specs.declared.flow.Flow.{Flow}
+use Rattle.flow_table.specs.Change.{IsDeltaOf, IsReplaced}
+use Rattle.switch_engine.specs.Proper.{IsProper, IsProperFlow}
+use Rattle.chassis_sim.specs.declared.change.SimChange.{SimChange}
+use Rattle.chassis_sim.specs.Settings.{set_in_turn, AreSet}
+use Rattle.chassis_sim.specs.State.{KeyPair, same_pair, State, Room, Seen, named}
+
+-- the flows of a chassis after a delta, if it is given one, by those before
+abbrev pub AreReplaced : Option (Delta Flow) → Option (List Flow) → Option (List Flow) → Type 0
+AreReplaced (Some delta) (Some flows) after = (others : List Flow) × (after ≡ Some others) × IsReplaced flows delta others
+AreReplaced (Some delta) None after = after ≡ None
+AreReplaced None before after = after ≡ before
+
+-- each pair of keys with its name
+abbrev pub given_name : ℕ × ℕ × Name → KeyPair × Option Name
+given_name given = ((given.0, given.1), Some given.2)
+
+-- what a chassis that goes holds afterwards
+abbrev pub gone : Name → Name × Option (List Flow)
+gone name = (name, None)
+
+module _ {T : Type 0} (flows_of : T → List Flow) where
+  -- what a chassis that comes holds
+  abbrev pub come : Name × T → Name × Option (List Flow)
+  come added = (added.0, Some (flows_of added.1))
+
+  -- the chassis that go, and then those that come
+  abbrev pub coming_and_going : SimChange T → List (Name × Option (List Flow))
+  coming_and_going change = map gone change.removed ++ map come change.added
+
+  -- a chassis's flows after the change, by those before: first come the deltas, then chassis go, then chassis come
+  abbrev pub IsChanged : SimChange T → Name → Option (List Flow) → Option (List Flow) → Type 0
+  IsChanged change name before after =
+      (between : Option (List Flow)) × AreReplaced (named change.tables name) before between × (after ≡ set_in_turn same_name (coming_and_going change) name between)
+
+  -- the change is made, and nothing else
+  pub record IsApplied (old : State) (change : SimChange T) (new : State) : Type 0 where
+    pub chassis : (name : Name) → IsChanged change name (named old.chassis name) (named new.chassis name)
+    pub bindings : AreSet same_name change.bound old.bindings new.bindings
+    pub names : AreSet same_pair (map given_name change.names) old.names new.names
+    pub waiting : new.waiting ≡ old.waiting
+    pub next : new.next ≡ old.next
+
+  -- the flows that come are proper
+  pub record IsProperChange (change : SimChange T) : Type 0 where
+    pub deltas : AllByRecursion (λ table. IsProper table.1.added) change.tables
+    pub chassis : AllByRecursion (λ added. IsProper (flows_of added.1)) change.added
+
+-- the delta fits into the tables that have so much room
+abbrev pub FitsIn : Delta Flow → Option ℕ → Type 0
+FitsIn delta None = Unit {0}
+FitsIn delta (Some room) = length delta.added ≤ room
+
+-- the delta is one of these flows
+abbrev pub IsDeltaOfAny : Delta Flow → Option (List Flow) → Type 0
+IsDeltaOfAny delta None = Unit {0}
+IsDeltaOfAny delta (Some flows) = IsDeltaOf flows delta
+
+module _ {T : Type 0} where
+  -- there is room for what the change brings
+  pub record HasRoom (room : Room) (change : SimChange T) : Type 0 where
+    pub chassis : length change.added ≤ room.chassis
+    pub bindings : length change.bound ≤ room.bindings
+    pub names : length change.names ≤ room.names
+    pub flows : AllByRecursion (λ table. FitsIn table.1 (named room.flows table.0)) change.tables
+
+  -- the change was prepared, and its deltas are of the flows that are held
+  pub record IsReady (seen : Seen) (change : SimChange T) : Type 0 where
+    pub room : HasRoom seen.room change
+    pub once : EachOnce (keys_of change.tables)
+    pub deltas : AllByRecursion (λ table. IsDeltaOfAny table.1 (named seen.state.chassis table.0)) change.tables

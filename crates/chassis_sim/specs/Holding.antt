@@ -1,0 +1,34 @@
+-- What always holds of what the chassis hold.
+use Rattle.std.specs.Prelude.{◌≡◌, ◌≤◌, ℕ, List, [], ◌∷◌, Option, Some, None}
+use Rattle.std.specs.List.{AllByRecursion}
+use Rattle.ovn_base.specs.declared.name.Name.{Name}
+use Rattle.inet_packet.specs.declared.packet.Packet.{Packet}
+use Rattle.flow_table.specs.declared.flow.Flow.{Flow}
+use Rattle.switch_engine.specs.declared.effect.Effect.TheVariants.{Lost}
+use Rattle.switch_engine.specs.declared.effect.Entry.{Entry}
+use Rattle.switch_engine.specs.declared.effect.Entry.TheVariants.{Vif}
+use Rattle.switch_engine.specs.declared.walk.RunOut.{RunOut}
+use Rattle.switch_engine.specs.Proper.{IsProper}
+use Rattle.switch_engine.specs.Walk.{IsWalkOf}
+use Rattle.chassis_sim.specs.Frames.{IsWaiting, Brings}
+use Rattle.chassis_sim.specs.State.{State, named}
+
+-- the flows of each chassis are proper
+abbrev pub AreProper : List (Name × List Flow) → Type 0
+AreProper chassis = (name : Name) (flows : List Flow) → named chassis name ≡ Some flows → IsProper flows
+
+-- the flows are proper, numbers begin with 1, and the frames that wait were sent before the next one, each with a whole packet
+pub record IsHeld (state : State) : Type 0 where
+  pub proper : AreProper state.chassis
+  pub some_next : 1 ≤ state.next
+  pub waiting : AllByRecursion (IsWaiting state.next) state.waiting
+
+-- what came of the packet at the port: nothing where no flows are held
+abbrev pub RunsAt : Option (List Flow) → Name → Packet → RunOut → Type 0
+RunsAt None port packet run = (run.walk ≡ []) × (run.effects ≡ [])
+RunsAt (Some flows) port packet run = IsWalkOf flows (Vif port) packet run.walk run.effects
+
+-- what came of the frame: it is lost where no flows are held
+abbrev pub RunsFrom : Option (List Flow) → List ℕ → RunOut → Type 0
+RunsFrom None bytes run = (run.walk ≡ []) × (run.effects ≡ Lost ∷ [])
+RunsFrom (Some flows) bytes run = (entry : Entry) × (packet : Packet) × Brings bytes entry packet × IsWalkOf flows entry packet run.walk run.effects

@@ -1,0 +1,64 @@
+-- What the simulated chassis hold.
+use Rattle.std.specs.Prelude.{ℕ, ◌&&◌, Bool, List, [], Option, slice_get}
+use Rattle.std.specs.Map.{lookup, remove_entry}
+use Rattle.std.specs.Option.{option_and_then}
+use Rattle.std.specs.BTreeMap.{is_at}
+use Rattle.std.specs.Ordering.{nat_cmp}
+use Rattle.std.proofs.Math.Dec.{eqb as nat_eq}
+use Rattle.ovn_base.specs.declared.name.Name.{Name}
+use Rattle.ovn_base.specs.SameName.{same_name}
+use Rattle.flow_table.specs.declared.flow.Flow.{Flow}
+use Rattle.chassis_sim.specs.declared.underlay.WaitingFrame.{WaitingFrame}
+
+-- a datapath key and a port key
+abbrev pub KeyPair : Type 0
+KeyPair = ℕ × ℕ
+
+pub record State : Type 0 where
+  -- the flows that each chassis holds
+  pub chassis : List (Name × List Flow)
+  -- the chassis of each bound port
+  pub bindings : List (Name × Name)
+  -- the name of each pair of keys; at port key 0 that of the datapath itself
+  pub names : List (KeyPair × Name)
+  -- the frames that wait, in order of number
+  pub waiting : List (ℕ × WaitingFrame)
+  -- the number of the next frame
+  pub next : ℕ
+
+-- no chassis, no binding, no name and no frame
+abbrev pub nothing_held : State
+nothing_held = record { chassis = []; bindings = []; names = []; waiting = []; next = 1 }
+
+-- what stands under the name
+abbrev pub named : {X : Type 0} → List (Name × X) → Name → Option X
+named entries name = lookup (same_name name) entries
+
+-- the keys are the same
+abbrev pub same_pair : KeyPair → KeyPair → Bool
+same_pair a b = nat_eq a.0 b.0 && nat_eq a.1 b.1
+
+-- what stands under the number
+abbrev pub numbered : {X : Type 0} → List (ℕ × X) → ℕ → Option X
+numbered entries n = lookup (is_at (nat_cmp n)) entries
+
+-- what waits, without the frame of the number
+abbrev pub without : State → ℕ → State
+without state n = record state { waiting = remove_entry (is_at (nat_cmp n)) state.waiting }
+
+-- the flow of the chassis at the index
+abbrev pub flow_at : State → Name → ℕ → Option Flow
+flow_at state chassis index = option_and_then (λ flows. slice_get flows index) (named state.chassis chassis)
+
+-- for how much more there is room
+pub record Room : Type 0 where
+  pub chassis : ℕ
+  pub bindings : ℕ
+  pub names : ℕ
+  -- by chassis, for how many more flows
+  pub flows : List (Name × ℕ)
+
+-- what is seen of the simulated chassis
+pub record Seen : Type 0 where
+  pub state : State
+  pub room : Room

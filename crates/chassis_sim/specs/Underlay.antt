@@ -1,0 +1,15 @@
+-- What is seen of the underlay.
+use Rattle.std.specs.Prelude.{◌≤◌, ℕ, List}
+use Rattle.std.specs.List.{AllByRecursion}
+use Rattle.chassis_sim.specs.declared.underlay.WaitingFrame.{WaitingFrame}
+use Rattle.chassis_sim.specs.Frames.{IsWaiting}
+
+-- the frames that wait, in order of number, and the number of the next one
+pub record Underway : Type 0 where
+  pub waiting : List (ℕ × WaitingFrame)
+  pub next : ℕ
+
+-- numbers begin with 1, and each frame that waits was sent before the next one
+pub record IsUnderway (waiting : List (ℕ × WaitingFrame)) (next : ℕ) : Type 0 where
+  pub some_next : 1 ≤ next
+  pub each : AllByRecursion (IsWaiting next) waiting

@@ -1,0 +1,16 @@
+//! The chassis as they are simulated: their tables, and the frames between them.
+//!
+//! A [`Sim`](sim::Sim) is handed tables and no records: it takes packets and frames through whatever proper tables its
+//! chassis hold.
+#![tactic(auto)]
+
+pub mod change;
+mod chassis;
+mod frames;
+mod names;
+pub mod out;
+mod passing;
+pub mod sim;
+#[cfg(test)]
+mod tests;
+pub mod underlay;
