@@ -41,16 +41,30 @@ new_sound = record {
     };
     within = record { switches = omega arith; ports = omega arith };
     keys = record {
-      datapaths_sorted = tt;
-      ports_sorted = tt;
+      hold = record {
+        datapath_ranges = (omega arith, omega arith);
+        port_ranges = (omega arith, omega arith);
+        datapaths_in_order = tt;
+        ports_in_order = tt;
+        on_datapath = λ e among. absurd (among_none e among);
+        on_held = λ a among. absurd (among_none a among);
+        datapath_keys = λ a among. absurd (among_none a among);
+        port_keys = λ a among. absurd (among_none a among);
+        datapaths_apart = λ a b among also same. absurd (among_none a among);
+        ports_apart = λ a b among also on same. absurd (among_none a among);
+        datapath_once = λ a b among also same. absurd (among_none a among);
+        port_once = λ a b among also same. absurd (among_none a among);
+        datapath_live = λ e a among also. absurd (among_none e among);
+        port_live = λ e a among also. absurd (among_none e among);
+      };
       datapath_has = λ a switch e. absurd (none-some switch e);
       datapath_of = λ a k e. absurd (none-some k e);
-      datapath_fits = λ a k e. absurd (none-some k e);
-      datapaths_apart = λ a b j k e f same. absurd (none-some j e);
       port_has = λ q port e. absurd (none-some port e);
       port_of = λ q k e. absurd (none-some k e);
-      port_fits = λ q k e. absurd (none-some k e);
-      ports_apart = λ p q j k e f on same. absurd (none-some j e);
+      datapath_range = refl;
+      port_range = refl;
+      no_retired_datapaths = refl;
+      no_retired_ports = refl;
     };
     bound = record {
       port_there = λ q c e. absurd (none-some c e);
@@ -65,6 +79,8 @@ new_sound = record {
       none = λ e. refl;
       switches = λ a switch e. absurd (none-some switch e);
       ports = λ q port e. absurd (none-some port e);
+      datapath_keys = λ a among. absurd (among_none a among);
+      port_keys = λ a among. absurd (among_none a among);
     };
     few = omega arith;
   };

@@ -12,7 +12,7 @@ use Rattle.world_core.specs.Outcome.{matched}
 use Rattle.world_core.specs.Parts.{new_world}
 use Rattle.world_core.specs.Seen.{Seen}
 use Rattle.world_core.specs.State.{events_of}
-use Rattle.world_core.proofs.Named.{IsNamedRecord, IsNamedEvent, ArePortsNamed, none_named, refusal_named, step_named}
+use Rattle.world_core.proofs.Named.{IsNamedRecord, IsNamedEvent, IsNamedState, none_named, refusal_named, step_named}
 use Rattle.ovnsim.specs.Events.{AreEvents, AsksFor, is_too_long, is_no_json, is_read}
 use Rattle.ovnsim.specs.Runs.{Runs, Takes, accepts, refuses}
 
@@ -52,15 +52,15 @@ takes_whole old event own text new (refuses why h e) = subst AreWholeLines (sym 
 -- it names what was picked
 pub record IsReadOff (own : List Pick) (text : List ℕ) (new : Seen) : Type 0 where
   pub picks : picks_in text ≡ own
-  pub named : ArePortsNamed new.state.net
+  pub named : IsNamedState new.state
 
-takes_read : (old : Seen) (event : Event) (own : List Pick) (text : List ℕ) (new : Seen) → ArePortsNamed old.state.net → IsNamedEvent event → Takes old event own text new → IsReadOff own text new
+takes_read : (old : Seen) (event : Event) (own : List Pick) (text : List ℕ) (new : Seen) → IsNamedState old.state → IsNamedEvent event → Takes old event own text new → IsReadOff own text new
 takes_read old event own text new named fine (accepts h e) =
     let step = step_named old.state event h.effects new.state named fine h.step in
     record { picks = ap picks_in h.text ∙ read.accepted (events_of old.state + 1) (matched new.walks) h.effects step.0 ∙ sym e; named = step.1 }
 takes_read old event own text new named fine (refuses why h e) = record {
   picks = ap picks_in h.text ∙ read.refused (events_of old.state + 1) why (refusal_named old.state event why fine h.first) ∙ sym e;
-  named = subst (λ (w : Seen). ArePortsNamed w.state.net) (sym h.kept) named;
+  named = subst (λ (w : Seen). IsNamedState w.state) (sym h.kept) (record { ports = named.ports; keys = named.keys });
 }
 
 -- ---- the text of a run
@@ -74,7 +74,7 @@ run_whole old [] picks text last h = inl h.1
 run_whole old (event ∷ events) picks text last h =
     subst AreWholeLines (sym h.whole) (whole_joined h.first h.rest (takes_whole old event h.own h.first h.mid h.takes) (run_whole h.mid events h.left h.rest last h.others))
 
-run_read : (old : Seen) (events : List Event) (picks : List Pick) (text : List ℕ) (last : Seen) → ArePortsNamed old.state.net → AllByRecursion IsNamedEvent events → Runs old events picks text last → picks_in text ≡ picks
+run_read : (old : Seen) (events : List Event) (picks : List Pick) (text : List ℕ) (last : Seen) → IsNamedState old.state → AllByRecursion IsNamedEvent events → Runs old events picks text last → picks_in text ≡ picks
 run_read old [] picks text last named fine h = ap picks_in h.1 ∙ sym h.0
 run_read old (event ∷ events) picks text last named fine h =
     let one = takes_read old event h.own h.first h.mid named fine.0 h.takes in

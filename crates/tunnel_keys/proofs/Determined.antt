@@ -66,7 +66,7 @@ module _ {X : Type 0} where
       λ i. same i ∷ rest i
 
   -- and so are those that find the same
-  same_found : (es fs : List (Name × X)) → IsByName es → IsByName fs → ((n : Name) (v : X) → at es n ≡ Some v → at fs n ≡ Some v) → ((n : Name) (v : X) → at fs n ≡ Some v → at es n ≡ Some v) → es ≡ fs
+  pub same_found : (es fs : List (Name × X)) → IsByName es → IsByName fs → ((n : Name) (v : X) → at es n ≡ Some v → at fs n ≡ Some v) → ((n : Name) (v : X) → at fs n ≡ Some v → at es n ≡ Some v) → es ≡ fs
   same_found es fs s t there_too here_too = same_entries es fs s t
       (λ e m. at_among fs e.0 e.1 (there_too e.0 e.1 (among_at e.0 e.1 es s m)))
       (λ e m. at_among es e.0 e.1 (here_too e.0 e.1 (among_at e.0 e.1 fs t m)))

@@ -6,9 +6,11 @@ pub mod Taken
 pub mod OwnerLaws
 pub mod Held
 pub mod Planned
+pub mod Room
 pub mod Invariant
 pub mod Faults
 pub mod Determined
 pub mod Listed
 pub mod Fits
 pub mod After
+pub mod Staying

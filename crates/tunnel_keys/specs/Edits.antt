@@ -89,6 +89,15 @@ pub record GivesLeastKeysAfter (between : Keys) (added : List KeyOwner) (after :
 abbrev pub GivesLeastKeys : Keys → List KeyOwner → List KeyOwner → Keys → Type 0
 GivesLeastKeys before added removed after = GivesLeastKeysAfter (retire before removed) added after
 
+-- the port keeps its key where its datapath goes and one of that name comes: the key is then one of the new datapath
+pub record IsMoved (keys : Keys) (added removed : List KeyOwner) (after : Keys) (a : HeldPort) : Type 0 where
+  pub live : IsLive keys (Port a.datapath.name a.owner.name a.owner.birth)
+  pub stays : ¬ Among (Port a.datapath.name a.owner.name a.owner.birth) removed
+  pub gone : Among (Datapath a.datapath.name a.datapath.birth) removed
+  pub birth : Birth
+  pub comes : Among (Datapath a.datapath.name birth) added
+  pub held : Among (record a { datapath = record { name = a.datapath.name; birth = birth } }) (held_ports after)
+
 -- the keys after some edit of these keys
 pub record IsPlanFor (keys after : Keys) : Type 0 where
   pub added : List KeyOwner

@@ -1,7 +1,10 @@
 //! What the definitions of keys and of edits come to.
-ghost use Rattle.std.specs.Prelude.{◌≡◌, ◌↔◌, List};
-ghost use Rattle.tunnel_keys.specs.Keys.{Keys, IsKeys};
-ghost use Rattle.tunnel_keys.specs.Edits.{IsLive, IsThereAfter, GivesKeys, GivesLeastKeys};
+ghost use Rattle.std.specs.Prelude.{◌≡◌, ◌↔◌, ◌⊎◌, List};
+ghost use Rattle.ovn_base.specs.Among.{Among};
+ghost use Rattle.tunnel_keys.specs.Keys.{Keys, IsKeys, held_datapaths, held_ports};
+ghost use Rattle.tunnel_keys.specs.Edits.{IsLive, IsThereAfter, IsMoved, GivesKeys, GivesLeastKeys};
+ghost use Rattle.tunnel_keys.specs.declared.owner.HeldDatapath.{HeldDatapath};
+ghost use Rattle.tunnel_keys.specs.declared.owner.HeldPort.{HeldPort};
 ghost use Rattle.tunnel_keys.specs.declared.owner.KeyOwner.{KeyOwner};
 
 /// The keys before an edit and its owners determine the keys after it.
@@ -15,4 +18,13 @@ pub fn one_plan()
 pub fn owners_after()
     ensures { (keys : Keys) (added removed : List KeyOwner) (after : Keys) → IsKeys keys → GivesKeys keys added removed after
         → (owner : KeyOwner) → IsLive after owner ↔ IsThereAfter keys added removed owner }
+{}
+
+/// An edit loses no key, live or retired: whoever had one has it afterwards, with the same number, and a port with the same
+/// datapath. Only the key of a port that stays while its datapath is replaced by one of that name is then one of the new one.
+pub fn keys_stay()
+    ensures datapaths { (keys : Keys) (added removed : List KeyOwner) (after : Keys) → IsKeys keys → GivesKeys keys added removed after
+        → (a : HeldDatapath) → Among a (held_datapaths keys) → Among a (held_datapaths after) }
+    ensures ports { (keys : Keys) (added removed : List KeyOwner) (after : Keys) → IsKeys keys → GivesKeys keys added removed after → IsKeys after
+        → (a : HeldPort) → Among a (held_ports keys) → Among a (held_ports after) ⊎ IsMoved keys added removed after a }
 {}
