@@ -1,5 +1,5 @@
 -- What the simulated chassis do with the packets of an event.
-use Rattle.std.specs.Prelude.{◌≡◌, ◌⊎◌, ℕ, suc, true, false, List, [], ◌∷◌}
+use Rattle.std.specs.Prelude.{◌≡◌, ◌⊎◌, ℕ, zero, suc, true, false, List, [], ◌∷◌}
 use Rattle.ovn_base.specs.declared.name.Name.{Name}
 use Rattle.inet_packet.specs.Frame.{frame_of}
 use Rattle.inet_packet.specs.Whole.{IsWhole}
@@ -36,7 +36,7 @@ pub record ArrivesFirst (s : sim.State) (before : SimOut) (Others : sim.State �
 
 -- the lowest frame arrives again and again, until none waits or so many arrived
 abbrev pub AreDrained : ℕ → sim.State → SimOut → SimOut → sim.State → Type 0
-AreDrained 0 s before after new = (after ≡ before) × (new ≡ s)
+AreDrained zero s before after new = (after ≡ before) × (new ≡ s)
 AreDrained (suc k) s before after new = ((s.waiting ≡ []) × (after ≡ before) × (new ≡ s)) ⊎ ArrivesFirst s before (λ mid between. AreDrained k mid between after new)
 
 -- the packet goes in, and then all that wait arrive

@@ -1,5 +1,5 @@
 -- What an accepted event does to the network.
-use Rattle.std.specs.Prelude.{◌≡◌, ◌⊎◌, ℕ, suc, ◌+◌, Bool, true, false, List, [], ◌∷◌, ◌++◌, length, Some}
+use Rattle.std.specs.Prelude.{◌≡◌, ◌⊎◌, ℕ, zero, suc, ◌+◌, Bool, true, false, List, [], ◌∷◌, ◌++◌, length, Some}
 use Rattle.std.specs.Map.{remove_entry}
 use Rattle.std.specs.BTreeMap.{is_at}
 use Rattle.std.specs.Ordering.{nat_cmp}
@@ -70,7 +70,7 @@ pub record ArrivesFirst (m : State) (effects : List NetEffect) (Others : State �
 
 -- the lowest crossing arrives again and again, until none waits or so many arrived
 abbrev pub Drains : ℕ → State → List NetEffect → State → Type 0
-Drains 0 m effects after = (effects ≡ []) × (after ≡ m)
+Drains zero m effects after = (effects ≡ []) × (after ≡ m)
 Drains (suc k) m effects after = ((m.waiting ≡ []) × (effects ≡ []) × (after ≡ m)) ⊎ ArrivesFirst m effects (λ mid more. Drains k mid more after)
 
 -- so many arrive at most in one event
