@@ -11,7 +11,7 @@ use Rattle.ovn_base.specs.declared.name.Name.{Name}
 use Rattle.switch_engine.specs.declared.effect.NetEffect.{NetEffect}
 use Rattle.switch_engine.specs.declared.effect.NetEffect.TheVariants as effect
 use Rattle.event_lines.specs.declared.refusal.Refusal.{Refusal}
-use Rattle.event_lines.specs.declared.refusal.Refusal.TheVariants.{Read, NoSuch, NotBuilt}
+use Rattle.event_lines.specs.declared.refusal.Refusal.TheVariants.{Read, NoSuch, DuplicateName, LimitChassis, NoFrame, TooManyFrames, NotBuilt}
 
 -- what was picked: the tunnel key of a datapath, or of a port
 pub data Pick : Type 0 where
@@ -48,15 +48,19 @@ abbrev pub picks_of : List NetEffect → List Pick
 picks_of [] = []
 picks_of (effect.DatapathKey name key ∷ effects) = datapath_key name key ∷ picks_of effects
 picks_of (effect.PortKey name key ∷ effects) = port_key name key ∷ picks_of effects
+picks_of (effect.Tunnel frame from to bytes ∷ effects) = picks_of effects
 picks_of (effect.Out port packet ∷ effects) = picks_of effects
 picks_of (effect.Drop datapath port cause ∷ effects) = picks_of effects
+picks_of (effect.Lost frame ∷ effects) = picks_of effects
 
 -- the names in the effect are names, and a key has at most 64 bits
 abbrev pub IsNamedEffect : NetEffect → Type 0
 IsNamedEffect (effect.DatapathKey name key) = IsName name × (key < 2 ^ 64)
 IsNamedEffect (effect.PortKey name key) = IsName name × (key < 2 ^ 64)
+IsNamedEffect (effect.Tunnel frame from to bytes) = IsName from × IsName to
 IsNamedEffect (effect.Out port packet) = IsName port
 IsNamedEffect (effect.Drop datapath port cause) = IsName datapath × IsName port
+IsNamedEffect (effect.Lost frame) = Unit {0}
 
 abbrev pub AreNamed : List NetEffect → Type 0
 AreNamed effects = AllByRecursion IsNamedEffect effects
@@ -65,6 +69,10 @@ AreNamed effects = AllByRecursion IsNamedEffect effects
 abbrev pub IsNamedRefusal : Refusal → Type 0
 IsNamedRefusal (Read fault) = Unit {0}
 IsNamedRefusal (NoSuch name) = IsName name
+IsNamedRefusal (DuplicateName name) = IsName name
+IsNamedRefusal LimitChassis = Unit {0}
+IsNamedRefusal (NoFrame frame) = Unit {0}
+IsNamedRefusal TooManyFrames = Unit {0}
 IsNamedRefusal NotBuilt = Unit {0}
 
 -- the text is made of whole lines: it is empty, or a line feed ends it

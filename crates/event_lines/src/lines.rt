@@ -1,9 +1,9 @@
 //! The lines of events.
 ghost use Rattle.std.specs.Prelude.{◌≡◌, ◌++◌, codes, decimal, OnOk, OnErr};
-ghost use Rattle.event_lines.specs.Lines.{cause_name, words_of, line_of, ok_line, lines_of, refusal_words, refused_line, end_line};
+ghost use Rattle.event_lines.specs.Lines.{cause_name, route_words, words_of, line_of, ok_line, lines_of, refusal_words, refused_line, end_line};
 ghost use Rattle.event_lines.specs.Text.{StartsWith};
 
-use crate::put::{put, put_frame, put_number};
+use crate::put::{put, put_frame, put_hex, put_number, put_wide};
 use crate::refusal::Refusal;
 use edit_reader::event::ReadRefusal;
 use flow_table::flow::Cause;
@@ -25,6 +25,8 @@ fn put_cause(cause: Cause, out: &mut Vec<u8>) -> Result<(), NoMemory>
     ensures err { OnErr result (StartsWith out.new.items out.old.items) }
 {
     match cause {
+        Cause::BadSource => put(b"bad-source", out),
+        Cause::Vlan => put(b"vlan", out),
         Cause::UnknownAddress => put(b"unknown-address", out),
         Cause::Loopback => put(b"loopback", out),
         Cause::Unbound => put(b"unbound", out),
@@ -42,6 +44,18 @@ fn put_key(kind: &[u8], name: &Name, key: u64, out: &mut Vec<u8>) -> Result<(), 
     put_number(key, out)
 }
 
+// From one chassis to another, and the bytes in hexadecimal digits.
+fn put_route(from: &Name, to: &Name, bytes: &[u8], out: &mut Vec<u8>) -> Result<(), NoMemory>
+    ensures ok { OnOk result (out.new.items ≡ out.old.items ++ route_words from.now to.now bytes.now) }
+    ensures err { OnErr result (StartsWith out.new.items out.old.items) }
+{
+    put(from.text(), out)?;
+    put(b" ", out)?;
+    put(to.text(), out)?;
+    put(b" ", out)?;
+    put_hex(bytes, out)
+}
+
 fn put_words(effect: &NetEffect, out: &mut Vec<u8>) -> Result<(), NoMemory>
     ensures ok { OnOk result (out.new.items ≡ out.old.items ++ words_of effect.now) }
     ensures err { OnErr result (StartsWith out.new.items out.old.items) }
@@ -51,6 +65,17 @@ fn put_words(effect: &NetEffect, out: &mut Vec<u8>) -> Result<(), NoMemory>
             put_key(b"key datapath ", name, u64::from(*key), out)
         }
         NetEffect::PortKey { name, key } => put_key(b"key port ", name, u64::from(*key), out),
+        NetEffect::Tunnel {
+            frame,
+            from,
+            to,
+            bytes,
+        } => {
+            put(b"tunnel ", out)?;
+            put_wide(*frame, out)?;
+            put(b" ", out)?;
+            put_route(from, to, bytes.as_slice(), out)
+        }
         NetEffect::Out { port, packet } => {
             put(b"out ", out)?;
             put(port.text(), out)?;
@@ -68,6 +93,10 @@ fn put_words(effect: &NetEffect, out: &mut Vec<u8>) -> Result<(), NoMemory>
             put(port.text(), out)?;
             put(b" ", out)?;
             put_cause(*cause, out)
+        }
+        NetEffect::Lost { frame } => {
+            put(b"lost ", out)?;
+            put_wide(*frame, out)
         }
     }
 }
@@ -123,6 +152,16 @@ fn put_refusal(refusal: &Refusal, out: &mut Vec<u8>) -> Result<(), NoMemory>
             put(b"NoSuch ", out)?;
             put(name.text(), out)
         }
+        Refusal::DuplicateName(name) => {
+            put(b"DuplicateName ", out)?;
+            put(name.text(), out)
+        }
+        Refusal::LimitChassis => put(b"Limit chassis", out),
+        Refusal::NoFrame(frame) => {
+            put(b"NoFrame ", out)?;
+            put_wide(*frame, out)
+        }
+        Refusal::TooManyFrames => put(b"TooManyFrames", out),
         Refusal::NotBuilt => put(b"NotBuilt", out),
     }
 }

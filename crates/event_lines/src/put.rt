@@ -26,8 +26,16 @@ pub fn put_number(number: u64, out: &mut Vec<u8>) -> Result<(), NoMemory>
     put(Buffer::new().format(number).as_bytes(), out)
 }
 
+// The digits of a number of up to 128 bits, in base 10.
+pub fn put_wide(number: u128, out: &mut Vec<u8>) -> Result<(), NoMemory>
+    ensures ok { OnOk result (out.new.items ≡ out.old.items ++ decimal number) }
+    ensures err { OnErr result (StartsWith out.new.items out.old.items) }
+{
+    put(Buffer::new().format(number).as_bytes(), out)
+}
+
 // The hexadecimal digits of the bytes, in lower case.
-fn put_hex(bytes: &[u8], out: &mut Vec<u8>) -> Result<(), NoMemory>
+pub fn put_hex(bytes: &[u8], out: &mut Vec<u8>) -> Result<(), NoMemory>
     ensures ok { OnOk result (out.new.items ≡ out.old.items ++ encode_lower bytes.now) }
     ensures err { OnErr result (StartsWith out.new.items out.old.items) }
 {
