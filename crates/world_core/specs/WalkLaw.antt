@@ -64,3 +64,18 @@ ArrivalLaw =
     → (steps : List Step) (effects : List Effect)
     → IsWalkOf flows (entry_of m.keys x) packet steps effects
     → AllZip (IsNumbered m.keys) (arrival m n x packet) effects
+
+-- through whatever lists of exactly the flows of one chassis, a packet takes one walk
+abbrev pub OneWalkLaw : Type 0
+OneWalkLaw =
+    (m : State) (zones : List (Name × ℕ)) (c : Name) (flows more : List Flow)
+    → IsValid m.net
+    → HaveKeys m.net m.keys
+    → AreBound m zones
+    → AreFlowsOf m zones c flows
+    → AreFlowsOf m zones c more
+    → (entry : Entry) (packet : Packet)
+    → (steps others : List Step) (effects last : List Effect)
+    → IsWalkOf flows entry packet steps effects
+    → IsWalkOf more entry packet others last
+    → (steps ≡ others) × (effects ≡ last)

@@ -1,7 +1,7 @@
 //! What the tables of a chassis do with packets, and what the simulated chassis do. Each function does nothing: call it, and
 //! its clause is a fact of the call.
 ghost use Rattle.world_core.specs.Refinement.{ArrivalRefines, Begins, EntryRefines, Finishes};
-ghost use Rattle.world_core.specs.WalkLaw.{ArrivalLaw, EntryLaw};
+ghost use Rattle.world_core.specs.WalkLaw.{ArrivalLaw, EntryLaw, OneWalkLaw};
 
 /// What the tables of a chassis do with a packet from a port is what the logical network says.
 pub fn entry_law()
@@ -15,6 +15,12 @@ pub fn arrival_law()
 {
 }
 
+/// Through the flows of a chassis, in whatever order they are held, a packet takes one walk.
+pub fn one_walk()
+    ensures { OneWalkLaw }
+{
+}
+
 /// What the simulated chassis do with a packet, and with a frame that arrives, is a step of the network, whose state they hold
 /// afterwards.
 pub fn refinement()
@@ -23,4 +29,6 @@ pub fn refinement()
     ensures arrives { ArrivalRefines }
     ensures finishes { Finishes }
 {
+    entry_law();
+    arrival_law();
 }
