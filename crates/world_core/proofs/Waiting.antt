@@ -1,15 +1,15 @@
 -- Lists by number: what is found, what is removed, what comes behind.
 use Rattle.std.specs.Prelude.{◌≡◌, ◌<◌, ◌≤◌, ◌+◌, ℕ, suc, Bool, true, false, cond, List, [], ◌∷◌, ◌++◌, length, map, Option, Some, None, option_map, nat_lt, refl}
-use Rattle.std.proofs.Common.{sym, ap, ◌∙◌, subst, arith, inl, inr, ltb-true, lt-ltb}
+use Rattle.std.proofs.Common.{sym, ap, ◌∙◌, subst, arith, inl, inr, lt-ltb, le-ltb, ne_eqb}
 use Rattle.std.proofs.Math.Dec.{eqb as nat_eq}
 use Rattle.std.proofs.lemmas.Bool.{cases_Bool, cond-true, cond-false, false≢true}
 use Rattle.std.proofs.lemmas.Bool.Decides.{Decides-eqb}
 use Rattle.std.proofs.lemmas.Option.{same_Some, none-some}
-use Rattle.std.specs.BTreeMap.{is_at}
+use Rattle.std.specs.BTreeMap.{insert_entry, is_at}
 use Rattle.std.specs.List.{AllByRecursion}
 use Rattle.std.specs.List.Sorted.{IsStrictlySortedBy}
 use Rattle.std.specs.Map.{keys_of, lookup, remove_entry}
-use Rattle.std.specs.Ordering.{is_eq, nat_cmp}
+use Rattle.std.specs.Ordering.{is_eq, match_ordering, nat_cmp}
 use Rattle.std.specs.declared.cmp.Ordering.TheVariants.{Less, Equal, Greater}
 use Rattle.ovn_base.specs.Among.{Among, here, there}
 use Rattle.ovn_base.proofs.AmongLaws.{among_cases, among_none, among_append, among_left}
@@ -106,3 +106,14 @@ module _ {X Y : Type 0} (f : X → Y) where
           → cond b (map over ws) (over w ∷ remove_entry (is_at (nat_cmp n)) (map over ws)) ≡ map over (cond b ws (w ∷ remove_entry (is_at (nat_cmp n)) ws))
       by true rest = refl
       by false rest = ap (λ r. over w ∷ r) rest
+
+greater_is : (a b : ℕ) → b < a → nat_cmp a b ≡ Greater
+greater_is a b h = cond-false _ _ _ (le-ltb a b (omega (arith, h))) ∙ cond-false _ _ _ (ne_eqb a b (λ e. omega (arith, e, h)))
+
+module _ {X : Type 0} where
+  -- what is put at a number greater than all comes behind
+  pub put_behind : (ws : List (ℕ × X)) (n : ℕ) (x : X) → ((k : ℕ) (y : X) → Among (k, y) ws → k < n) → insert_entry nat_cmp ws n x ≡ ws ++ (n, x) ∷ []
+  put_behind [] n x below = refl
+  put_behind (w ∷ ws) n x below =
+      ap (λ o. match_ordering o ((n, x) ∷ w ∷ ws) ((w.0, x) ∷ ws) (w ∷ insert_entry nat_cmp ws n x)) (greater_is n w.0 (below w.0 w.1 here))
+      ∙ ap (λ r. w ∷ r) (put_behind ws n x (λ k y m. below k y (there m)))

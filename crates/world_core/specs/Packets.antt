@@ -1,8 +1,9 @@
 -- What packets that go through the chassis of a world leave.
-use Rattle.std.specs.Prelude.{◌≡◌, ◌++◌, ℕ, Bool, List, Some}
+use Rattle.std.specs.Prelude.{◌≡◌, ◌++◌, ℕ, Bool, List, map, Some}
 use Rattle.ovn_base.specs.Among.{Among}
 use Rattle.ovn_base.specs.ByName.{at}
 use Rattle.ovn_base.specs.declared.name.Name.{Name}
+use Rattle.chassis_sim.specs.InNames.{frames_sent}
 use Rattle.chassis_sim.specs.Passing as sim
 use Rattle.chassis_sim.specs.State as held
 use Rattle.chassis_sim.specs.declared.out.SimOut.{SimOut}
@@ -12,7 +13,7 @@ use Rattle.switch_engine.specs.declared.effect.NetEffect.{NetEffect}
 use Rattle.world_core.specs.Effects.{spelled}
 use Rattle.world_core.specs.Passing.{AreDrained, GoesIn}
 use Rattle.world_core.specs.Refinement.{IsAmidst}
-use Rattle.world_core.specs.Seen.{Seen, AreHeld}
+use Rattle.world_core.specs.Seen.{Seen, AreHeld, frame_of_crossing}
 use Rattle.world_core.specs.Sound.{MayWait}
 use Rattle.world_core.specs.State.{State}
 use Rattle.world_core.specs.Step.{Enters, Arrives, Drains}
@@ -56,3 +57,8 @@ pub record IsSentFrom (m : State) (p to : Name) (bytes : List ℕ) (x : Crossing
   pub may : MayWait m x
   pub home : x.home ≡ to
   pub spelled_so : bytes ≡ spelled m.keys x
+
+-- these crossings, each with its number, are those of the frames among the effects of a packet from the port
+pub record AreSentBy (m : State) (p : Name) (effects : List NetEffect) (crossings : List (ℕ × Crossing)) : Type 0 where
+  pub frames : frames_sent effects ≡ map (frame_of_crossing m.keys) crossings
+  pub from : (n : ℕ) (x : Crossing) → Among (n, x) crossings → IsSentFrom m p x.home (spelled m.keys x) x
