@@ -74,7 +74,6 @@ module _ (m : State) (zones : List (Name × ℕ)) (more : ℕ) (s : sim.State) (
       on_the_way = record {
         crossings = record { in_order = a.crossings.in_order; below = a.crossings.below; may = λ n x w. may_then x (a.crossings.may n x w); first = a.crossings.first };
         few = few_sent;
-        none_retired = λ e. absurd (some e);
         none = λ z. absurd (omega (arith, z));
       };
       few = omega (arith, events);
@@ -100,6 +99,8 @@ module _ (m : State) (zones : List (Name × ℕ)) (more : ℕ) (s : sim.State) (
     port_of = a.keys.port_of;
     datapath_range = a.keys.datapath_range;
     port_range = a.keys.port_range;
+    no_retired_datapaths = refl;
+    no_retired_ports = refl;
   }
 
   none_waits : m.waiting ≡ [] → (n : ℕ) (x : Crossing) → Among (n, x) m.waiting → ⊥
@@ -117,7 +118,6 @@ module _ (m : State) (zones : List (Name × ℕ)) (more : ℕ) (s : sim.State) (
       on_the_way = record {
         crossings = record { in_order = a.crossings.in_order; below = a.crossings.below; may = λ n x w. absurd (none_waits e n x w); first = a.crossings.first };
         few = few_sent;
-        none_retired = λ _. (refl, refl);
         none = λ z. absurd (omega (arith, z));
       };
       few = omega (arith, events);

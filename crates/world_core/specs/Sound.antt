@@ -67,6 +67,9 @@ pub record HaveKeys (net : Network) (keys : Keys) : Type 0 where
   -- no event changes the ranges
   pub datapath_range : keys.datapath_range ≡ 16777215
   pub port_range : keys.port_range ≡ 32767
+  -- no record goes yet, so that no key is retired
+  pub no_retired_datapaths : keys.retired_datapaths ≡ []
+  pub no_retired_ports : keys.retired_ports ≡ []
 
 -- each binding joins a port and a chassis that are there; there are at most 64 chassis; and each bound port has a zone number, which no
 -- other port has on its chassis
@@ -122,11 +125,10 @@ pub record AreCrossings (m : State) : Type 0 where
   pub may : (n : ℕ) (x : Crossing) → Among (n, x) m.waiting → MayWait m x
   pub first : 1 ≤ m.next
 
--- between events: there weren't many; where none waits, no key is retired; and where no event was accepted, none waits
+-- between events: there weren't many, and where no event was accepted, none waits
 pub record AreOnTheWay (m : State) : Type 0 where
   pub crossings : AreCrossings m
   pub few : m.next ≤ 1 + 2 ^ 64 * events_of m
-  pub none_retired : m.waiting ≡ [] → (m.keys.retired_datapaths ≡ []) × (m.keys.retired_ports ≡ [])
   pub none : m.accepted ≡ 0 → m.waiting ≡ []
 
 -- the flows are exactly those of the set, each once
