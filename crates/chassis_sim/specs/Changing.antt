@@ -65,16 +65,24 @@ abbrev pub IsDeltaOfAny : Delta Flow → Option (List Flow) → Type 0
 IsDeltaOfAny delta None = Unit {0}
 IsDeltaOfAny delta (Some flows) = IsDeltaOf flows delta
 
+-- each delta fits into the tables of its chassis
+abbrev pub AllFit : List (Name × ℕ) → List (Name × Delta Flow) → Type 0
+AllFit rooms tables = AllByRecursion (λ table. FitsIn table.1 (named rooms table.0)) tables
+
+-- each delta is one of the flows of its chassis
+abbrev pub AllAreDeltas : List (Name × List Flow) → List (Name × Delta Flow) → Type 0
+AllAreDeltas chassis tables = AllByRecursion (λ table. IsDeltaOfAny table.1 (named chassis table.0)) tables
+
 module _ {T : Type 0} where
   -- there is room for what the change brings
   pub record HasRoom (room : Room) (change : SimChange T) : Type 0 where
     pub chassis : length change.added ≤ room.chassis
     pub bindings : length change.bound ≤ room.bindings
     pub names : length change.names ≤ room.names
-    pub flows : AllByRecursion (λ table. FitsIn table.1 (named room.flows table.0)) change.tables
+    pub flows : AllFit room.flows change.tables
 
   -- the change was prepared, and its deltas are of the flows that are held
   pub record IsReady (seen : Seen) (change : SimChange T) : Type 0 where
     pub room : HasRoom seen.room change
     pub once : EachOnce (keys_of change.tables)
-    pub deltas : AllByRecursion (λ table. IsDeltaOfAny table.1 (named seen.state.chassis table.0)) change.tables
+    pub deltas : AllAreDeltas seen.state.chassis change.tables

@@ -51,7 +51,7 @@ pub data IsInjected (old : State) (port : Name) (packet : Packet) (before after 
 
 -- the frame of the number waits on only where it is kept
 abbrev pub arrived : State → ℕ → Bool → State
-arrived state n keep = cond keep state (without state n)
+arrived state n keep = record state { waiting = cond keep state.waiting (without state n).waiting }
 
 -- the packet that the waiting frame carries comes from the tunnel to the flows of the chassis to which the frame goes; where
 -- that chassis is gone the frame is lost

@@ -1,12 +1,11 @@
 //! The tables of each chassis, and values that are set under keys.
 ghost use Rattle.std.specs.Prelude.{◌≡◌, ◌≤◌, ◌<◌, ◌+◌, ℕ, Bool, false, cond, is_some, if◌then◌else◌, IsSome, OnOk, Some, None, length, map};
-ghost use Rattle.std.specs.List.{AllByRecursion};
 ghost use Rattle.std.specs.Map.{keys_of, lookup};
 ghost use Rattle.indexmap.specs.IndexMap.{get, spare};
 ghost use Rattle.ovn_base.specs.declared.name.Name.{Name};
 ghost use Rattle.ovn_base.specs.Once.{EachOnce};
 ghost use Rattle.ovn_base.specs.SameName.{same_name};
-ghost use Rattle.chassis_sim.specs.Changing.{AreReplaced, FitsIn, IsDeltaOfAny, given_name, gone, come};
+ghost use Rattle.chassis_sim.specs.Changing.{AreReplaced, FitsIn, IsDeltaOfAny, AllFit, AllAreDeltas, given_name, gone, come};
 ghost use Rattle.chassis_sim.specs.Settings.{AreSet};
 ghost use Rattle.chassis_sim.specs.State.{named, same_pair};
 ghost use Rattle.chassis_sim.specs.Tables.{flows_held, rooms_held};
@@ -45,7 +44,7 @@ pub(crate) fn prepare_each<T: Lookup>(
 ) -> Result<(), NoMemory>
     requires once { EachOnce (keys_of deltas.now) }
     ensures flows { flows_held T.flows held.new.entries ≡ flows_held T.flows held.old.entries }
-    ensures fit { OnOk result (AllByRecursion (λ table. FitsIn table.1 (named (rooms_held T.room held.new.entries) table.0)) deltas.now) }
+    ensures fit { OnOk result (AllFit (rooms_held T.room held.new.entries) deltas.now) }
     ensures spare { spare held.new ≡ spare held.old }
 {
     'deltas: for (name, delta) in deltas {
@@ -74,8 +73,8 @@ pub(crate) fn replace_each<T: Lookup>(
     deltas: List<(Name, Delta<Flow>)>,
 )
     requires once { EachOnce (keys_of deltas) }
-    requires fit { AllByRecursion (λ table. FitsIn table.1 (named (rooms_held T.room held.old.entries) table.0)) deltas }
-    requires deltas { AllByRecursion (λ table. IsDeltaOfAny table.1 (named (flows_held T.flows held.old.entries) table.0)) deltas }
+    requires fit { AllFit (rooms_held T.room held.old.entries) deltas }
+    requires deltas { AllAreDeltas (flows_held T.flows held.old.entries) deltas }
     ensures replaced { (name : Name) → AreReplaced (named deltas name) (named (flows_held T.flows held.old.entries) name) (named (flows_held T.flows held.new.entries) name) }
     ensures spare { spare held.new ≡ spare held.old }
 {

@@ -193,9 +193,7 @@ impl<T: Lookup + Drop> Sim<T> {
         };
         let chassis = arriving.to;
         let run = self.run_from(&chassis, arriving.bytes.as_slice(), now)?;
-        if !keep {
-            self.underlay.take(frame);
-        }
+        self.underlay.arrived(frame, keep);
         let start = Start::Frame(frame);
         tell(&self.names, &mut self.underlay, chassis, &start, run, out)?;
         Ok(())
@@ -206,10 +204,11 @@ impl<T: Lookup + Drop> Sim<T> {
     pub fn lose(&mut self, frame: u128) -> Result<(), SimFault>
         ensures { AnswersLose result self.old frame self.new }
     {
-        match self.underlay.take(frame) {
-            Some(_) => Ok(()),
-            None => Err(SimFault::NoFrame(frame)),
+        if self.underlay.frame(frame).is_none() {
+            return Err(SimFault::NoFrame(frame));
         }
+        self.underlay.take(frame);
+        Ok(())
     }
 
     // What comes of the packet at the port on the chassis: nothing where no such chassis is held.

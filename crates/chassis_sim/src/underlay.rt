@@ -1,5 +1,5 @@
 //! The underlay: frames on their way between chassis.
-ghost use Rattle.std.specs.Prelude.{◌≡◌, ◌+◌, ◌<◌, ◌^◌, ◌++◌, ◌∷◌, [], ℕ, IfOk, OnOk, OnErr, IfSome, length};
+ghost use Rattle.std.specs.Prelude.{◌≡◌, ◌+◌, ◌<◌, ◌^◌, ◌++◌, ◌∷◌, [], cond, ℕ, IfOk, OnOk, OnErr, IfSome, length};
 ghost use Rattle.std.specs.Option.{option_copied};
 ghost use Rattle.std.specs.Map.{remove_entry};
 ghost use Rattle.std.specs.BTreeMap.{is_at};
@@ -88,6 +88,17 @@ impl Underlay {
         ensures next { self.new.next ≡ self.old.next }
     {
         self.waiting.remove(&number)
+    }
+
+    // Takes the frame of this number away, unless it is kept.
+    pub(crate) fn arrived(&mut self, number: u128, keep: bool)
+        ensures waiting { self.new.waiting ≡ cond keep self.old.waiting (remove_entry (is_at (nat_cmp number)) self.old.waiting) }
+        ensures next { self.new.next ≡ self.old.next }
+    {
+        if keep {
+            return;
+        }
+        self.take(number);
     }
 
     // Sends a frame, which waits behind the others.

@@ -1,0 +1,70 @@
+-- What came of a packet at a port, and of a frame that arrived.
+use Rattle.std.specs.Prelude.{◌≡◌, ℕ, ◌++◌, Bool, cond, List, [], ◌∷◌, Option, Some, None, IsSome, IsErrAnd, Result, Ok, Err, refl}
+use Rattle.std.specs.Map.{remove_entry}
+use Rattle.std.specs.BTreeMap.{is_at}
+use Rattle.std.specs.Ordering.{nat_cmp}
+use Rattle.std.proofs.Common.{sym, ap, subst, ◌∙◌}
+use Rattle.ovn_base.specs.declared.name.Name.{Name}
+use Rattle.inet_packet.specs.declared.packet.Packet.{Packet}
+use Rattle.flow_table.specs.declared.flow.Flow.{Flow}
+use Rattle.switch_engine.specs.declared.effect.Effect.{Effect}
+use Rattle.switch_engine.specs.declared.effect.Effect.TheVariants.{Lost}
+use Rattle.switch_engine.specs.declared.effect.Entry.{Entry}
+use Rattle.switch_engine.specs.declared.effect.Entry.TheVariants.{Vif, Tunnel}
+use Rattle.switch_engine.specs.declared.walk.RunOut.{RunOut}
+use Rattle.switch_engine.specs.declared.walk.Start.{Start}
+use Rattle.switch_engine.specs.declared.walk.Start.TheVariants.{Port, Frame}
+use Rattle.switch_engine.specs.declared.walk.Step.{Step}
+use Rattle.switch_engine.specs.Walk.{IsWalkOf}
+use Rattle.chassis_sim.specs.declared.out.SimFault.{SimFault}
+use Rattle.chassis_sim.specs.declared.out.SimFault.TheVariants.{Memory}
+use Rattle.chassis_sim.specs.declared.out.SimOut.{SimOut}
+use Rattle.chassis_sim.specs.declared.underlay.WaitingFrame.{WaitingFrame}
+use Rattle.chassis_sim.specs.Frames.{Brings}
+use Rattle.chassis_sim.specs.Holding.{RunsAt, RunsFrom}
+use Rattle.chassis_sim.specs.InNames.{all_in_names, next_after_all, frames_sent}
+use Rattle.chassis_sim.specs.Passing.{Adds, IsTold, IsInjected, Arrives, arrived, Keeps, HasOtherFrames, AnswersInject}
+use Rattle.chassis_sim.specs.Passing.IsInjected.{through as through_port, nowhere}
+use Rattle.chassis_sim.specs.Passing.Arrives.{through as through_tunnel, gone}
+use Rattle.chassis_sim.specs.State.{State, Seen, named, numbered}
+
+-- the packet went through the flows that are held, or met none
+pub injected : (state : State) (port : Name) (packet : Packet) (chassis : Name) (run : RunOut) (before after : SimOut) (new : State)
+    → named state.bindings port ≡ Some chassis
+    → RunsAt (named state.chassis chassis) port packet run
+    → IsTold state chassis (Port port) run.walk run.effects before after new
+    → IsInjected state port packet before after new
+injected state port packet chassis run before after new bound runs told = by (named state.chassis chassis) refl runs
+  where
+    by : (found : Option (List Flow)) → named state.chassis chassis ≡ found → RunsAt found port packet run → IsInjected state port packet before after new
+    by (Some flows) is walk = through_port chassis flows run.walk run.effects bound is walk told
+    by None is nothing =
+        nowhere chassis bound is
+        (subst (λ steps. IsTold state chassis (Port port) steps [] before after new) nothing.0 (subst (λ effects. IsTold state chassis (Port port) run.walk effects before after new) nothing.1 told))
+
+-- the frame brought its packet to the flows that are held, or was lost
+pub arrives_from : (state : State) (n : ℕ) (keep : Bool) (frame : WaitingFrame) (run : RunOut) (before after : SimOut) (new : State)
+    → numbered state.waiting n ≡ Some frame
+    → RunsFrom (named state.chassis frame.to) frame.bytes run
+    → IsTold (arrived state n keep) frame.to (Frame n) run.walk run.effects before after new
+    → Arrives state n keep before after new
+arrives_from state n keep frame run before after new waits runs told = by (named state.chassis frame.to) refl runs
+  where
+    from : (flows : List Flow) (entry : Entry) (packet : Packet) → named state.chassis frame.to ≡ Some flows → Brings frame.bytes entry packet → IsWalkOf flows entry packet run.walk run.effects → Arrives state n keep before after new
+    from flows (Vif port) packet is brings walk = absurd brings
+    from flows (Tunnel vni in_key out_key) packet is brings walk = through_tunnel frame flows vni in_key out_key packet run.walk run.effects waits is brings.0 walk told
+    by : (found : Option (List Flow)) → named state.chassis frame.to ≡ found → RunsFrom found frame.bytes run → Arrives state n keep before after new
+    by (Some flows) is runs = from flows runs.0 runs.1 is runs.2 runs.3
+    by None is lost =
+        gone frame waits is
+        (subst (λ steps. IsTold (arrived state n keep) frame.to (Frame n) steps (Lost ∷ []) before after new) lost.0 (subst (λ effects. IsTold (arrived state n keep) frame.to (Frame n) run.walk effects before after new) lost.1 told))
+
+-- without memory
+pub no_memory : (result : Result (Unit {0}) SimFault) (old : Seen) (port : Name) (packet : Packet) (before after : SimOut) (new : Seen)
+    → IsErrAnd result (λ fault. fault ≡ Memory)
+    → IsSome (named old.state.bindings port)
+    → HasOtherFrames old.state new.state
+    → Keeps before after
+    → AnswersInject result old port packet before after new
+no_memory (Ok done) old port packet before after new is bound others kept = absurd is
+no_memory (Err fault) old port packet before after new is bound others kept = subst (λ f. AnswersInject (Err f) old port packet before after new) (sym is) (bound, others, kept)
