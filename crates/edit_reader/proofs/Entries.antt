@@ -9,7 +9,7 @@ use Rattle.ovn_base.specs.declared.address.Ip4.{Ip4}
 use Rattle.ovn_base.specs.declared.address.Mac.{Mac}
 use Rattle.nb_records.specs.declared.record.PortAddress.{PortAddress}
 use Rattle.nb_records.specs.declared.record.PortAddress.TheVariants.{Ether, Unknown}
-use Rattle.edit_reader.specs.Reads.{SpellsEther, SpellsEntry, SpellEntries}
+use Rattle.edit_reader.specs.Reads.{SpellsEther, SpellsEntry, IsAddressList}
 use Rattle.edit_reader.proofs.Shapes.{same_array}
 
 -- a text that is not `unknown` and spells no Ethernet address is no entry
@@ -50,7 +50,7 @@ one_more vs addresses v text address h e spells = record {
   spell = zip_more h.texts addresses text address h.spell spells;
 }
 
-pub all_read : (d : Data) (vs : List Value) (addresses : List PortAddress) → d ≡ array (items_view vs) → AreRead vs addresses → SpellEntries d addresses
+pub all_read : (d : Data) (vs : List Value) (addresses : List PortAddress) → d ≡ array (items_view vs) → AreRead vs addresses → IsAddressList d addresses
 all_read d vs addresses e h = record { texts = h.texts; list = e ∙ ap (λ ds. array (items_of ds)) h.list; spell = h.spell }
 
 -- a value of a list of entries is a text, and spells one
@@ -71,6 +71,6 @@ entry_in (v ∷ vs) (t ∷ texts) (a ∷ addresses) e each (suc i) d small =
     let others : map view vs ≡ map string texts = cc in
     entry_in vs texts addresses others each.1 i d (omega arith)
 
-pub entry_at : (value : Data) (vs : List Value) (addresses : List PortAddress) → value ≡ array (items_view vs) → SpellEntries value addresses → (i : ℕ) (d : Value) → i < length vs → IsEntryText (get_or vs i d)
+pub entry_at : (value : Data) (vs : List Value) (addresses : List PortAddress) → value ≡ array (items_view vs) → IsAddressList value addresses → (i : ℕ) (d : Value) → i < length vs → IsEntryText (get_or vs i d)
 entry_at value vs addresses e h i d small =
     entry_in vs h.texts addresses (same_array (map view vs) (map string h.texts) (sym e ∙ h.list)) h.spell i d small

@@ -24,7 +24,7 @@ use Rattle.nb_records.specs.declared.record.Record.TheVariants as kind
 use Rattle.nb_records.specs.declared.record.Op.TheVariants.{Add}
 use Rattle.edit_reader.specs.declared.event.Event.{Event}
 use Rattle.edit_reader.specs.declared.event.Event.TheVariants.{Edit, Bind, AddChassis, Inject, Deliver, Lose, Repeat, Drain, Packet}
-use Rattle.edit_reader.specs.Reads.{SpellsEntry, ListsEntries, object_with, port_object, AddsSwitch, AddsPort, Adds, IsEdit, IsChassis, IsBind, IsEntry, IsOfFrame, IsDrain, IsForm, Reads, ReadsLine}
+use Rattle.edit_reader.specs.Reads.{SpellsEntry, AreListed, object_with, port_object, AddsSwitch, AddsPort, Adds, IsEdit, IsChassis, IsBind, IsEntry, IsOfFrame, IsDrain, IsForm, Reads, ReadsLine}
 use Rattle.edit_reader.specs.Reads.IsForm.{edits, adds_chassis, binds, sends, injects, delivers, loses, repeats, drains}
 use Rattle.edit_reader.specs.Reads.Reads.{is_form, is_none}
 use Rattle.edit_reader.proofs.Pieces.{not_unknown}
@@ -77,7 +77,7 @@ same_entries (t ∷ ts) (x ∷ xs) (y ∷ ys) h k =
     let tail = same_entries ts xs ys h.1 k.1 in
     λ i. head i ∷ tail i
 
-same_lists : (list : Option Data) (a b : List PortAddress) → ListsEntries list a → ListsEntries list b → a ≡ b
+same_lists : (list : Option Data) (a b : List PortAddress) → AreListed list a → AreListed list b → a ≡ b
 same_lists None a b h k = h ∙ sym k
 same_lists (Some d) a b h k =
     let texts = same_texts h.texts k.texts (same_array (map string h.texts) (map string k.texts) (sym h.list ∙ k.list)) in
@@ -112,7 +112,7 @@ same_port d a b h k =
     let name = same_text a.name b.name parts.0 in
     let switch = same_text a.switch b.switch parts.1 in
     let birth = same_birth a.birth b.birth h.unborn k.unborn in
-    let addresses = same_lists k.list a.addresses b.addresses (subst (λ l. ListsEntries l a.addresses) parts.2 h.lists) k.lists in
+    let addresses = same_lists k.list a.addresses b.addresses (subst (λ l. AreListed l a.addresses) parts.2 h.lists) k.lists in
     λ i. record { name = name i; birth = birth i; switch = switch i; addresses = addresses i }
 
 one_kind : (d : Data) (a : Switch) (b : SwitchPort) → AddsSwitch d a → ¬ AddsPort d b

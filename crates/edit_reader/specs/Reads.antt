@@ -63,15 +63,15 @@ SpellsEntry text (Ether mac ips) = SpellsEther text mac ips
 SpellsEntry text Unknown = text ≡ codes "unknown"
 
 -- the value is an array of texts, and they are these entries
-pub record SpellEntries (d : Data) (addresses : List PortAddress) : Type 0 where
+pub record IsAddressList (d : Data) (addresses : List PortAddress) : Type 0 where
   pub texts : List (List ℕ)
   pub list : d ≡ array_of (map string texts)
   pub spell : AllZip SpellsEntry texts addresses
 
 -- the entries of the list, which is empty where it is left out
-abbrev pub ListsEntries : Option Data → List PortAddress → Type 0
-ListsEntries None addresses = addresses ≡ []
-ListsEntries (Some list) addresses = SpellEntries list addresses
+abbrev pub AreListed : Option Data → List PortAddress → Type 0
+AreListed None addresses = addresses ≡ []
+AreListed (Some list) addresses = IsAddressList list addresses
 
 -- {"add":"switch","name":N}: the switch, before its birth is known
 pub record AddsSwitch (d : Data) (switch : Switch) : Type 0 where
@@ -99,7 +99,7 @@ pub record AddsPort (d : Data) (port : SwitchPort) : Type 0 where
   pub list : Option Data
   pub has_port : HasPort d port.name port.switch list
   pub unborn : port.birth.0 ≡ 0
-  pub lists : ListsEntries list port.addresses
+  pub lists : AreListed list port.addresses
 
 -- the operation adds the record
 abbrev pub Adds : Data → Record → Type 0

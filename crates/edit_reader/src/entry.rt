@@ -4,7 +4,7 @@ ghost use Rattle.std.specs.Option.{option_map, option_map_or};
 ghost use Rattle.std.specs.List.{slice_split};
 ghost use Rattle.serde_json.specs.View.{view};
 ghost use Rattle.edit_reader.specs.Finds.{Finds};
-ghost use Rattle.edit_reader.specs.Reads.{ListsEntries, SpellEntries, SpellsEntry, SpellsEther, pieces_left};
+ghost use Rattle.edit_reader.specs.Reads.{AreListed, IsAddressList, SpellsEntry, SpellsEther, pieces_left};
 
 use crate::members::{items_of, text_of};
 use nb_records::record::PortAddress;
@@ -70,7 +70,7 @@ fn entry_of(alloc: Global, text: &[u8]) -> Result<Option<PortAddress>, NoMemory>
 
 // The entries that the texts of the array spell.
 fn entries_of(alloc: Global, value: &Value) -> Result<Option<List<PortAddress>>, NoMemory>
-    ensures { IfOk result (Finds (SpellEntries (view value.now))) }
+    ensures { IfOk result (Finds (IsAddressList (view value.now))) }
 {
     let Some(items) = items_of(value) else {
         return Ok(None);
@@ -93,7 +93,7 @@ pub fn listed_entries(
     alloc: Global,
     list: Option<&Value>,
 ) -> Result<Option<List<PortAddress>>, NoMemory>
-    ensures { IfOk result (Finds (ListsEntries (option_map (λ v. view v.now) list.entry))) }
+    ensures { IfOk result (Finds (AreListed (option_map (λ v. view v.now) list.entry))) }
 {
     match list {
         Some(value) => entries_of(alloc, value),
