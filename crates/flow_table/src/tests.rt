@@ -1,6 +1,6 @@
 ghost use Rattle.std.specs.Prelude.{◌≡◌, ◌∷◌, [], IfOk};
 
-use crate::flow::{Cause, Flow, FlowOp};
+use crate::flow::{Cause, Flow, FlowOp, Member};
 use crate::lookup::Lookup;
 use crate::tables::Tables;
 use inet_packet::cube::{Bits, Cube};
@@ -175,10 +175,11 @@ fn changes_by_a_delta(rt: HostRuntime) -> Result<(), Fail> {
 fn copies_a_flow(rt: HostRuntime) -> Result<(), Fail> {
     let alloc = rt.alloc();
     let mut f = flow(alloc, 0, 0, 0, 7);
-    f.ops.push(FlowOp::Drop(Cause::Loopback))?;
+    let members = List::from_slice(alloc, &[Member { key: 3, zone: 0 }])?;
+    f.ops.push(FlowOp::Copies(members))?;
     let copy = f.copy()?;
     assert_eq!(rt; copy, f);
-    f.ops.push(FlowOp::Go(8))?;
+    f.ops.push(FlowOp::Drop(Cause::Loopback))?;
     assert_ne!(rt; copy, f);
     Ok(())
 }

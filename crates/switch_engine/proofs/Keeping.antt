@@ -1,5 +1,5 @@
 -- What stays in front of what comes.
-use Rattle.std.specs.Prelude.{◌≡◌, List, [], ◌∷◌, ◌++◌, Result, Ok, Err, OnErr, refl}
+use Rattle.std.specs.Prelude.{◌≡◌, List, [], ◌++◌, Result, Ok, Err, OnErr}
 use Rattle.std.proofs.Common.{sym, append-nil}
 use Rattle.switch_engine.specs.declared.effect.Effect.{Effect}
 use Rattle.switch_engine.specs.declared.walk.RunOut.{RunOut}

@@ -1,7 +1,7 @@
 -- How much is left of a walk.
-use Rattle.std.specs.Prelude.{◌≡◌, ◌<◌, ◌≤◌, ◌⊎◌, ℕ, zero, suc, ◌+◌, ◌-◌, ◌*◌, ◌^◌, Bool, not, List, [], ◌∷◌, ◌++◌, length, map, filter, refl}
+use Rattle.std.specs.Prelude.{◌≡◌, ◌<◌, ◌≤◌, ◌⊎◌, ℕ, zero, suc, ◌+◌, ◌-◌, ◌*◌, ◌^◌, Bool, not, List, [], ◌∷◌, ◌++◌, length, filter}
 use Rattle.std.specs.List.{AllByRecursion}
-use Rattle.std.proofs.Common.{arith, sym, ap, ◌∙◌, subst, inl, inr}
+use Rattle.std.proofs.Common.{arith, sym, ap, subst, inl, inr}
 use Rattle.std.proofs.Math.Dec.{eqb as nat_eq}
 use Rattle.std.proofs.Math.Nat.{mul-le-mul_right, suc-mul}
 use Rattle.std.proofs.lemmas.List.{length-append, length-map}
@@ -9,7 +9,6 @@ use Rattle.std.proofs.lemmas.List.Sums.{count_by-le-length, length-filter}
 use Rattle.ovn_base.specs.Among.{Among}
 use Rattle.ovn_base.proofs.AmongLaws.{among_cases, among_none}
 use Rattle.inet_packet.specs.Fits.{CubeFits}
-use Rattle.inet_packet.specs.declared.regs.Regs.{Regs}
 use Rattle.flow_table.specs.declared.flow.Flow.{Flow}
 use Rattle.flow_table.specs.declared.flow.FlowOp.{FlowOp}
 use Rattle.flow_table.specs.declared.flow.Member.{Member}
@@ -18,9 +17,8 @@ use Rattle.switch_engine.specs.declared.carried.Carried.{Carried}
 use Rattle.switch_engine.specs.declared.effect.Entry.{Entry}
 use Rattle.switch_engine.specs.declared.walk.RunOut.{RunOut}
 use Rattle.switch_engine.specs.Actions.{set_reg, with_header, outcome, going_on, copy_for, copies_for}
-use Rattle.flow_table.specs.Matching.{IsBest}
 use Rattle.switch_engine.specs.Advance.{Advances, unmatched_here, matched, IsCarriedInRange}
-use Rattle.switch_engine.specs.Proper.{IsProper, IsProperFlow, rising, raising, Rises, Raises}
+use Rattle.switch_engine.specs.Proper.{IsProper, IsProperFlow, rising, raising, Rises}
 use Rattle.switch_engine.specs.Range.{IsInRange}
 use Rattle.switch_engine.proofs.Lists.{all_append, all_left, all_by, all_map}
 use Rattle.switch_engine.proofs.Ranges.{total, total_small, total_rises, set_in_range}

@@ -1,8 +1,7 @@
 -- The numbers in the registers, and how far they are from the greatest.
-use Rattle.std.specs.Prelude.{◌≡◌, ◌<◌, ◌⊎◌, ℕ, zero, suc, ◌+◌, ◌-◌, ◌*◌, ◌^◌, ◌%◌, true, false, cond, List, [], ◌∷◌, bit_and, bit_or, refl}
-use Rattle.std.specs.List.{AllByRecursion}
+use Rattle.std.specs.Prelude.{◌≡◌, ◌<◌, ℕ, zero, suc, ◌+◌, ◌-◌, ◌*◌, ◌^◌, ◌%◌, true, false, cond, bit_and, bit_or, refl}
 use Rattle.std.proofs.Math.Dec.{eqb as nat_eq}
-use Rattle.std.proofs.Common.{arith, sym, ap, ◌∙◌, subst, inl, inr}
+use Rattle.std.proofs.Common.{arith, sym, ap, ◌∙◌}
 use Rattle.std.proofs.lemmas.Nat.{and_le_l, and_assoc, and_mask, or_lt}
 use Rattle.std.specs.Int.Bits.{or_add_and}
 use Rattle.std.proofs.Math.Nat.{mod-eq_of_lt}
@@ -13,8 +12,6 @@ use Rattle.inet_packet.specs.declared.regs.Reg.{Reg}
 use Rattle.inet_packet.specs.declared.regs.Reg.TheVariants.{Dp, InPort, OutPort, Next, ZIn, ZOut, ZDnat, ZSnat, State, Verdict, Tier, Loopback, Tracked, Blocked, Own, Arrived}
 use Rattle.inet_packet.specs.declared.regs.Regs.{Regs}
 use Rattle.flow_table.specs.declared.flow.Flow.{Flow}
-use Rattle.flow_table.specs.declared.flow.FlowOp.{FlowOp}
-use Rattle.flow_table.specs.declared.flow.FlowOp.TheVariants.{Set, Go, Drop, Header, Frame, Copies, Output}
 use Rattle.switch_engine.specs.Actions.{set_flag, set_reg}
 use Rattle.switch_engine.specs.Range.{IsInRange}
 use Rattle.switch_engine.specs.Walk.{start_regs}

@@ -6,7 +6,6 @@ use Rattle.switch_engine.specs.declared.carried.Carried.{Carried}
 use Rattle.switch_engine.specs.declared.effect.Effect.{Effect}
 use Rattle.switch_engine.specs.declared.effect.Entry.{Entry}
 use Rattle.switch_engine.specs.declared.walk.RunOut.{RunOut}
-use Rattle.switch_engine.specs.declared.walk.Step.{Step}
 use Rattle.switch_engine.specs.Actions.{outcome, going_on}
 use Rattle.switch_engine.specs.Range.{IsInRange}
 use Rattle.switch_engine.specs.Walk.{unmatched}

@@ -1,7 +1,7 @@
 use Rattle.std.proofs.Common.{◌≡◌, ◌<◌, [], ◌∷◌, ◌++◌, reverse, sym, ap, ◌∙◌, subst, arith}
 use Rattle.std.proofs.lemmas.Result.{err_from_is_err_and}
 use Rattle.std.specs.List.{AllByRecursion}
-use Rattle.switch_engine.specs.Advance.{Advances, IsCarriedInRange}
+use Rattle.switch_engine.specs.Advance.{IsCarriedInRange}
 use Rattle.switch_engine.specs.Walk.{start}
 use Rattle.switch_engine.proofs.Going.{Going, going_first, going_next, going_over, on_top}
 use Rattle.switch_engine.proofs.Keeping.{keeps_all}
