@@ -1,15 +1,15 @@
 -- Which events a world takes: those that a line can ask for.
-use Rattle.std.specs.Prelude.{◌≡◌, ◌<◌, [], ◌∷◌}
+use Rattle.std.specs.Prelude.{◌≡◌, ◌<◌, ◌^◌, [], ◌∷◌}
 use Rattle.std.specs.List.{All}
 use Rattle.ovn_base.specs.Address.{IsMac}
 use Rattle.nb_records.specs.declared.record.Op.TheVariants.{Add}
-use Rattle.nb_records.specs.declared.record.PortAddress.{PortAddress}
 use Rattle.nb_records.specs.declared.record.Record.{Record}
 use Rattle.nb_records.specs.declared.record.Record.TheVariants.{Switch, SwitchPort}
 use Rattle.edit_reader.specs.Reads.{IsPlainFrame}
 use Rattle.edit_reader.specs.declared.event.Event.{Event}
-use Rattle.edit_reader.specs.declared.event.Event.TheVariants.{Edit, Bind, AddChassis, Packet, Unread, NotBuilt}
-use Rattle.world_core.specs.Addresses.{mac_of}
+use Rattle.edit_reader.specs.declared.event.Event.TheVariants.{Edit, Bind, AddChassis, Inject, Deliver, Lose, Repeat, Drain, Packet, Unread, NotBuilt}
+use Rattle.ovn_base.specs.declared.address.Mac.{Mac}
+use Rattle.world_core.specs.Addresses.{HasMac}
 
 -- the Ethernet addresses of a port have six bytes
 abbrev pub IsAdmittedRecord : Record → Type 0

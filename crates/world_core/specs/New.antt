@@ -1,6 +1,5 @@
 -- The addresses of a port that comes.
-use Rattle.std.specs.Prelude.{◌≡◌, Some, map}
-use Rattle.ovn_base.specs.Among.{Among}
+use Rattle.std.specs.Prelude.{◌≡◌, Some}
 use Rattle.ovn_base.specs.Address.{IsMac}
 use Rattle.ovn_base.specs.declared.address.Ip4.{Ip4}
 use Rattle.ovn_base.specs.declared.address.Mac.{Mac}
@@ -8,7 +7,6 @@ use Rattle.ovn_base.specs.declared.name.Name.{Name}
 use Rattle.ovn_base.specs.Once.{EachOnce}
 use Rattle.ovn_base.specs.ByName.{at}
 use Rattle.nb_records.specs.Network.{Network}
-use Rattle.nb_records.specs.declared.record.PortAddress.{PortAddress}
 use Rattle.nb_records.specs.declared.record.SwitchPort.{SwitchPort}
 use Rattle.world_core.specs.Addresses.{macs_in, HasMac, HasIp, IsOfStation}
 

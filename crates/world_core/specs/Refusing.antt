@@ -1,19 +1,18 @@
 -- When an event is refused, and why: the first cause that holds.
-use Rattle.std.specs.Prelude.{◌||◌, Bool, List, [], ◌∷◌, Some, None, Option, if◌then◌else◌, is_some, nat_le, nat_lt, length}
-use Rattle.std.specs.List.{list_any}
+use Rattle.std.specs.Prelude.{◌||◌, Bool, List, [], ◌∷◌, Some, None, Option, if◌then◌else◌, is_some, nat_le, length}
 use Rattle.ovn_base.specs.declared.name.Name.{Name}
 use Rattle.ovn_base.specs.ByName.{at}
-use Rattle.ovn_base.specs.SameName.{same_name}
 use Rattle.nb_records.specs.Network.{Network}
 use Rattle.nb_records.specs.declared.record.Op.{Op}
 use Rattle.nb_records.specs.declared.record.Op.TheVariants.{Add}
 use Rattle.nb_records.specs.declared.record.Record.{Record}
 use Rattle.nb_records.specs.declared.record.Record.TheVariants as record_of
 use Rattle.edit_reader.specs.declared.event.Event.{Event}
-use Rattle.edit_reader.specs.declared.event.Event.TheVariants.{Edit, Bind, AddChassis, Packet, Unread, NotBuilt}
+use Rattle.edit_reader.specs.declared.event.Event.TheVariants.{Edit, Bind, AddChassis, Inject, Deliver, Lose, Repeat, Drain, Packet, Unread, NotBuilt}
 use Rattle.event_lines.specs.declared.refusal.Refusal.{Refusal}
 use Rattle.event_lines.specs.declared.refusal.Refusal.TheVariants as why
-use Rattle.world_core.specs.State.{State}
+use Rattle.chassis_sim.specs.State.{numbered}
+use Rattle.world_core.specs.State.{State, is_chassis}
 use Rattle.world_core.specs.Unbuilt.{is_unbuilt_port}
 
 -- why an added record is refused

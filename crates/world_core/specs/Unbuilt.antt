@@ -10,7 +10,7 @@ use Rattle.ovn_base.specs.ByName.{at}
 use Rattle.ovn_base.specs.SameName.{same_name}
 use Rattle.nb_records.specs.Network.{Network}
 use Rattle.nb_records.specs.declared.record.PortAddress.{PortAddress}
-use Rattle.nb_records.specs.declared.record.PortAddress.TheVariants.{Ether}
+use Rattle.nb_records.specs.declared.record.PortAddress.TheVariants.{Ether, Unknown}
 use Rattle.nb_records.specs.declared.record.SwitchPort.{SwitchPort}
 
 abbrev pub same_mac : Mac → Mac → Bool
@@ -28,27 +28,34 @@ is_among ips ip = list_any (λ other. nat_eq other.0 ip.0) ips
 abbrev pub has_common : List Ip4 → List Ip4 → Bool
 has_common ips others = list_any (λ ip. is_among others ip) ips
 
--- the Ethernet address stands in the list
-abbrev pub is_mac_among : List Mac → Mac → Bool
-is_mac_among macs mac = list_any (λ other. same_mac other mac) macs
+-- the two entries have an Ethernet address or an IP in common
+abbrev pub clash : PortAddress → PortAddress → Bool
+clash (Ether mac ips) (Ether other others) = same_mac mac other || has_common ips others
+clash (Ether mac ips) Unknown = false
+clash Unknown theirs = false
 
--- some entry of the one list has an Ethernet address or an IP of some entry of the other
+-- the entry clashes with one of the list
+abbrev pub clashes : PortAddress → List PortAddress → Bool
+clashes address theirs = list_any (λ other. clash address other) theirs
+
+-- some entry of the one list clashes with one of the other
 abbrev pub share : List PortAddress → List PortAddress → Bool
-share ours theirs = list_any (λ mac. is_mac_among (macs_in theirs) mac) (macs_in ours) || has_common (ips_in ours) (ips_in theirs)
+share ours theirs = list_any (λ address. clashes address theirs) ours
 
 -- an IP stands twice in the list
 abbrev pub repeats : List Ip4 → Bool
 repeats [] = false
 repeats (ip ∷ ips) = is_among ips ip || repeats ips
 
--- an Ethernet address stands twice in the list
-abbrev pub mac_repeats : List Mac → Bool
-mac_repeats [] = false
-mac_repeats (mac ∷ macs) = is_mac_among macs mac || mac_repeats macs
+-- no port can have the entry: its Ethernet address is zero or one of a group, or it has an IP twice
+abbrev pub is_no_entry : PortAddress → Bool
+is_no_entry (Ether mac ips) = is_zero_mac mac || is_multicast_mac mac || repeats ips
+is_no_entry Unknown = false
 
--- no port can have the entries: an Ethernet address is zero or one of a group, or an address stands in two of them
+-- nor entries that have an address in common
 abbrev pub has_no_entry : List PortAddress → Bool
-has_no_entry addresses = list_any (λ mac. is_zero_mac mac || is_multicast_mac mac) (macs_in addresses) || mac_repeats (macs_in addresses) || repeats (ips_in addresses)
+has_no_entry [] = false
+has_no_entry (address ∷ addresses) = is_no_entry address || clashes address addresses || has_no_entry addresses
 
 -- another port of the switch has one of the addresses
 unfoldable pub is_held : Network → SwitchPort → Bool

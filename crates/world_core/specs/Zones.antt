@@ -1,6 +1,5 @@
 -- The numbers of the zones of bound ports.
-use Rattle.std.specs.Prelude.{ℕ, ◌+◌, List, cond, filter, length, map, unwrap_or}
-use Rattle.std.specs.List.{first}
+use Rattle.std.specs.Prelude.{ℕ, ◌+◌, List, [], ◌∷◌, cond, filter, length, map, unwrap_or}
 use Rattle.ovn_base.specs.ByName.{at, put}
 use Rattle.ovn_base.specs.declared.name.Name.{Name}
 use Rattle.edit_reader.specs.declared.event.Event.{Event}
@@ -12,9 +11,14 @@ use Rattle.world_core.specs.Homes.{is_at}
 abbrev pub zones_on : List (Name × Name) → List (Name × ℕ) → Name → List ℕ
 zones_on bindings zones chassis = map (λ z. z.1) (filter (λ z. is_at bindings z.0 chassis) zones)
 
+-- the first of the numbers
+abbrev pub first_of : List ℕ → ℕ
+first_of [] = 0
+first_of (n ∷ ns) = n
+
 -- the least number from 1 on that isn't taken
 abbrev pub least_free : List ℕ → ℕ
-least_free taken = unwrap_or (first (free_in (length taken + 1) taken)) 0
+least_free taken = first_of (free_in (length taken + 1) taken)
 
 -- the zone of a port that is bound: the one that it has there, else the least number that no port has there
 abbrev pub zone_for : List (Name × Name) → List (Name × ℕ) → Name → Name → ℕ

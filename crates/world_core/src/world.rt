@@ -86,7 +86,7 @@ impl World {
             records: Records::new(alloc)?,
             chassis: List::new(alloc),
             bindings: BTreeMap::new(alloc),
-            keys: KeyStore::new(alloc)?,
+            keys: KeyStore::with_ranges(alloc, 16_777_215, 32_767)?,
             zones: BTreeMap::new(alloc),
             sim: Sim::new(alloc)?,
             crossings: BTreeMap::new(alloc),

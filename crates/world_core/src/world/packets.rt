@@ -16,7 +16,7 @@ ghost use Rattle.world_core.specs.declared.crossing.Crossing.{Crossing};
 use crate::crossing::{Aim, Crossing, Group};
 use crate::world::World;
 use chassis_sim::out::{SimFault, SimOut};
-use geneve_frames::read::read;
+use geneve_frames::read;
 use inet_packet::decode::decode;
 use inet_packet::frame::FrameFault;
 use inet_packet::packet::Packet;
