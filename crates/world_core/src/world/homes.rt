@@ -1,9 +1,10 @@
 //! Chassis that come, and where ports are bound.
-ghost use Rattle.std.specs.Prelude.{◌≡◌, ◌<◌, ◌^◌, [], ◌∷◌, Some, false, OnOk, IsSome, length};
+ghost use Rattle.std.specs.Prelude.{◌≡◌, ◌<◌, ◌^◌, [], ◌∷◌, Some, false, IfOk, OnOk, IsSome, length};
 ghost use Rattle.ovn_base.specs.Among.{Among};
 ghost use Rattle.ovn_base.specs.ByName.{at, put};
 ghost use Rattle.world_core.specs.Consistent.{IsConsistent};
 ghost use Rattle.world_core.specs.Editing.{with_name};
+ghost use Rattle.world_core.specs.Homes.{is_at};
 ghost use Rattle.world_core.specs.State.{events_of, finished};
 ghost use Rattle.world_core.specs.Zones.{zone_for, zones_on, least_free};
 
@@ -12,13 +13,31 @@ use ovn_base::list::List;
 use ovn_base::memory::NoMemory;
 use ovn_base::name::Name;
 use std::alloc::Global;
+use std::cmp::Ordering;
+use std::collections::BTreeMap;
 
 // The names with one more, in order.
-fn insert_name(names: &mut List<Name>, name: Name) -> Result<(), NoMemory>
-    ensures { OnOk result (names.new ≡ with_name names.old name) }
+fn names_with(alloc: Global, names: &[Name], name: Name) -> Result<List<Name>, NoMemory>
+    ensures { IfOk result (λ longer. longer ≡ with_name names.now name) }
 {
-    let at = names.as_slice().iter().filter(|other| **other < name).count();
-    names.insert(at, name)
+    let mut longer = List::new(alloc);
+    'names: for index in 0..names.len() {
+        let other = names[index];
+        match name.cmp(&other) {
+            Ordering::Less => {
+                longer.push(name)?;
+                longer.extend_from_slice(&names[index..])?;
+                return Ok(longer);
+            }
+            Ordering::Equal => {
+                longer.extend_from_slice(&names[index..])?;
+                return Ok(longer);
+            }
+            Ordering::Greater => longer.push(other)?,
+        }
+    }
+    longer.push(name)?;
+    Ok(longer)
 }
 
 // The least number from 1 on that isn't among these.
@@ -27,10 +46,38 @@ fn least_free_of(taken: &[u16]) -> u16
     ensures { result ≡ least_free taken.now }
 {
     let mut number = 1;
-    while taken.contains(&number) {
+    'taken: while taken.contains(&number) {
         number += 1;
     }
     number
+}
+
+// Whether the port is bound to the chassis.
+fn is_at(bindings: &BTreeMap<Name, Name>, port: &Name, chassis: &Name) -> bool
+    ensures { result ≡ is_at bindings.now.entries port.now chassis.now }
+{
+    match bindings.get(port) {
+        Some(home) => *home == *chassis,
+        None => false,
+    }
+}
+
+// The numbers of the zones on the chassis.
+fn zones_on(
+    alloc: Global,
+    bindings: &BTreeMap<Name, Name>,
+    zones: &BTreeMap<Name, u16>,
+    chassis: &Name,
+) -> Result<List<u16>, NoMemory>
+    ensures { IfOk result (λ taken. taken ≡ zones_on bindings.now.entries zones.now.entries chassis.now) }
+{
+    let mut taken = List::new(alloc);
+    'zones: for (port, zone) in zones {
+        if is_at(bindings, port, chassis) {
+            taken.push(*zone)?;
+        }
+    }
+    Ok(taken)
 }
 
 impl World {
@@ -44,7 +91,9 @@ impl World {
         ensures state { OnOk result (self.new ≡ record self.old { state = record self.old.state { chassis = with_name self.old.state.chassis chassis } }) }
         ensures consistent { OnOk result (IsConsistent (finished self.new.state) self.new.zones) }
     {
-        insert_name(&mut self.chassis, chassis)
+        let alloc = self.walks.allocator();
+        self.chassis = names_with(alloc, self.chassis.as_slice(), chassis)?;
+        Ok(())
     }
 
     // The number of the zone of a port that is bound to the chassis: the one that it has there, or the least that is free.
@@ -52,15 +101,10 @@ impl World {
         requires consistent { IsConsistent self.now.state self.now.zones }
         ensures { IfOk result (λ zone. zone ≡ zone_for self.now.state.bindings self.now.zones port.now chassis.now) }
     {
-        if let Some(home) = self.bindings.get(port) && *home == *chassis {
+        if is_at(&self.bindings, port, chassis) {
             return Ok(self.zones.get(port).copied().unwrap_or(0));
         }
-        let mut taken = Vec::new(alloc);
-        for (other, zone) in &self.zones {
-            if let Some(home) = self.bindings.get(other) && *home == *chassis {
-                taken.push(*zone)?;
-            }
-        }
+        let taken = zones_on(alloc, &self.bindings, &self.zones, chassis)?;
         Ok(least_free_of(taken.as_slice()))
     }
 
