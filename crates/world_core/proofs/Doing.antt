@@ -7,7 +7,9 @@ use Rattle.chassis_sim.specs.Changing.{given_name}
 use Rattle.chassis_sim.specs.Settings.{AreSet}
 use Rattle.chassis_sim.specs.State as sim
 use Rattle.chassis_sim.specs.State.{named, same_pair}
+use Rattle.edit_reader.specs.declared.event.Event.{Event}
 use Rattle.edit_reader.specs.declared.event.Event.TheVariants as event_of
+use Rattle.event_lines.specs.declared.refusal.Refusal.TheVariants as why
 use Rattle.nb_records.specs.Network.{Network}
 use Rattle.nb_records.specs.declared.record.Op.TheVariants.{Add}
 use Rattle.nb_records.specs.declared.record.Record.TheVariants as record_of
@@ -30,6 +32,7 @@ use Rattle.tunnel_keys.specs.declared.owner.PortKey.{PortKey}
 use Rattle.world_core.specs.Consistent.{IsConsistent}
 use Rattle.world_core.specs.Editing.{Edits, with_name}
 use Rattle.world_core.specs.Parts.{IsDone, IsRecompiled, IsTaken}
+use Rattle.world_core.specs.Refusing.{refusal_of_record}
 use Rattle.world_core.specs.Seen.{Seen, AreHeld, AreNamed}
 use Rattle.world_core.specs.Sound.{HaveKeys}
 use Rattle.world_core.specs.State.{State, events_of, finished, settled_where_none_waits}
@@ -45,6 +48,19 @@ use Rattle.world_core.proofs.Renewed.{held_again}
 same_settled : (ws : List (ℕ × Crossing)) (keys : Keys) → keys.retired_datapaths ≡ [] → keys.retired_ports ≡ [] → settled_where_none_waits ws keys ≡ keys
 same_settled [] keys d p = λ i. record keys { retired_datapaths = sym d i; retired_ports = sym p i }
 same_settled (w ∷ ws) keys d p = refl
+
+-- a switch that comes is new
+pub switch_new : (net : Network) (s : Switch) → refusal_of_record net (record_of.Switch s) ≡ None → at net.switches s.name ≡ None
+switch_new net s h = by (at net.switches s.name) h
+  where
+    by : (o : Option Switch) → cond (is_some o || nat_le 1024 (length net.switches)) (Some why.NotBuilt) None ≡ None → o ≡ None
+    by None h = refl
+    by (Some x) h = cc
+
+-- the effects and the walks of an event that has no walk
+pub done_so : (old new : Seen) (event : Event) (effects own : List NetEffect) (walks : List Walk) (count : ℕ) → own ≡ effects → walks ≡ [] → count ≡ 0 → IsDone old event effects [] 0 new → IsDone old event own walks count new
+done_so old new event effects own walks count e w n done =
+    subst (λ l. IsDone old event l walks count new) (sym e) (subst (λ l. IsDone old event effects l count new) (sym w) (subst (λ k. IsDone old event effects [] k new) (sym n) done))
 
 -- names stay where none is given
 still_named : (keys : Keys) (old new : sim.State) → AreSet same_pair [] old.names new.names → AreNamed keys old → AreNamed keys new

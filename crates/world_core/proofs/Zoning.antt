@@ -1,14 +1,16 @@
 -- The number of the zone of a port that is bound: no other port has it on the chassis.
 use Rattle.std.specs.Prelude.{◌≡◌, ◌≢◌, ◌≤◌, ◌<◌, ◌+◌, ◌^◌, ℕ, suc, Bool, true, false, cond, List, [], ◌∷◌, ◌++◌, Option, Some, None, IsSome, filter, length, map, take, unwrap_or, refl}
+use Rattle.std.specs.List.{list_any}
 use Rattle.std.specs.Set.{is_member}
 use Rattle.std.proofs.Common.{arith, sym, ap, subst, ◌∙◌, inl, inr}
 use Rattle.std.proofs.Math.Dec.{eqb as nat_eq}
 use Rattle.std.proofs.lemmas.Bool.{cases_Bool, false≢true}
+use Rattle.std.proofs.lemmas.Bool.Decides.{Decides-eqb}
 use Rattle.ovn_base.specs.Among.{Among, here}
 use Rattle.ovn_base.specs.ByName.{at, IsByName}
 use Rattle.ovn_base.specs.SameName.{bytes_decides, same_name}
 use Rattle.ovn_base.specs.declared.name.Name.{Name}
-use Rattle.ovn_base.proofs.AmongLaws.{among_filter, among_map}
+use Rattle.ovn_base.proofs.AmongLaws.{among_any, among_filter, among_map, among_member, any_among, member_among}
 use Rattle.ovn_base.proofs.Puts.{at_among}
 use Rattle.tunnel_keys.specs.Keys.{free_in, free_one, IsFreeIn}
 use Rattle.tunnel_keys.proofs.FreeKeys.{free_first, free_is_free, free_more, free_none}
@@ -43,13 +45,29 @@ passed_few k taken none =
     let zero : length (free_in k taken) ≡ 0 = ap length none in
     omega (arith, count, zero)
 
+module _ (taken : List ℕ) (n : ℕ) where
+  is_there : list_any (λ t. nat_eq t n) taken ≡ true → is_member nat_eq taken n ≡ true
+  is_there h =
+      let r = any_among (λ t. nat_eq t n) taken h in
+      let same : r.0 ≡ n = (Decides-eqb r.0 n).0 r.2 in
+      among_member nat_eq (λ a. (Decides-eqb a a).1 refl) n taken (subst (λ t. Among t taken) same r.1)
+
+  not_there : list_any (λ t. nat_eq t n) taken ≡ false → is_member nat_eq taken n ≡ false
+  not_there h = elim (cases_Bool (is_member nat_eq taken n)) [
+    | inl some ↦
+        let among : Among n taken = member_among nat_eq (λ a b e. (Decides-eqb a b).0 e) n taken some in
+        absurd (false≢true (sym h ∙ among_any (λ t. nat_eq t n) n taken among ((Decides-eqb n n).1 refl)))
+    | inr none ↦ none
+  ]
+
 -- the next is taken too
-pub passed_more : (k : ℕ) (taken : List ℕ) → free_in k taken ≡ [] → is_member nat_eq taken (suc k) ≡ true → free_in (suc k) taken ≡ []
-passed_more k taken none is = free_more k taken ∙ (λ i. none i ++ cond (is i) [] (suc k ∷ []))
+pub passed_more : (k : ℕ) (taken : List ℕ) → free_in k taken ≡ [] → list_any (λ t. nat_eq t (suc k)) taken ≡ true → free_in (suc k) taken ≡ []
+passed_more k taken none some = let is = is_there taken (suc k) some in free_more k taken ∙ (λ i. none i ++ cond (is i) [] (suc k ∷ []))
 
 -- or it is the least that isn't
-pub passed_least : (k : ℕ) (taken : List ℕ) → free_in k taken ≡ [] → is_member nat_eq taken (suc k) ≡ false → suc k ≡ least_free taken
-passed_least k taken none is =
+pub passed_least : (k : ℕ) (taken : List ℕ) → free_in k taken ≡ [] → list_any (λ t. nat_eq t (suc k)) taken ≡ false → suc k ≡ least_free taken
+passed_least k taken none other =
+    let is : is_member nat_eq taken (suc k) ≡ false = not_there taken (suc k) other in
     let one : free_in (suc k) taken ≡ suc k ∷ [] = free_more k taken ∙ (λ i. none i ++ cond (is i) [] (suc k ∷ [])) in
     let few : k ≤ length taken = passed_few k taken none in
     let front : free_in (suc k) taken ≡ take 1 (free_in (length taken + 1) taken) = free_first (suc k) (length taken + 1) taken 1 (omega (arith, few)) (ap length one) in
