@@ -1,5 +1,5 @@
 -- What an event without a packet leaves: the network's step, and the chassis that hold it.
-use Rattle.std.specs.Prelude.{◌≡◌, ◌<◌, ◌+◌, ◌^◌, ℕ, cond, List, [], ◌∷◌, map, Option, Some, None, codes, unwrap_or, refl}
+use Rattle.std.specs.Prelude.{◌≡◌, ◌<◌, ◌+◌, ◌^◌, ◌||◌, ℕ, cond, List, [], ◌∷◌, length, map, nat_le, Option, Some, None, is_some, codes, unwrap_or, refl}
 use Rattle.std.specs.Map.{lookup}
 use Rattle.std.proofs.Common.{sym, ap, subst, ◌∙◌, inl, inr}
 use Rattle.std.proofs.lemmas.Bool.{cases_Bool, false≢true}

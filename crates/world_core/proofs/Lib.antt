@@ -1,6 +1,9 @@
 -- Lemmas.
 pub mod Found
+pub mod Macs
 pub mod KeyLaws
+pub mod KeysFound
+pub mod Members
 pub mod OnceLaws
 pub mod Once
 pub mod Compiled
@@ -13,16 +16,22 @@ pub mod Recompiling
 pub mod ByTable
 pub mod RowFits
 pub mod ProperTables
+pub mod Lasting
+pub mod Settling
+pub mod InOrder
+pub mod Zoning
 pub mod Coming
 pub mod Unheld
 pub mod Adding
+pub mod Called
+pub mod Renewed
+pub mod Doing
 pub mod WalkSteps
 pub mod Walks
 pub mod Names
 pub mod Law
 pub mod Finishing
 pub mod Refusals
-pub mod Binding
 pub mod OneStep
 pub mod OneWalk
 pub mod Named
