@@ -1,8 +1,8 @@
 -- What keys are called after an owner came.
-use Rattle.std.specs.Prelude.{◌≡◌, ◌≢◌, ◌≤◌, ◌&&◌, ℕ, Bool, true, false, cond, codes, List, [], ◌∷◌, Some, None, unwrap_or, refl}
+use Rattle.std.specs.Prelude.{◌≡◌, ◌≢◌, ◌≤◌, ◌&&◌, ℕ, Bool, true, cond, codes, List, [], ◌∷◌, Some, None, unwrap_or, refl}
 use Rattle.std.specs.Cmp.{first_so, second_so}
 use Rattle.std.specs.Map.{lookup}
-use Rattle.std.proofs.Common.{arith, sym, ap, subst, ◌∙◌, inl, inr}
+use Rattle.std.proofs.Common.{arith, sym, ap, ◌∙◌, inl, inr}
 use Rattle.std.proofs.Math.Dec.{eqb as nat_eq}
 use Rattle.std.proofs.lemmas.Bool.{cases_Bool}
 use Rattle.std.proofs.lemmas.Bool.Decides.{Decides-eqb}
@@ -114,8 +114,8 @@ module _ (net later : Network) (keys after : Keys) (old new : sim.State) (have :
         | inr apart ↦
             called_before old.names new.names k.key r.key name given d.key p.key
             (λ e f.
-              let together : p.datapath ≡ datapath = datapaths_apart later after also p.datapath datapath d k at_d on e in
-              apart (ports_apart later after also q name p r at_q has (together ∙ sym onto) f))
+            let together : p.datapath ≡ datapath = datapaths_apart later after also p.datapath datapath d k at_d on e in
+            apart (ports_apart later after also q name p r at_q has (together ∙ sym onto) f))
             ∙ named.ports q p d (port_was q p at_q apart) (datapath_was p.datapath d at_d)
       ];
     }

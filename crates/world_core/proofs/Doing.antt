@@ -1,6 +1,5 @@
 -- What an event without a packet leaves: the network's step, and the chassis that hold it.
-use Rattle.std.specs.Prelude.{◌≡◌, ◌<◌, ◌+◌, ◌^◌, ◌||◌, ℕ, cond, List, [], ◌∷◌, length, map, nat_le, Option, Some, None, is_some, codes, unwrap_or, refl}
-use Rattle.std.specs.Map.{lookup}
+use Rattle.std.specs.Prelude.{◌≡◌, ◌+◌, ◌||◌, ℕ, cond, List, [], ◌∷◌, length, map, nat_le, Option, Some, None, is_some, codes, unwrap_or, refl}
 use Rattle.std.proofs.Common.{sym, ap, subst, ◌∙◌, inl, inr}
 use Rattle.std.proofs.lemmas.Bool.{cases_Bool, false≢true}
 use Rattle.chassis_sim.specs.Changing.{given_name}
@@ -24,7 +23,7 @@ use Rattle.ovn_base.proofs.Puts.{put_other, put_there}
 use Rattle.switch_engine.specs.declared.effect.NetEffect.{NetEffect}
 use Rattle.switch_engine.specs.declared.walk.Walk.{Walk}
 use Rattle.tunnel_keys.specs.Edits.{GivesKeys, GivesKeysAfter}
-use Rattle.tunnel_keys.specs.Keys.{Keys, IsKeys}
+use Rattle.tunnel_keys.specs.Keys.{Keys}
 use Rattle.tunnel_keys.specs.declared.owner.DatapathKey.{DatapathKey}
 use Rattle.tunnel_keys.specs.declared.owner.KeyOwner.{KeyOwner}
 use Rattle.tunnel_keys.specs.declared.owner.KeyOwner.TheVariants.{Datapath, Port}

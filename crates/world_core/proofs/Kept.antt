@@ -1,5 +1,5 @@
 -- What stays true of the records, the bindings and the births, when a record comes, a port is bound, a chassis comes.
-use Rattle.std.specs.Prelude.{◌≡◌, ◌≢◌, ◌≤◌, ◌<◌, ◌^◌, ◌⊎◌, ℕ, List, [], ◌∷◌, Some, None, Option, IsSome, is_some, length, map, refl}
+use Rattle.std.specs.Prelude.{◌≡◌, ◌≢◌, ◌≤◌, ◌<◌, ◌^◌, ◌⊎◌, ℕ, List, Some, None, Option, IsSome, is_some, length, refl}
 use mathlib.Core.Path.{sym, ap, subst, ◌∙◌}
 use mathlib.Core.Logic.{inl, inr}
 use native.Mathlib.Omega.{arith}
@@ -8,23 +8,18 @@ use Rattle.std.specs.List.Sorted.{IsStrictlySortedBy}
 use Rattle.std.specs.Ordering.{nat_cmp}
 use Rattle.std.proofs.lemmas.Option.{none-some}
 use Rattle.ovn_base.specs.Among.{Among}
-use Rattle.ovn_base.specs.Address.{IsMac}
-use Rattle.ovn_base.specs.declared.address.Ip4.{Ip4}
-use Rattle.ovn_base.specs.declared.address.Mac.{Mac}
 use Rattle.ovn_base.specs.declared.name.Name.{Name}
-use Rattle.ovn_base.proofs.AmongLaws.{among_cases, among_none}
 use Rattle.ovn_base.specs.Once.{EachOnce}
 use Rattle.ovn_base.specs.ByName.{at, put, IsByName}
 use Rattle.nb_records.specs.Network.{Network}
 use Rattle.ovn_base.proofs.Puts.{put_there, put_other, put_cases, put_sorted, one_or_two}
-use Rattle.nb_records.specs.declared.record.PortAddress.{PortAddress}
 use Rattle.nb_records.specs.declared.record.Switch.{Switch}
 use Rattle.nb_records.specs.declared.record.SwitchPort.{SwitchPort}
 use Rattle.tunnel_keys.specs.Keys.{Keys, held_datapaths, held_ports}
 use Rattle.tunnel_keys.specs.declared.owner.HeldDatapath.{HeldDatapath}
 use Rattle.tunnel_keys.specs.declared.owner.HeldPort.{HeldPort}
 use Rattle.world_core.specs.State.{State, events_of}
-use Rattle.world_core.specs.Addresses.{macs_in, HasMac, HasIp, IsOfStation}
+use Rattle.world_core.specs.Addresses.{macs_in, HasMac, HasIp}
 use Rattle.world_core.specs.New.{AreNew}
 use Rattle.world_core.specs.Sound.{IsValid, AreBound, AreBorn}
 use Rattle.world_core.proofs.Found.{some_of, is_some_of}

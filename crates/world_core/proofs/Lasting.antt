@@ -13,7 +13,6 @@ use Rattle.ovn_base.specs.ByName.{at, put}
 use Rattle.ovn_base.specs.declared.name.Name.{Name}
 use Rattle.ovn_base.proofs.AmongLaws.{among_none}
 use Rattle.ovn_base.proofs.Puts.{one_or_two, put_other, put_there}
-use Rattle.nb_records.specs.Network.{Network}
 use Rattle.nb_records.specs.declared.record.Switch.{Switch}
 use Rattle.tunnel_keys.specs.Edits.{GivesKeys}
 use Rattle.tunnel_keys.specs.Keys.{Keys, IsKeys, held_datapaths, held_ports}

@@ -1,12 +1,12 @@
 -- Once all tables are made anew, the chassis are again those of the state.
-use Rattle.std.specs.Prelude.{◌≡◌, ◌⊎◌, ℕ, Bool, true, false, cond, List, [], ◌∷◌, ◌++◌, map, Option, Some, None, IsSome, refl}
+use Rattle.std.specs.Prelude.{◌≡◌, ◌⊎◌, ℕ, cond, List, [], ◌∷◌, ◌++◌, map, Option, Some, IsSome, refl}
 use Rattle.std.specs.List.{AllByRecursion, list_any}
 use Rattle.std.specs.Map.{keys_of}
 use Rattle.std.proofs.Common.{sym, ap, subst, ◌∙◌, inl, inr}
 use Rattle.std.proofs.lemmas.Bool.{cases_Bool, false≢true}
 use Rattle.std.proofs.lemmas.Option.{same_Some}
 use Rattle.chassis_sim.specs.Changing.{AreReplaced, come, coming_and_going, gone, IsApplied}
-use Rattle.chassis_sim.specs.Settings.{AreSet, set_in_turn}
+use Rattle.chassis_sim.specs.Settings.{set_in_turn}
 use Rattle.chassis_sim.specs.State as sim
 use Rattle.chassis_sim.specs.State.{named, same_pair}
 use Rattle.chassis_sim.specs.declared.change.SimChange.{SimChange}
@@ -16,9 +16,8 @@ use Rattle.ovn_base.specs.Among.{Among, here, there}
 use Rattle.ovn_base.specs.ByName.{at}
 use Rattle.ovn_base.specs.SameName.{bytes_decides, same_name}
 use Rattle.ovn_base.specs.declared.name.Name.{Name}
-use Rattle.ovn_base.proofs.AmongLaws.{among_all, among_any, among_cases, among_map, among_none, among_same, any_among, map_among}
+use Rattle.ovn_base.proofs.AmongLaws.{among_all, among_any, among_cases, among_map, among_none, any_among}
 use Rattle.tunnel_keys.specs.Keys.{Keys}
-use Rattle.world_core.specs.Consistent.{IsConsistent}
 use Rattle.world_core.specs.Parts.{IsRecompiled}
 use Rattle.world_core.specs.Seen.{Seen, AreHeld, AreNamed, frame_of_crossing}
 use Rattle.world_core.specs.Sound.{HaveKeys, AreBound, AreFlowsOf}
@@ -55,7 +54,7 @@ module _ {T : Type 0} (flows_of : T → List Flow) where
           | inl r ↦ inl (record { entry = r.entry; among = there r.among; own = r.own; flows_are = next ∙ r.flows_are })
           | inr r ↦ inr (
             λ m. elim (among_cases name a.0 (keys_of added) m) [ inl is ↦ false≢true (sym other ∙ (bytes_decides a.0 name).1 (sym is)) | inr later ↦ r.0 later ],
-            next ∙ r.1
+            next ∙ r.1,
           )
         ]
   ]

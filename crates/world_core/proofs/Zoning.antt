@@ -1,5 +1,5 @@
 -- The number of the zone of a port that is bound: no other port has it on the chassis.
-use Rattle.std.specs.Prelude.{◌≡◌, ◌≢◌, ◌≤◌, ◌<◌, ◌+◌, ◌^◌, ℕ, suc, Bool, true, false, cond, List, [], ◌∷◌, ◌++◌, Option, Some, None, IsSome, filter, length, map, take, unwrap_or, refl}
+use Rattle.std.specs.Prelude.{◌≡◌, ◌≢◌, ◌≤◌, ◌<◌, ◌+◌, ◌^◌, ℕ, suc, true, false, cond, List, [], ◌∷◌, ◌++◌, Option, Some, None, filter, length, take, unwrap_or, refl}
 use Rattle.std.specs.List.{list_any}
 use Rattle.std.specs.Set.{is_member}
 use Rattle.std.proofs.Common.{arith, sym, ap, subst, ◌∙◌, inl, inr}
@@ -7,12 +7,12 @@ use Rattle.std.proofs.Math.Dec.{eqb as nat_eq}
 use Rattle.std.proofs.lemmas.Bool.{cases_Bool, false≢true}
 use Rattle.std.proofs.lemmas.Bool.Decides.{Decides-eqb}
 use Rattle.ovn_base.specs.Among.{Among, here}
-use Rattle.ovn_base.specs.ByName.{at, IsByName}
-use Rattle.ovn_base.specs.SameName.{bytes_decides, same_name}
+use Rattle.ovn_base.specs.ByName.{at}
+use Rattle.ovn_base.specs.SameName.{bytes_decides}
 use Rattle.ovn_base.specs.declared.name.Name.{Name}
 use Rattle.ovn_base.proofs.AmongLaws.{among_any, among_filter, among_map, among_member, any_among, member_among}
 use Rattle.ovn_base.proofs.Puts.{at_among}
-use Rattle.tunnel_keys.specs.Keys.{free_in, free_one, IsFreeIn}
+use Rattle.tunnel_keys.specs.Keys.{free_in, IsFreeIn}
 use Rattle.tunnel_keys.proofs.FreeKeys.{free_first, free_is_free, free_more, free_none}
 use Rattle.tunnel_keys.proofs.Room.{filter_few, free_count}
 use Rattle.world_core.specs.Homes.{is_at, is_home}

@@ -1,7 +1,6 @@
 use Rattle.std.proofs.Common.{◌≡◌, ◌++◌, drop}
 use Rattle.std.specs.List.{AllByRecursion}
 use Rattle.std.specs.Map.{keys_of}
-use Rattle.world_core.specs.Inside.{seen_of}
 use Rattle.world_core.specs.Sound.{AreFlowsOf}
 use Rattle.world_core.proofs.world.World.all_tables.Given as goal
 

@@ -1,4 +1,4 @@
-use Rattle.std.proofs.Common.{◌≡◌, ℕ, List, [], ◌∷◌, ◌++◌, Some, subst, sym, ap, ◌∙◌}
+use Rattle.std.proofs.Common.{◌≡◌, [], ◌∷◌, ◌++◌, Some, subst, sym, ap, ◌∙◌}
 use Rattle.ovn_base.specs.ByName.{put}
 use Rattle.edit_reader.specs.declared.event.Event.TheVariants as event_of
 use Rattle.world_core.specs.Consistent.{IsConsistent}

@@ -1,11 +1,11 @@
-use Rattle.std.proofs.Common.{◌≡◌, ℕ, List, [], ◌∷◌, subst, sym, ap, ◌∙◌}
+use Rattle.std.proofs.Common.{◌≡◌, [], ◌∷◌, subst, sym, ap, ◌∙◌}
 use Rattle.edit_reader.specs.declared.event.Event.TheVariants as event_of
 use Rattle.nb_records.specs.declared.record.Op.TheVariants.{Add}
 use Rattle.nb_records.specs.declared.record.Record.TheVariants as record_of
 use Rattle.world_core.specs.Consistent.{IsConsistent}
 use Rattle.world_core.specs.Parts.{IsRecompiled}
 use Rattle.world_core.specs.Seen.{Seen}
-use Rattle.world_core.specs.State.{State, finished}
+use Rattle.world_core.specs.State.{finished}
 use Rattle.world_core.proofs.Doing.{done_so, port_done}
 use Rattle.world_core.proofs.Refusals.{is_built, is_new}
 use Rattle.world_core.proofs.world.World.take_port.Goals as goal
