@@ -1,5 +1,5 @@
 -- An added switch, and an added port: edits of the network, which leave a consistent state.
-use Rattle.std.specs.Prelude.{◌≡◌, ◌≢◌, ◌<◌, ◌+◌, ◌^◌, ◌++◌, ℕ, List, [], ◌∷◌, Option, Some, None, IsSome, cond, flat_map, length, map, unwrap_or, refl}
+use Rattle.std.specs.Prelude.{◌≡◌, ◌≢◌, ◌<◌, ◌+◌, ◌^◌, ◌++◌, ℕ, List, [], ◌∷◌, Option, Some, None, IsSome, cond, flat_map, length, map, refl}
 use Rattle.std.specs.List.{cons_option}
 use Rattle.std.specs.List.Sorted.{IsStrictlySortedBy}
 use Rattle.std.proofs.Common.{sym, ap, subst, ◌∙◌, inl, inr}
@@ -20,9 +20,8 @@ use Rattle.tunnel_keys.specs.Edits.{GivesKeys}
 use Rattle.tunnel_keys.specs.Keys.{Keys, IsKeys}
 use Rattle.tunnel_keys.specs.Owners.{ports_in}
 use Rattle.tunnel_keys.specs.declared.owner.DatapathKey.{DatapathKey}
-use Rattle.tunnel_keys.specs.declared.owner.KeyOwner.{KeyOwner}
 use Rattle.tunnel_keys.specs.declared.owner.KeyOwner.TheVariants.{Datapath, Port}
-use Rattle.world_core.specs.Editing.{Edits, counted, datapath_effect, key_effects, port_effect, ports_in_order}
+use Rattle.world_core.specs.Editing.{Edits, counted, datapath_effect, key_effects, port_effect}
 use Rattle.world_core.specs.New.{AreNew}
 use Rattle.world_core.specs.Seen.{IsConsistent}
 use Rattle.world_core.specs.State.{State, events_of}

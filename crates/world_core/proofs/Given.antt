@@ -1,5 +1,5 @@
 -- The keys after an owner came: each record has its key, and no owner is younger than the event.
-use Rattle.std.specs.Prelude.{◌≡◌, ◌≤◌, ℕ, ◌⊎◌, List, [], ◌∷◌, ◌++◌, Some, IsSome, map, filter_map}
+use Rattle.std.specs.Prelude.{◌≡◌, ◌≤◌, ℕ, List, [], ◌∷◌, Some, IsSome, map, filter_map}
 use Rattle.std.proofs.Common.{arith, sym, ap, subst, ◌∙◌, inl, inr}
 use Rattle.ovn_base.specs.Among.{Among, here}
 use Rattle.ovn_base.specs.declared.name.Name.{Name}
@@ -10,7 +10,7 @@ use Rattle.nb_records.specs.Network.{Network}
 use Rattle.nb_records.specs.declared.record.Switch.{Switch}
 use Rattle.nb_records.specs.declared.record.SwitchPort.{SwitchPort}
 use Rattle.tunnel_keys.specs.Edits.{GivesKeys, GivesKeysAfter}
-use Rattle.tunnel_keys.specs.Keys.{Keys, IsKeys, held_datapath, held_datapaths, held_port, held_ports}
+use Rattle.tunnel_keys.specs.Keys.{Keys, IsKeys, held_datapath, held_port}
 use Rattle.tunnel_keys.specs.declared.owner.DatapathKey.{DatapathKey}
 use Rattle.tunnel_keys.specs.declared.owner.HeldDatapath.{HeldDatapath}
 use Rattle.tunnel_keys.specs.declared.owner.HeldPort.{HeldPort}
@@ -23,7 +23,7 @@ use Rattle.tunnel_keys.proofs.Room.{retire_none}
 use Rattle.world_core.specs.Sound.{AreBorn, HaveKeys}
 use Rattle.world_core.specs.State.{State, events_of}
 use Rattle.world_core.proofs.Kept.{AreKeysBorn, some_kept, some_put}
-use Rattle.world_core.proofs.Owning.{name_in, birth_in, place_in, not_port, the_one}
+use Rattle.world_core.proofs.Owning.{name_in, birth_in, not_port, the_one}
 
 -- where nobody is removed, keys are given beside those that are there
 pub given_beside : (keys : Keys) (added : List KeyOwner) (after : Keys) → GivesKeys keys added [] after → GivesKeysAfter keys added after
@@ -64,8 +64,7 @@ module _ (net : Network) (keys after : Keys) (have : HaveKeys net keys) (hold : 
     ];
     port_has = λ q port found. elim (put_cases net.ports p.name p q port found) [
       | inl new ↦
-          let given = gives.port_given p.switch p.name p.birth here in
-          (
+          let given = gives.port_given p.switch p.name p.birth here in (
             record { birth = p.birth; datapath = p.switch; key = given.0 },
             ap (λ n. at after.ports n) new.0 ∙ given.2,
             ap (λ (w : SwitchPort). w.birth) (sym new.1),

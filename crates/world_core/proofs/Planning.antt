@@ -1,18 +1,17 @@
 -- An edit that adds one owner fits the keys, and there is a key for it.
-use Rattle.std.specs.Prelude.{◌≡◌, ◌≢◌, ◌≤◌, ◌<◌, ◌+◌, suc, Bool, true, false, cond, List, [], ◌∷◌, Option, Some, None, IsSome, length, map, filter, refl}
+use Rattle.std.specs.Prelude.{◌≡◌, ◌≤◌, ◌<◌, ◌+◌, suc, Bool, true, false, cond, List, [], ◌∷◌, Option, Some, None, IsSome, length, map, filter, refl}
 use Rattle.std.specs.List.{cons_option}
 use Rattle.std.proofs.Common.{arith, sym, ap, subst, ◌∙◌, inl, inr, length-append}
 use Rattle.std.proofs.lemmas.Option.{none-some, same_Some}
-use Rattle.ovn_base.specs.Among.{Among, here}
 use Rattle.ovn_base.specs.SameName.{same_name}
 use Rattle.ovn_base.specs.declared.address.Birth.{Birth}
 use Rattle.ovn_base.specs.declared.name.Name.{Name}
 use Rattle.ovn_base.specs.ByName.{at}
-use Rattle.ovn_base.proofs.AmongLaws.{among_none, among_append}
+use Rattle.ovn_base.proofs.AmongLaws.{among_none}
 use Rattle.ovn_base.proofs.Puts.{at_among}
-use Rattle.tunnel_keys.specs.Causes.{HasKeys, LacksDatapathKeys, LacksPortKeys}
+use Rattle.tunnel_keys.specs.Causes.{HasKeys}
 use Rattle.tunnel_keys.specs.Edits.{IsEdit, IsLive, IsNew, IsThereAfter}
-use Rattle.tunnel_keys.specs.Keys.{Keys, free_datapath_keys, free_port_keys, retire, taken_datapaths, taken_ports}
+use Rattle.tunnel_keys.specs.Keys.{Keys, free_datapath_keys, free_port_keys, taken_datapaths, taken_ports}
 use Rattle.tunnel_keys.specs.Owners.{ports_in}
 use Rattle.tunnel_keys.specs.declared.owner.DatapathKey.{DatapathKey}
 use Rattle.tunnel_keys.specs.declared.owner.Identity.{Identity}

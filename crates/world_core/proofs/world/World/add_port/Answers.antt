@@ -3,7 +3,6 @@ use Rattle.ovn_base.specs.ByName.{at, put}
 use Rattle.ovn_base.specs.declared.address.Birth.{Birth}
 use Rattle.nb_records.specs.declared.record.Op.TheVariants.{Add}
 use Rattle.nb_records.specs.declared.record.Record.TheVariants as record_of
-use Rattle.nb_records.specs.Network.{Network}
 use Rattle.switch_engine.specs.declared.effect.NetEffect.TheVariants as effect
 use Rattle.tunnel_keys.specs.Edits.{GivesKeys, IsEdit}
 use Rattle.tunnel_keys.specs.Keys.{Keys}
