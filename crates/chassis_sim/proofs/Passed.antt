@@ -53,6 +53,7 @@ arrives_from state n keep frame run before after new waits runs told = by (named
     from : (flows : List Flow) (entry : Entry) (packet : Packet) → named state.chassis frame.to ≡ Some flows → Brings frame.bytes entry packet → IsWalkOf flows entry packet run.walk run.effects → Arrives state n keep before after new
     from flows (Vif port) packet is brings walk = absurd brings
     from flows (Tunnel vni in_key out_key) packet is brings walk = through_tunnel frame flows vni in_key out_key packet run.walk run.effects waits is brings.0 walk told
+
     by : (found : Option (List Flow)) → named state.chassis frame.to ≡ found → RunsFrom found frame.bytes run → Arrives state n keep before after new
     by (Some flows) is runs = from flows runs.0 runs.1 is runs.2 runs.3
     by None is lost =

@@ -4,12 +4,15 @@ use Rattle.std.specs.List.{AllByRecursion}
 use Rattle.inet_packet.specs.declared.packet.Packet.{Packet}
 use Rattle.inet_packet.specs.Frame.{frame_of}
 use Rattle.inet_packet.specs.Whole.{IsWhole}
+use Rattle.flow_table.specs.declared.flow.Flow.{Flow}
 use Rattle.geneve_frames.specs.Meaning.{Spells, canon}
 use Rattle.switch_engine.specs.declared.effect.Effect.{Effect}
 use Rattle.switch_engine.specs.declared.effect.Effect.TheVariants.{Out, Frame, Drop, Lost}
 use Rattle.switch_engine.specs.declared.effect.Entry.{Entry}
 use Rattle.switch_engine.specs.declared.effect.Entry.TheVariants.{Vif, Tunnel}
-use Rattle.switch_engine.specs.Proper.{IsEntry}
+use Rattle.switch_engine.specs.declared.walk.Step.{Step}
+use Rattle.switch_engine.specs.Proper.{IsProper, IsEntry}
+use Rattle.switch_engine.specs.Walk.{IsWalkOf}
 use Rattle.chassis_sim.specs.declared.underlay.WaitingFrame.{WaitingFrame}
 
 -- the bytes are a Geneve frame with these keys, in which the frame of the packet lies
@@ -51,3 +54,13 @@ CanBeSent (Out port packet) = Unit {0}
 CanBeSent (Frame chassis vni in_key out_key packet) = (vni < 2 ^ 24) × (in_key < 2 ^ 15) × IsWhole packet
 CanBeSent (Drop vni port cause) = Unit {0}
 CanBeSent Lost = Unit {0}
+
+-- so are all frames of each walk of a whole packet through proper tables
+abbrev pub WalksCanBeSent : Type 0
+WalksCanBeSent =
+    (flows : List Flow) (entry : Entry) (packet : Packet) (steps : List Step) (effects : List Effect)
+    → IsProper flows
+    → IsEntry entry
+    → IsWhole packet
+    → IsWalkOf flows entry packet steps effects
+    → AllByRecursion CanBeSent effects

@@ -1,6 +1,9 @@
 -- What always holds of what the chassis hold.
 use Rattle.std.specs.Prelude.{◌≡◌, ◌≤◌, ℕ, List, [], ◌∷◌, Option, Some, None}
 use Rattle.std.specs.List.{AllByRecursion}
+use Rattle.std.specs.List.Sorted.{IsStrictlySortedBy}
+use Rattle.std.specs.Map.{keys_of}
+use Rattle.std.specs.Ordering.{nat_cmp}
 use Rattle.ovn_base.specs.declared.name.Name.{Name}
 use Rattle.inet_packet.specs.declared.packet.Packet.{Packet}
 use Rattle.flow_table.specs.declared.flow.Flow.{Flow}
@@ -17,9 +20,10 @@ use Rattle.chassis_sim.specs.State.{State, named}
 abbrev pub AreProper : List (Name × List Flow) → Type 0
 AreProper chassis = (name : Name) (flows : List Flow) → named chassis name ≡ Some flows → IsProper flows
 
--- the flows are proper, numbers begin with 1, and the frames that wait were sent before the next one, each with a whole packet
+-- the flows are proper, the frames that wait are in order of number, numbers begin with 1, and each frame was sent before the next one, each with a whole packet
 pub record IsHeld (state : State) : Type 0 where
   pub proper : AreProper state.chassis
+  pub ordered : IsStrictlySortedBy nat_cmp (keys_of state.waiting)
   pub some_next : 1 ≤ state.next
   pub waiting : AllByRecursion (IsWaiting state.next) state.waiting
 

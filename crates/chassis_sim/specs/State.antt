@@ -1,4 +1,4 @@
--- What the simulated chassis hold.
+-- What is seen of the simulated chassis.
 use Rattle.std.specs.Prelude.{ℕ, ◌&&◌, Bool, List, [], Option, slice_get}
 use Rattle.std.specs.Map.{lookup, remove_entry}
 use Rattle.std.specs.Option.{option_and_then}
@@ -14,6 +14,7 @@ use Rattle.chassis_sim.specs.declared.underlay.WaitingFrame.{WaitingFrame}
 abbrev pub KeyPair : Type 0
 KeyPair = ℕ × ℕ
 
+-- what the chassis hold, and what is on its way between them
 pub record State : Type 0 where
   -- the flows that each chassis holds
   pub chassis : List (Name × List Flow)

@@ -121,10 +121,7 @@ fn set<K: Eq + Hash + Drop, V: Drop>(map: &mut IndexMap<K, V>, key: K, value: Op
 }
 
 // Binds ports to chassis, or to none.
-pub(crate) fn bind_each(
-    bindings: &mut IndexMap<Name, Name>,
-    bound: List<(Name, Option<Name>)>,
-)
+pub(crate) fn bind_each(bindings: &mut IndexMap<Name, Name>, bound: List<(Name, Option<Name>)>)
     requires { length bound ≤ spare bindings.old }
     ensures { AreSet same_name bound bindings.old.entries bindings.new.entries }
 {

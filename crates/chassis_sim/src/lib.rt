@@ -7,6 +7,7 @@
 pub mod change;
 mod chassis;
 mod frames;
+pub mod laws;
 mod names;
 pub mod out;
 mod passing;

@@ -6,13 +6,13 @@ ghost use Rattle.switch_engine.specs.Proper.{IsEntry, IsProper};
 ghost use Rattle.switch_engine.specs.Walk.{IsWalkOf};
 ghost use Rattle.chassis_sim.specs.Frames.{CanBeSent};
 
+use crate::laws::walks_can_be_sent;
 use flow_table::lookup::Lookup;
 use inet_packet::packet::Packet;
 use ovn_base::memory::NoMemory;
 use std::alloc::Global;
 use switch_engine::effect::Entry;
 use switch_engine::engine::run;
-use switch_engine::laws::frames_fit;
 use switch_engine::walk::RunOut;
 use switch_engine::zones::Zones;
 
@@ -30,7 +30,7 @@ pub(crate) fn pass<T: Lookup>(
     ensures walk { IfOk result (λ run. IsWalkOf (T.flows tables.now) entry.now packet run.walk run.effects) }
     ensures can { IfOk result (λ run. AllByRecursion CanBeSent run.effects) }
 {
-    frames_fit();
+    walks_can_be_sent();
     let mut zones = Zones::new();
     let mut out = RunOut::new(alloc);
     run(alloc, tables, &mut zones, entry, packet, now, &mut out)?;

@@ -1,6 +1,6 @@
 -- How many keys are free, and keys of which none is retired.
 use Rattle.std.specs.Prelude.{◌≡◌, ℕ, zero, suc, ◌+◌, ◌≤◌, ◌<◌, Bool, true, false, cond, not, List, [], ◌∷◌, ◌++◌, length, map, refl}
-use mathlib.Core.Path.{sym, ap, subst, ◌∙◌}
+use mathlib.Core.Path.{ap, ◌∙◌}
 use mathlib.Core.Logic.{inl, inr}
 use native.Mathlib.Omega.{arith}
 use Rattle.std.specs.List.{filter, filter_map}
@@ -11,11 +11,8 @@ use Rattle.std.proofs.lemmas.Bool.{cases_lt}
 use Rattle.std.proofs.lemmas.Bool.Decides.{Decides-eqb}
 use Rattle.std.proofs.lemmas.Map.Steps.{le-length_from_below}
 use Rattle.ovn_base.specs.Among.{Among, here, there}
-use Rattle.ovn_base.specs.declared.name.Name.{Name}
 use Rattle.ovn_base.proofs.AmongLaws.{among_left, among_right, among_same, among_filter, among_member, member_among}
 use Rattle.tunnel_keys.specs.Keys.{Keys, numbers_to, free_in, retire, held_datapath, held_port}
-use Rattle.tunnel_keys.specs.declared.owner.DatapathKey.{DatapathKey}
-use Rattle.tunnel_keys.specs.declared.owner.PortKey.{PortKey}
 use Rattle.tunnel_keys.proofs.Lists.{append_none}
 
 -- ---- how many are free

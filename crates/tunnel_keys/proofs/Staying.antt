@@ -1,5 +1,5 @@
 -- An edit loses no key that is held.
-use Rattle.std.specs.Prelude.{◌≡◌, ◌≢◌, ◌⊎◌, Bool, true, false, not, List, ◌++◌, map, Some, refl}
+use Rattle.std.specs.Prelude.{◌≡◌, ◌⊎◌, Bool, true, false, not, List, map, Some, refl}
 use mathlib.Core.Path.{sym, ap, subst, ◌∙◌}
 use mathlib.Core.Logic.{inl, inr}
 use Rattle.std.specs.List.{filter, filter_map}
@@ -17,7 +17,7 @@ use Rattle.tunnel_keys.specs.declared.owner.PortKey.{PortKey}
 use Rattle.tunnel_keys.specs.declared.owner.HeldDatapath.{HeldDatapath}
 use Rattle.tunnel_keys.specs.declared.owner.HeldPort.{HeldPort}
 use Rattle.tunnel_keys.specs.declared.owner.KeyOwner.{KeyOwner}
-use Rattle.tunnel_keys.specs.declared.owner.KeyOwner.TheVariants.{Datapath, Port}
+use Rattle.tunnel_keys.specs.declared.owner.KeyOwner.TheVariants.{Datapath}
 use Rattle.tunnel_keys.proofs.Held.{found, held_port_is, is_held_port, on_datapath_key}
 use Rattle.tunnel_keys.proofs.Lists.{at_filter, filter_at}
 use Rattle.tunnel_keys.proofs.OwnerLaws.{listed_among, unlisted_not}

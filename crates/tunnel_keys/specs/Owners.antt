@@ -1,7 +1,6 @@
 -- Lists of owners.
-use Rattle.std.specs.Prelude.{Bool, List, [], ◌∷◌, Option, Some, None, cond}
+use Rattle.std.specs.Prelude.{Bool, List, Option, Some, None, cond}
 use Rattle.std.specs.List.{list_any, filter_map}
-use Rattle.ovn_base.specs.Among.{Among}
 use Rattle.ovn_base.specs.declared.name.Name.{Name}
 use Rattle.ovn_base.specs.declared.address.Birth.{Birth}
 use Rattle.ovn_base.specs.SameName.{same_name}

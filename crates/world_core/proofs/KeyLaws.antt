@@ -11,7 +11,6 @@ use Rattle.ovn_base.proofs.Puts.{at_among}
 use Rattle.nb_records.specs.Network.{Network}
 use Rattle.tunnel_keys.specs.Keys.{Keys, held_datapath, held_datapaths, held_port, held_ports}
 use Rattle.tunnel_keys.specs.declared.owner.DatapathKey.{DatapathKey}
-use Rattle.tunnel_keys.specs.declared.owner.HeldPort.{HeldPort}
 use Rattle.tunnel_keys.specs.declared.owner.Identity.{Identity}
 use Rattle.tunnel_keys.specs.declared.owner.PortKey.{PortKey}
 use Rattle.tunnel_keys.proofs.Held.{is_held_port, on_datapath_key}

@@ -1,5 +1,5 @@
 -- Names stay names: in the records, in effects and in refusals.
-use Rattle.std.specs.Prelude.{◌≡◌, ◌≤◌, ◌<◌, ◌+◌, ◌^◌, ◌++◌, ℕ, Bool, true, false, List, [], ◌∷◌, Some, None, Option, is_some, cond, map, flat_map, unwrap_or}
+use Rattle.std.specs.Prelude.{◌≡◌, ◌≤◌, ◌<◌, ◌+◌, ◌^◌, ℕ, Bool, true, false, List, [], ◌∷◌, Some, None, Option, is_some, cond, map, unwrap_or}
 use Rattle.std.specs.List.{AllByRecursion}
 use Rattle.std.specs.Option.{option_map}
 use Rattle.std.proofs.Common.{sym, ap, subst, arith, inl, inr}
@@ -35,7 +35,7 @@ use Rattle.tunnel_keys.specs.declared.owner.KeyOwner.TheVariants.{Datapath, Port
 use Rattle.tunnel_keys.specs.declared.owner.PortKey.{PortKey}
 use Rattle.tunnel_keys.proofs.Lists.{in_order_among}
 use Rattle.tunnel_keys.proofs.OwnerLaws.{in_datapaths, in_ports}
-use Rattle.world_core.specs.Editing.{owner_of, owners_of, datapath_effect, port_effect, ports_in_order, key_effects, accepted, born}
+use Rattle.world_core.specs.Editing.{owner_of, owners_of, datapath_effect, port_effect, added_ports, key_effects, accepted, born}
 use Rattle.world_core.specs.Numbers.{datapath_number, port_number}
 use Rattle.world_core.specs.Refusing.{refusal, refusal_of_record, is_chassis}
 use Rattle.world_core.specs.State.{State, empty, events_of}
@@ -91,7 +91,7 @@ module _ (between after : Keys) (owners : List KeyOwner) (ranged : AreRanged bet
       let range : between.datapath_range < 2 ^ 64 = ranged.datapaths in
       (among_all IsNamedOwner (Datapath o.0 o.1) owners named owner, omega (arith, number, high, range))
 
-  port_line : (o : Name × Birth) → Among o (ports_in_order owners after) → IsNamedEffect (port_effect after o)
+  port_line : (o : Name × Birth) → Among o (added_ports owners after) → IsNamedEffect (port_effect after o)
   port_line o among =
       let d = flat_map_among (λ (d : Name × DatapathKey). in_order (ports_in d.0 owners)) o after.datapaths among in
       let owner : Among (Port d.0.0 o.0 o.1) owners = in_ports owners d.0.0 o.0 o.1 (in_order_among (ports_in d.0.0 owners) o.0 o.1 d.2) in
@@ -102,9 +102,9 @@ module _ (between after : Keys) (owners : List KeyOwner) (ranged : AreRanged bet
       (among_all IsNamedOwner (Port d.0.0 o.0 o.1) owners named owner, omega (arith, number, high, range))
 
   keys_named : AreNamed (key_effects owners after)
-  keys_named = all_among IsNamedEffect (key_effects owners after) (λ effect among. elim (among_append effect (map (datapath_effect after) (in_order (datapaths_in owners))) (map (port_effect after) (ports_in_order owners after)) among) [
+  keys_named = all_among IsNamedEffect (key_effects owners after) (λ effect among. elim (among_append effect (map (datapath_effect after) (in_order (datapaths_in owners))) (map (port_effect after) (added_ports owners after)) among) [
     | inl a ↦ let r = map_among (datapath_effect after) effect (in_order (datapaths_in owners)) a in subst IsNamedEffect (sym r.2) (datapath_line r.0 r.1)
-    | inr b ↦ let r = map_among (port_effect after) effect (ports_in_order owners after) b in subst IsNamedEffect (sym r.2) (port_line r.0 r.1)
+    | inr b ↦ let r = map_among (port_effect after) effect (added_ports owners after) b in subst IsNamedEffect (sym r.2) (port_line r.0 r.1)
   ])
 
   still_ranged : AreRanged after
@@ -164,8 +164,7 @@ pub record IsNamedState (m : State) : Type 0 where
 pub step_named : (m : State) (event : Event) (effects : List NetEffect) (after : State) → IsNamedState m → IsNamedEvent event → Step m event effects after → AreNamed effects × IsNamedState after
 step_named m (Edit ops) effects after named fine h =
     let owners = owners_of ops (events_of m + 1) in
-    let between : AreRanged (retire m.keys []) = record { datapaths = named.keys.datapaths; ports = named.keys.ports } in
-    (
+    let between : AreRanged (retire m.keys []) = record { datapaths = named.keys.datapaths; ports = named.keys.ports } in (
       subst AreNamed (sym h.effects_are) (keys_named (retire m.keys []) h.keys owners between (owners_named ops (events_of m + 1) fine) h.given),
       subst (λ (s : State). IsNamedState s) (sym h.state) (record {
         ports = accepted_named m.net ops (events_of m + 1) named.ports fine;

@@ -19,7 +19,6 @@ use Rattle.nb_records.specs.Network.{Network}
 use Rattle.nb_records.specs.declared.record.Op.TheVariants.{Add}
 use Rattle.nb_records.specs.declared.record.Record.{Record}
 use Rattle.nb_records.specs.declared.record.Record.TheVariants as record_of
-use Rattle.nb_records.specs.declared.record.Switch.{Switch}
 use Rattle.nb_records.specs.declared.record.SwitchPort.{SwitchPort}
 use Rattle.edit_reader.specs.declared.event.Event.{Event}
 use Rattle.edit_reader.specs.declared.event.Event.TheVariants.{Edit, Bind, AddChassis, Packet, Unread, NotBuilt}
@@ -37,7 +36,7 @@ use Rattle.tunnel_keys.specs.declared.owner.PortKey.{PortKey}
 use Rattle.tunnel_keys.proofs.Determined.{same_found}
 use Rattle.tunnel_keys.proofs.OwnerLaws.{datapaths_have, ports_have}
 use Rattle.world_core.specs.Admitted.{IsAdmitted, IsAdmittedRecord}
-use Rattle.world_core.specs.Editing.{owners_of, datapath_effect, port_effect, ports_in_order, key_effects, accepted, counted}
+use Rattle.world_core.specs.Editing.{owners_of, datapath_effect, port_effect, added_ports, key_effects, accepted, counted}
 use Rattle.world_core.specs.Numbers.{datapath_number, port_number}
 use Rattle.world_core.specs.Picks.{Fate, was_refused, was_accepted, Happens, Run}
 use Rattle.world_core.specs.Refusing.{refusal, refusal_of_record}
@@ -90,8 +89,7 @@ same_picks : (f g : Name × Birth → Pick) (owners : List (Name × Birth)) (lef
 same_picks f g [] left more e = ((λ o among. absurd (among_none o among)), e)
 same_picks f g (o ∷ os) left more e =
     let first : f o ≡ g o = ap (λ ps. head_or (f o) ps) e in
-    let rest = same_picks f g os left more (ap rest_of e) in
-    (
+    let rest = same_picks f g os left more (ap rest_of e) in (
       (λ p among. elim (among_cases p o os among) [ inl is ↦ ap f is ∙ first ∙ ap g (sym is) | inr later ↦ rest.0 p later ]),
       rest.1,
     )
@@ -132,14 +130,14 @@ module _ (between : Keys) (owners : List KeyOwner) where
   ]
 
   port_found : (a b : Keys) → GivesKeysAfter between owners a → GivesKeysAfter between owners b
-      → ((o : Name × Birth) → Among o (ports_in_order owners b) → port_pick a o ≡ port_pick b o)
+      → ((o : Name × Birth) → Among o (added_ports owners b) → port_pick a o ≡ port_pick b o)
       → (n : Name) (p : PortKey) → at a.ports n ≡ Some p → at b.ports n ≡ Some p
   port_found a b ga gb same n p found = elim (ga.port_cases n p found) [
     | inl old ↦ gb.port_kept n p old
     | inr new ↦
         let given = gb.port_given p.datapath n p.birth new in
         let o = among_ordered (ports_in p.datapath owners) n p.birth (ports_have owners p.datapath n p.birth new) in
-        let placed : Among (n, o.0) (ports_in_order owners b) =
+        let placed : Among (n, o.0) (added_ports owners b) =
         among_flat_map (λ (d : Name × DatapathKey). in_order (ports_in d.0 owners)) (p.datapath, given.1) (n, o.0) b.datapaths (at_among b.datapaths p.datapath given.1 given.3) o.1 in
         let key : p.key ≡ given.0 =
         sym (ap (λ (o : Option PortKey). unwrap_or (option_map (λ k. k.key) o) 0) found)
@@ -154,27 +152,26 @@ module _ (between : Keys) (owners : List KeyOwner) where
     same_keys : (left more : List Pick) → picks_of (key_effects owners a) ++ left ≡ picks_of (key_effects owners b) ++ more → (a ≡ b) × (left ≡ more)
     same_keys left more e =
         let picked =
-        sym (datapaths_picked a (in_order (datapaths_in owners)) (map (port_effect a) (ports_in_order owners a)) left)
+        sym (datapaths_picked a (in_order (datapaths_in owners)) (map (port_effect a) (added_ports owners a)) left)
         ∙ e
-        ∙ datapaths_picked b (in_order (datapaths_in owners)) (map (port_effect b) (ports_in_order owners b)) more in
-        let first = same_picks (datapath_pick a) (datapath_pick b) (in_order (datapaths_in owners)) (picks_of (map (port_effect a) (ports_in_order owners a)) ++ left) (picks_of (map (port_effect b) (ports_in_order owners b)) ++ more) picked in
+        ∙ datapaths_picked b (in_order (datapaths_in owners)) (map (port_effect b) (added_ports owners b)) more in
+        let first = same_picks (datapath_pick a) (datapath_pick b) (in_order (datapaths_in owners)) (picks_of (map (port_effect a) (added_ports owners a)) ++ left) (picks_of (map (port_effect b) (added_ports owners b)) ++ more) picked in
         let datapaths : a.datapaths ≡ b.datapaths =
         same_found a.datapaths b.datapaths da db (datapath_found a b ga gb first.0) (datapath_found b a gb ga (λ o among. sym (first.0 o among))) in
-        let placed : ports_in_order owners a ≡ ports_in_order owners b = ap (λ ds. flat_map (λ (d : Name × DatapathKey). in_order (ports_in d.0 owners)) ds) datapaths in
+        let placed : added_ports owners a ≡ added_ports owners b = ap (λ ds. flat_map (λ (d : Name × DatapathKey). in_order (ports_in d.0 owners)) ds) datapaths in
         let after =
         ap (λ os. map (port_pick a) os ++ left) (sym placed)
-        ∙ sym (ports_picked a (ports_in_order owners a) left)
+        ∙ sym (ports_picked a (added_ports owners a) left)
         ∙ first.1
-        ∙ ports_picked b (ports_in_order owners b) more in
-        let second = same_picks (port_pick a) (port_pick b) (ports_in_order owners b) left more after in
+        ∙ ports_picked b (added_ports owners b) more in
+        let second = same_picks (port_pick a) (port_pick b) (added_ports owners b) left more after in
         let ports : a.ports ≡ b.ports =
         same_found a.ports b.ports pa pb (port_found a b ga gb second.0)
         (port_found b a gb ga (λ o among. sym (second.0 o (subst (λ os. Among o os) placed among)))) in
         let datapath_range = ga.datapath_range ∙ sym gb.datapath_range in
         let port_range = ga.port_range ∙ sym gb.port_range in
         let retired_datapaths = ga.retired_datapaths ∙ sym gb.retired_datapaths in
-        let retired_ports = ga.retired_ports ∙ sym gb.retired_ports in
-        (
+        let retired_ports = ga.retired_ports ∙ sym gb.retired_ports in (
           (λ i. record { datapath_range = datapath_range i; port_range = port_range i; datapaths = datapaths i; ports = ports i; retired_datapaths = retired_datapaths i; retired_ports = retired_ports i }),
           second.1,
         )

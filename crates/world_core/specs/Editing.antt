@@ -48,16 +48,17 @@ abbrev pub port_effect : Keys → Name × Birth → NetEffect
 port_effect keys owner = PortKey owner.0 (unwrap_or (port_number keys owner.0) 0)
 
 -- the ports among the owners, in order of datapath name, and on each datapath in order of port name
-abbrev pub ports_in_order : List KeyOwner → Keys → List (Name × Birth)
-ports_in_order owners keys = flat_map (λ d. in_order (ports_in d.0 owners)) keys.datapaths
+abbrev pub added_ports : List KeyOwner → Keys → List (Name × Birth)
+added_ports owners keys = flat_map (λ d. in_order (ports_in d.0 owners)) keys.datapaths
 
 -- the lines of the keys that were given: those of datapaths in order of name, then those of ports
 abbrev pub key_effects : List KeyOwner → Keys → List NetEffect
-key_effects owners keys = map (datapath_effect keys) (in_order (datapaths_in owners)) ++ map (port_effect keys) (ports_in_order owners keys)
+key_effects owners keys = map (datapath_effect keys) (in_order (datapaths_in owners)) ++ map (port_effect keys) (added_ports owners keys)
 
 -- an accepted edit: the records come, keys are given, legal ones, and its effects name them
 pub record Edits (m : State) (ops : List Op) (effects : List NetEffect) (after : State) : Type 0 where
   pub keys : Keys
+  -- they stand in order of name
   pub datapaths_in_order : IsByName keys.datapaths
   pub ports_in_order : IsByName keys.ports
   pub given : GivesKeys m.keys (owners_of ops (events_of m + 1)) [] keys

@@ -16,8 +16,8 @@ added-preserved g c =
     let long : length rest + 1 ≤ length c.added.name-iterator.rest.items = rw steps (omega arith) in
     record {
       same = λ name.
-      ap (λ had. set_in_turn same_name (map (come flows) rest) name had) (seen_put flows c.added.held.entries c.set.new.map.entries (Some c.in-Some.tables) (same_name c.in-Some.name name) name (c.set.ensures.set name))
-      ∙ ap (λ (l : List (Name × g.row.T.Denot)). set_in_turn same_name (map (come flows) l) name (named (flows_held flows c.added.held.entries) name)) (sym steps)
-      ∙ c.added.invariant.same name;
+          ap (λ had. set_in_turn same_name (map (come flows) rest) name had) (seen_put flows c.added.held.entries c.set.new.map.entries (Some c.in-Some.tables) (same_name c.in-Some.name name) name (c.set.ensures.set name))
+          ∙ ap (λ (l : List (Name × g.row.T.Denot)). set_in_turn same_name (map (come flows) l) name (named (flows_held flows c.added.held.entries) name)) (sym steps)
+          ∙ c.added.invariant.same name;
       room = omega (arith, long, c.added.invariant.room, c.set.ensures.spare);
     }

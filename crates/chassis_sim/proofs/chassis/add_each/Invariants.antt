@@ -15,6 +15,6 @@ invariant-added g l =
     let left = l.name-iterator.rest.items in
     record {
       same : (name : Name) → set_in_turn same_name (map (come flows) left) name (named (flows_held flows l.held.entries) name)
-      ≡ set_in_turn same_name (map (come flows) l.fn.added) name (named (flows_held flows l.fn.held.entries) name);
+          ≡ set_in_turn same_name (map (come flows) l.fn.added) name (named (flows_held flows l.fn.held.entries) name);
       room : length left ≤ spare l.held;
     }

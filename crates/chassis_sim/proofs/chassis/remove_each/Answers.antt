@@ -14,9 +14,9 @@ names-preserved-in-Some g c =
     let rest = c.next.new.self.rest.items in
     record {
       same = λ name.
-      ap (λ had. set_in_turn same_name (map gone rest) name had) (seen_put flows c.names.held.entries c.swap_remove.new.self.entries None (same_name c.in-Some.name name) name (c.swap_remove.ensures.updates.0 name))
-      ∙ ap (λ (l : List Name). set_in_turn same_name (map gone l) name (named (flows_held flows c.names.held.entries) name)) (sym c.in-Some.ensures.steps.0)
-      ∙ c.names.invariant.same name;
+          ap (λ had. set_in_turn same_name (map gone rest) name had) (seen_put flows c.names.held.entries c.swap_remove.new.self.entries None (same_name c.in-Some.name name) name (c.swap_remove.ensures.updates.0 name))
+          ∙ ap (λ (l : List Name). set_in_turn same_name (map gone l) name (named (flows_held flows c.names.held.entries) name)) (sym c.in-Some.ensures.steps.0)
+          ∙ c.names.invariant.same name;
       spare = omega (arith, c.names.invariant.spare, c.swap_remove.ensures.room.0);
     }
 
@@ -26,8 +26,8 @@ names-preserved g c =
     let rest = c.next.new.self.rest.items in
     record {
       same = λ name.
-      ap (λ had. set_in_turn same_name (map gone rest) name had) (seen_put flows c.names.held.entries c.swap_remove.new.self.entries None (same_name c.in-Some.name name) name (c.swap_remove.ensures.updates.0 name))
-      ∙ ap (λ (l : List Name). set_in_turn same_name (map gone l) name (named (flows_held flows c.names.held.entries) name)) (sym c.in-Some.ensures.steps.0)
-      ∙ c.names.invariant.same name;
+          ap (λ had. set_in_turn same_name (map gone rest) name had) (seen_put flows c.names.held.entries c.swap_remove.new.self.entries None (same_name c.in-Some.name name) name (c.swap_remove.ensures.updates.0 name))
+          ∙ ap (λ (l : List Name). set_in_turn same_name (map gone l) name (named (flows_held flows c.names.held.entries) name)) (sym c.in-Some.ensures.steps.0)
+          ∙ c.names.invariant.same name;
       spare = omega (arith, c.names.invariant.spare, c.swap_remove.ensures.room.0);
     }

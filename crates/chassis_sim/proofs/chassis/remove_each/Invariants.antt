@@ -14,6 +14,6 @@ invariant-names g l =
     let flows = g.T.Lookup.flows in
     record {
       same : (name : Name) → set_in_turn same_name (map gone l.name-iterator.rest.items) name (named (flows_held flows l.held.entries) name)
-      ≡ set_in_turn same_name (map gone l.fn.names) name (named (flows_held flows l.fn.held.entries) name);
+          ≡ set_in_turn same_name (map gone l.fn.names) name (named (flows_held flows l.fn.held.entries) name);
       spare : spare l.fn.held ≤ spare l.held;
     }

@@ -24,6 +24,6 @@ deltas-preserved g c =
       fit = all_kept FitsIn (rooms_held room c.deltas.held.entries) (rooms_held room c.replace_one.new.held.entries) name c.replace_one.ensures.rooms rest once.0 fit.1;
       deltas = all_kept IsDeltaOfAny old new name c.replace_one.ensures.others rest once.0 deltas.1;
       replaced = λ other after h. c.deltas.invariant.replaced other after
-      (subst (λ l. AreReplaced (named l other) (named old other) after) (sym steps) (one_more (name, c.in-Some.delta) rest old new once.0 c.replace_one.ensures.replaced c.replace_one.ensures.others other after h));
+          (subst (λ l. AreReplaced (named l other) (named old other) after) (sym steps) (one_more (name, c.in-Some.delta) rest old new once.0 c.replace_one.ensures.replaced c.replace_one.ensures.others other after h));
       spare = c.replace_one.ensures.spare ∙ c.deltas.invariant.spare;
     }
