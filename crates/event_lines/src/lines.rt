@@ -12,12 +12,12 @@ use ovn_base::name::Name;
 use switch_engine::effect::NetEffect;
 
 // What is counted, and the count.
-fn put_count(counted: &[u8], count: u64, out: &mut Vec<u8>) -> Result<(), NoMemory>
+fn put_count(counted: &[u8], count: u128, out: &mut Vec<u8>) -> Result<(), NoMemory>
     ensures ok { OnOk result (out.new.items ≡ out.old.items ++ (counted.now ++ decimal count)) }
     ensures err { OnErr result (StartsWith out.new.items out.old.items) }
 {
     put(counted, out)?;
-    put_number(count, out)
+    put_wide(count, out)
 }
 
 fn put_cause(cause: Cause, out: &mut Vec<u8>) -> Result<(), NoMemory>
@@ -114,13 +114,13 @@ pub fn line(effect: &NetEffect, number: u64, out: &mut Vec<u8>) -> Result<(), No
 }
 
 // The last line of an accepted event.
-fn put_ok(walks: usize, number: u64, out: &mut Vec<u8>) -> Result<(), NoMemory>
+fn put_ok(walks: u128, number: u64, out: &mut Vec<u8>) -> Result<(), NoMemory>
     ensures ok { OnOk result (out.new.items ≡ out.old.items ++ ok_line number walks) }
     ensures err { OnErr result (StartsWith out.new.items out.old.items) }
 {
     put_number(number, out)?;
     put(b" ", out)?;
-    put_count(b"ok walks=", walks as u64, out)?;
+    put_count(b"ok walks=", walks, out)?;
     put(b"\n", out)
 }
 
@@ -128,7 +128,7 @@ fn put_ok(walks: usize, number: u64, out: &mut Vec<u8>) -> Result<(), NoMemory>
 /// Without memory the text keeps what it held, and may have a part of the lines behind it.
 pub fn accepted(
     effects: &[NetEffect],
-    walks: usize,
+    walks: u128,
     number: u64,
     out: &mut Vec<u8>,
 ) -> Result<(), NoMemory>
@@ -191,9 +191,9 @@ pub fn end(
     ensures ok { OnOk result (out.new.items ≡ out.old.items ++ end_line events accepted refused waiting) }
     ensures err { OnErr result (StartsWith out.new.items out.old.items) }
 {
-    put_count(b"end events=", events, out)?;
-    put_count(b" accepted=", accepted, out)?;
-    put_count(b" refused=", refused, out)?;
-    put_count(b" waiting=", waiting as u64, out)?;
+    put_count(b"end events=", events as u128, out)?;
+    put_count(b" accepted=", accepted as u128, out)?;
+    put_count(b" refused=", refused as u128, out)?;
+    put_count(b" waiting=", waiting as u128, out)?;
     put(b"\n", out)
 }

@@ -44,7 +44,7 @@ frame_for keys x = (frame_of_crossing keys (0, x)).1
 
 -- ---- numbers given in turn
 
-from_among : (n : ℕ) (xs : List Crossing) (k : ℕ) (x : Crossing) → Among (k, x) (numbered_from n xs) → (n ≤ k) × (k < n + length xs) × Among x xs
+pub from_among : (n : ℕ) (xs : List Crossing) (k : ℕ) (x : Crossing) → Among (k, x) (numbered_from n xs) → (n ≤ k) × (k < n + length xs) × Among x xs
 from_among n [] k x m = absurd (among_none (k, x) m)
 from_among n (y ∷ xs) k x m = elim (among_cases (k, x) (n, y) (numbered_from (n + 1) xs) m) [
   | inl same ↦
@@ -57,7 +57,7 @@ one_sorted : (n : ℕ) → IsStrictlySortedBy nat_cmp (n ∷ [])
 unfolding IsStrictlySortedBy
 one_sorted n = (tt, tt)
 
-from_sorted : (n : ℕ) (xs : List Crossing) → IsStrictlySortedBy nat_cmp (keys_of (numbered_from n xs))
+pub from_sorted : (n : ℕ) (xs : List Crossing) → IsStrictlySortedBy nat_cmp (keys_of (numbered_from n xs))
 unfolding IsStrictlySortedBy
 from_sorted n [] = tt
 from_sorted n (x ∷ xs) = behind_sorted ((n, x) ∷ []) (numbered_from (n + 1) xs) (n + 1) (one_sorted n) (λ k y m. elim (among_cases (k, y) (n, x) [] m) [

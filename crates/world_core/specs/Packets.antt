@@ -1,5 +1,9 @@
 -- What packets that go through the chassis of a world leave.
-use Rattle.std.specs.Prelude.{◌≡◌, ◌++◌, ℕ, Bool, List, map, Some}
+use Rattle.std.specs.Prelude.{◌≡◌, ◌++◌, ℕ, Bool, List, [], ◌∷◌, cond, map, Option, Some, None}
+use Rattle.std.proofs.Math.Dec.{eqb as nat_eq}
+use Rattle.std.specs.List.Sorted.{IsStrictlySortedBy}
+use Rattle.std.specs.Map.{keys_of}
+use Rattle.std.specs.Ordering.{nat_cmp}
 use Rattle.ovn_base.specs.Among.{Among}
 use Rattle.ovn_base.specs.ByName.{at}
 use Rattle.ovn_base.specs.declared.name.Name.{Name}
@@ -10,13 +14,17 @@ use Rattle.chassis_sim.specs.declared.out.SimOut.{SimOut}
 use Rattle.nb_records.specs.declared.record.Switch.{Switch}
 use Rattle.nb_records.specs.declared.record.SwitchPort.{SwitchPort}
 use Rattle.switch_engine.specs.declared.effect.NetEffect.{NetEffect}
+use Rattle.world_core.specs.Crossing.{group_key}
 use Rattle.world_core.specs.Effects.{spelled}
+use Rattle.world_core.specs.Naming.{HasPortKey}
 use Rattle.world_core.specs.Passing.{AreDrained, GoesIn}
 use Rattle.world_core.specs.Refinement.{IsAmidst}
 use Rattle.world_core.specs.Seen.{Seen, AreHeld, frame_of_crossing}
 use Rattle.world_core.specs.Sound.{MayWait}
 use Rattle.world_core.specs.State.{State}
 use Rattle.world_core.specs.Step.{Enters, Arrives, Drains}
+use Rattle.world_core.specs.declared.crossing.Aim.{Aim}
+use Rattle.world_core.specs.declared.crossing.Aim.TheVariants.{ToPort, ToGroup}
 use Rattle.world_core.specs.declared.crossing.Crossing.{Crossing}
 
 -- how many frames an event may send, beside those for which its number of events leaves room
@@ -62,3 +70,18 @@ pub record IsSentFrom (m : State) (p to : Name) (bytes : List ℕ) (x : Crossing
 pub record AreSentBy (m : State) (p : Name) (effects : List NetEffect) (crossings : List (ℕ × Crossing)) : Type 0 where
   pub frames : frames_sent effects ≡ map (frame_of_crossing m.keys) crossings
   pub from : (n : ℕ) (x : Crossing) → Among (n, x) crossings → IsSentFrom m p x.home (spelled m.keys x) x
+
+-- the number is that of whom a packet in the switch goes to
+abbrev pub IsNumberOf : State → Name → ℕ → Aim → Type 0
+IsNumberOf m switch key (ToGroup g) = key ≡ group_key g
+IsNumberOf m switch key (ToPort id) = HasPortKey m.keys switch id.name key × ((port : SwitchPort) × (at m.net.ports id.name ≡ Some port) × (port.birth ≡ id.birth))
+
+-- these crossings of a packet from the port can be put behind those that wait
+pub record CanBeKept (m : State) (p : Name) (effects : List NetEffect) (crossings : List (ℕ × Crossing)) : Type 0 where
+  pub sent : AreSentBy m p effects crossings
+  pub behind : IsStrictlySortedBy nat_cmp (keys_of (m.waiting ++ crossings))
+
+-- the first of the ports that has the key
+abbrev pub port_of_key : List (Name × ℕ) → ℕ → Option Name
+port_of_key [] key = None
+port_of_key (e ∷ es) key = cond (nat_eq e.1 key) (Some e.0) (port_of_key es key)

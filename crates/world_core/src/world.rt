@@ -1,5 +1,5 @@
 //! The state of the network and of its chassis, and its steps.
-ghost use Rattle.std.specs.Prelude.{◌≡◌, ◌+◌, ◌<◌, ◌^◌, ◌++◌, ◌↔◌, [], ◌∷◌, Some, min, length, slice_get, IsTrue, IfOk, OnOk, OnErr, List};
+ghost use Rattle.std.specs.Prelude.{◌≡◌, ◌+◌, ◌<◌, ◌^◌, ◌++◌, ◌↔◌, [], ◌∷◌, Some, false, min, length, slice_get, IsTrue, IfOk, OnOk, OnErr, List};
 ghost use Rattle.std.specs.Option.{option_copied};
 ghost use Rattle.ovn_base.specs.Once.{EachOnce};
 ghost use Rattle.chassis_sim.specs.State.{flow_at, named};
@@ -61,7 +61,7 @@ struct Done {
     effects: List<NetEffect>,
     walks: List<Walk>,
     // How many flows were matched in all.
-    matched: usize,
+    matched: u128,
 }
 
 impl Model for World {

@@ -1,16 +1,20 @@
 //! Packets that go through the simulated chassis of a world.
-ghost use Rattle.std.specs.Prelude.{◌≡◌, ◌≤◌, ◌<◌, ◌+◌, ◌*◌, ◌^◌, ◌++◌, List, false, IfOk, OnOk, IsSome, Some};
+ghost use Rattle.std.specs.Prelude.{◌≡◌, ◌≤◌, ◌<◌, ◌+◌, ◌*◌, ◌^◌, ◌++◌, ℕ, List, false, IfOk, OnOk, IsSome, Some};
+ghost use Rattle.std.specs.BTreeMap.{insert_entry};
+ghost use Rattle.std.specs.Ordering.{nat_cmp};
 ghost use Rattle.ovn_base.specs.ByName.{at};
+ghost use Rattle.chassis_sim.specs.Passing.{arrived};
 ghost use Rattle.chassis_sim.specs.State.{numbered};
 ghost use Rattle.inet_packet.specs.Frame.{frame_of};
 ghost use Rattle.inet_packet.specs.Whole.{IsWhole};
 ghost use Rattle.edit_reader.specs.Reads.{IsPlainFrame};
-ghost use Rattle.world_core.specs.Step.{most_arrivals};
+ghost use Rattle.world_core.specs.Step.{most_arrivals, with_kept};
 ghost use Rattle.world_core.specs.Refinement.{IsAmidst};
 ghost use Rattle.world_core.specs.Seen.{AreHeld};
 ghost use Rattle.world_core.specs.State.{events_of};
-ghost use Rattle.world_core.specs.Packets.{AreGone, HasArrived, HasEntered, IsSentFrom, most_sent};
+ghost use Rattle.world_core.specs.Packets.{AreGone, CanBeKept, HasArrived, HasEntered, IsNumberOf, IsSentFrom, most_sent, port_of_key};
 ghost use Rattle.world_core.specs.Sound.{HaveKeys};
+ghost use Rattle.world_core.specs.declared.crossing.Aim.{Aim};
 ghost use Rattle.world_core.specs.declared.crossing.Crossing.{Crossing};
 
 use crate::crossing::{Aim, Crossing, Group};
@@ -26,6 +30,10 @@ use ovn_base::name::Name;
 use std::alloc::Global;
 use switch_engine::effect::NetEffect;
 use tunnel_keys::owner::Identity;
+
+// The numbers of the groups of a switch.
+const FLOOD: u16 = 32_768;
+const UNKNOWN: u16 = 32_769;
 
 // How many frames may arrive in one event.
 const MOST_ARRIVALS: usize = 65_536;
@@ -45,22 +53,43 @@ fn packet_of(alloc: Global, frame: &[u8]) -> Result<Packet, NoMemory>
     }
 }
 
+// The first of the ports that has the key.
+fn port_of_key(ports: &[(Name, u16)], key: u16) -> Option<Name>
+    ensures { result ≡ port_of_key ports.now key }
+{
+    'ports: for (name, own) in ports {
+        if *own == key {
+            return Some(*name);
+        }
+    }
+    None
+}
+
 impl World {
     // To whom a packet from a port of the switch goes, by the key of the port or group.
-    fn aim(&self, switch: &Name, key: u16) -> Option<Aim> {
-        match key {
-            32_768 => Some(Aim::ToGroup(Group::Flood)),
-            32_769 => Some(Aim::ToGroup(Group::Unknown)),
-            key => {
-                let ports = self.keys.ports(switch)?;
-                let (name, _) = ports.list.as_slice().iter().find(|(_, own)| *own == key)?;
-                let port = self.records.switch_port(name)?;
-                Some(Aim::ToPort(Identity {
-                    name: *name,
-                    birth: port.birth,
-                }))
-            }
+    fn aim(&self, switch: &Name, key: u16) -> Option<Aim>
+        requires keys { HaveKeys self.now.state.net self.now.state.keys }
+        ensures { (aim : Aim) → IsNumberOf self.now.state switch.now key aim → result ≡ Some aim }
+    {
+        if key == FLOOD {
+            return Some(Aim::ToGroup(Group::Flood));
         }
+        if key == UNKNOWN {
+            return Some(Aim::ToGroup(Group::Unknown));
+        }
+        let Some(ports) = self.keys.ports(switch) else {
+            return None;
+        };
+        let Some(name) = port_of_key(ports.list.as_slice(), key) else {
+            return None;
+        };
+        let Some(port) = self.records.switch_port(&name) else {
+            return None;
+        };
+        Some(Aim::ToPort(Identity {
+            name,
+            birth: port.birth,
+        }))
     }
 
     // The crossing of a frame that was sent for a packet from the port.
@@ -102,20 +131,35 @@ impl World {
         })
     }
 
+    // Keeps a crossing under the number of its frame.
+    fn keep(&mut self, frame: u128, crossing: Crossing) -> Result<(), NoMemory>
+        requires taken { self.old.whole ≡ false }
+        ensures { OnOk result (self.new ≡ record self.old { state = record self.old.state { waiting = insert_entry nat_cmp self.old.state.waiting frame crossing } }) }
+    {
+        self.crossings.insert(frame, crossing)?;
+        Ok(())
+    }
+
     // Keeps the crossings of the frames among the effects of a packet from the port.
     fn keep_crossings(
         &mut self,
         alloc: Global,
         port: &Name,
         effects: &[NetEffect],
-    ) -> Result<(), NoMemory> {
-        for effect in effects {
+    ) -> Result<(), NoMemory>
+        requires taken { self.old.whole ≡ false }
+        requires keys { HaveKeys self.old.state.net self.old.state.keys }
+        requires sent { (ws : List (ℕ × Crossing)) × CanBeKept self.old.state port.now effects.now ws }
+        ensures { OnOk result ((ws : List (ℕ × Crossing)) → CanBeKept self.old.state port.now effects.now ws
+            → self.new ≡ record self.old { state = record self.old.state { waiting = self.old.state.waiting ++ ws } }) }
+    {
+        'effects: for effect in effects {
             if let NetEffect::Tunnel {
                 frame, to, bytes, ..
             } = effect
             {
                 let crossing = self.crossing(alloc, port, to, bytes.as_slice())?;
-                self.crossings.insert(*frame, crossing)?;
+                self.keep(*frame, crossing)?;
             }
         }
         Ok(())
@@ -144,7 +188,8 @@ impl World {
             Err(SimFault::NotBound(_)) => unreachable!(),
             Err(SimFault::NoFrame(_)) => unreachable!(),
         }
-        self.keep_crossings(alloc, port, &out.effects.as_slice()[before..])
+        self.keep_crossings(alloc, port, &out.effects.as_slice()[before..])?;
+        Ok(())
     }
 
     // Takes a frame that waits through the chassis to which it goes. It waits on where it is kept.
@@ -170,6 +215,22 @@ impl World {
             self.crossings.remove(&frame);
         }
         Ok(())
+    }
+
+    // Takes a frame that waits away.
+    pub(super) fn lose(&mut self, frame: u128)
+        requires held { AreHeld self.old.state self.old.zones self.old.sim }
+        requires taken { self.old.whole ≡ false }
+        requires waits { IsSome (numbered self.old.state.waiting frame) }
+        ensures { self.new ≡ record self.old { state = with_kept false self.old.state frame; sim = arrived self.old.sim frame false } }
+    {
+        match self.sim.lose(frame) {
+            Ok(()) => {}
+            Err(SimFault::Memory) => unreachable!(),
+            Err(SimFault::NotBound(_)) => unreachable!(),
+            Err(SimFault::NoFrame(_)) => unreachable!(),
+        }
+        self.crossings.remove(&frame);
     }
 
     // The lowest frame arrives again and again, until none waits or 65,536 arrived.

@@ -1,5 +1,5 @@
 //! The steps of a world, one for each kind of event.
-ghost use Rattle.std.specs.Prelude.{◌≡◌, ◌++◌, ◌+◌, ◌<◌, ◌^◌, [], ◌∷◌, None, Some, false, IfOk, OnOk, OnErr};
+ghost use Rattle.std.specs.Prelude.{cond, ◌≡◌, ◌++◌, ◌+◌, ◌<◌, ◌^◌, [], ◌∷◌, None, Some, false, IfOk, OnOk, OnErr};
 ghost use Rattle.nb_records.specs.declared.record.Op.TheVariants.{Add};
 ghost use Rattle.nb_records.specs.declared.record.Record.TheVariants as record_of;
 ghost use Rattle.edit_reader.specs.declared.event.Event.TheVariants as event_of;
@@ -24,10 +24,14 @@ use switch_engine::effect::NetEffect;
 use switch_engine::walk::Walk;
 
 // How many flows were matched in all.
-fn matched_in(walks: &[Walk]) -> usize
+fn matched_in(walks: &[Walk]) -> u128
     ensures { result ≡ matched walks.now }
 {
-    walks.iter().map(|walk| walk.steps.len()).sum()
+    let mut count: u128 = 0;
+    'walks: for walk in walks {
+        count += walk.steps.len() as u128;
+    }
+    count
 }
 
 // An event without a walk.
@@ -301,7 +305,7 @@ impl World {
         requires taken { IsTaken self.old }
         requires room { events_of self.old.state < 2 ^ 42 }
         requires refused { refusal self.old.state (event_of.Deliver frame) ≡ None }
-        ensures { IfOk result (λ done. IsDone self.old (if keep then event_of.Repeat frame else event_of.Deliver frame) done.effects done.walks done.matched self.new) }
+        ensures { IfOk result (λ done. IsDone self.old (cond keep (event_of.Repeat frame) (event_of.Deliver frame)) done.effects done.walks done.matched self.new) }
     {
         let mut out = SimOut::new(alloc);
         self.arrive(u128::from(frame), keep, &mut out)?;
@@ -316,9 +320,7 @@ impl World {
         requires refused { refusal self.old.state (event_of.Lose frame) ≡ None }
         ensures { IsDone self.old (event_of.Lose frame) result.effects result.walks result.matched self.new }
     {
-        let frame = u128::from(frame);
-        let _lost = self.sim.lose(frame);
-        self.crossings.remove(&frame);
+        self.lose(u128::from(frame));
         self.finish();
         done_with(alloc, List::new(alloc))
     }

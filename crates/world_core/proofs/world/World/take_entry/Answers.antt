@@ -1,0 +1,9 @@
+use Rattle.edit_reader.specs.declared.event.Event.TheVariants as event_of
+use Rattle.world_core.proofs.PacketsDone.{entry_done, handed_on}
+use Rattle.world_core.proofs.world.World.take_entry.Goals as goal
+
+pub returns : goal.returns
+returns c =
+    handed_on c.args.self.now c.finish.new.self (event_of.Inject c.args.port.now c.args.frame.now) c.enter.new.out c.done_from.result.effects c.done_from.result.walks c.done_from.result.matched c.done_from.ensures.effects c.done_from.ensures.walks
+    (entry_done c.args.self.now c.args.port.now c.args.frame.now c.new-out.result c.enter.new.out c.enter.new.self c.finish.new.self c.done_from.result.matched c.requires.taken c.requires.room
+    (record { effects = c.new-out.ensures.effects; walks = c.new-out.ensures.walks }) c.in_ok-enter.ensures c.finish.ensures c.done_from.ensures.matched)
