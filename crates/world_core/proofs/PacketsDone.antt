@@ -19,6 +19,7 @@ use Rattle.world_core.specs.State.{State, events_of, finished}
 use Rattle.world_core.specs.Step.{Arrives, Does, Drains, Enters, most_arrivals, with_kept}
 use Rattle.world_core.specs.Zones.{zones_after}
 use Rattle.world_core.proofs.Finished.{finishes}
+use Rattle.world_core.proofs.Refining.{amidst_with, crossings_kept, held_kept}
 
 -- ---- packets are no events
 
@@ -103,3 +104,18 @@ pub handed_on : (old new : Seen) (event : Event) (out : SimOut) (effects : List 
     → IsDone old event effects walks count new
 handed_on old new event out effects walks count e w done =
     subst (λ es. IsDone old event es walks count new) (sym e) (subst (λ ws. IsDone old event out.effects ws count new) (sym w) done)
+
+pub loss_done : (old : Seen) (n : ℕ) (mid new : Seen) (effects : List NetEffect) (walks : List Walk) (count : ℕ) → IsTaken old → events_of old.state < 2 ^ 42
+    → mid ≡ record old { state = with_kept false old.state n; sim = passing.arrived old.sim n false } → new ≡ record mid { state = finished mid.state } → effects ≡ [] → walks ≡ [] → count ≡ 0
+    → IsDone old (event_of.Lose n) effects walks count new
+loss_done old n mid new effects walks count t room lost then no_effects no_walks none =
+    let m = old.state in
+    let now = t.consistent in
+    let few = now.on_the_way.few in
+    let a : IsAmidst m old.zones 0 = record { valid = now.valid; within = now.within; keys = now.keys; bound = now.bound; born = now.born; crossings = now.on_the_way.crossings; few = now.few; few_sent = omega (arith, few) } in
+    let amidst = amidst_with m old.zones 0 most_sent (with_kept false m n).waiting m.next a (crossings_kept false m n a.crossings) (omega (arith, few)) in
+    let held = held_kept false m old.zones old.sim n t.held in
+    handed_on old new (event_of.Lose n) no_out effects walks count no_effects no_walks
+    (finish_done old (event_of.Lose n) [] [] mid new count t room (ap (λ (v : Seen). events_of v.state) lost) (refl, ap (λ (v : Seen). v.state) lost) refl
+    (subst (λ (v : Seen). IsAmidst v.state v.zones most_sent) (sym lost) amidst) (subst (λ (v : Seen). AreHeld v.state v.zones v.sim) (sym lost) held)
+    (subst (λ (v : Seen). v ≡ record old { state = v.state; sim = v.sim }) (sym lost) refl) then refl none)
