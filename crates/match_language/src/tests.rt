@@ -1,4 +1,6 @@
 //! Texts with what they spell, and faults with their places.
+mod fields;
+
 use crate::expr::{Expr, Rel, Value};
 use crate::fault::{MatchFault, ParseFault};
 use crate::field::{Direction, Field, Predicate};
