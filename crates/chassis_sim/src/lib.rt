@@ -12,4 +12,6 @@ mod names;
 pub mod out;
 mod passing;
 pub mod sim;
+#[cfg(test)]
+mod tests;
 pub mod underlay;

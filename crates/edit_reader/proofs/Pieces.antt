@@ -1,17 +1,17 @@
 -- Texts that are cut at each space, and the addresses that their pieces spell.
-use Rattle.std.specs.Prelude.{◌≡◌, ◌≢◌, ◌<◌, ◌+◌, ◌-◌, ◌==◌, ◌++◌, ℕ, false, List, [], ◌∷◌, length, take, drop, refl}
+use Rattle.std.specs.Prelude.{◌≡◌, ◌≢◌, ◌<◌, ◌+◌, ◌-◌, ◌==◌, ◌++◌, ℕ, false, List, [], ◌∷◌, length, take, drop, codes, refl}
+use Rattle.std.specs.Char.{digit_value}
 use Rattle.std.specs.List.{All, AllZip, slice_split}
 use Rattle.std.proofs.Common.{arith, ap, sym, subst, ◌∙◌, get_or, append_assoc}
 use Rattle.std.proofs.lemmas.Grind.{common_steps}
 use Rattle.std.proofs.lemmas.Bool.Decides.{nat_tests}
-use Rattle.std.proofs.lemmas.List.Elements.{All-weaker}
+use Rattle.std.proofs.lemmas.List.Elements.{All-cons, All-weaker}
 use Rattle.std.proofs.lemmas.List.Splits.{slice_split_none, slice_split_at}
-use Rattle.ovn_base.specs.AddressText.{SpellsMac, SpellsIp4}
+use Rattle.ovn_base.specs.AddressText.{SpellsPair, SpellsMac, SpellsIp4}
 use Rattle.ovn_base.specs.declared.address.Mac.{Mac}
 use Rattle.ovn_base.specs.declared.address.Ip4.{Ip4}
-use Rattle.nb_records.specs.declared.record.PortAddress.{PortAddress}
-use Rattle.nb_records.specs.declared.record.PortAddress.TheVariants.{Ether}
-use Rattle.edit_reader.specs.Reads.{SpellsEther, SpellsEntry}
+use Rattle.ovn_base.proofs.JoinedLemmas.{Lacks, lacks_head, joined_lacks}
+use Rattle.edit_reader.specs.Reads.{SpellsEther}
 
 -- the byte is not in the text
 abbrev pub NoSpace : List ℕ → Type 0
@@ -79,16 +79,36 @@ module _ (text : List ℕ) (mac : Mac) where
   }
 
   -- a piece that spells no address
-  pub no_ip : (ips : List Ip4) (piece : List ℕ) (left : List (List ℕ)) → IsReadSoFar text mac ips (piece ∷ left) → ((ip : Ip4) → ¬ SpellsIp4 piece ip) → (entry : PortAddress) → ¬ SpellsEntry text entry
-  no_ip ips piece left h none (Ether other others) spells =
+  pub no_ip : (ips : List Ip4) (piece : List ℕ) (left : List (List ℕ)) → IsReadSoFar text mac ips (piece ∷ left) → ((ip : Ip4) → ¬ SpellsIp4 piece ip) → (ether : Mac × List Ip4) → ¬ SpellsEther text ether.0 ether.1
+  no_ip ips piece left h none (other, others) spells =
       let cuts : h.first ∷ (h.done ++ piece ∷ left) ≡ spells.first ∷ spells.others = sym h.pieces ∙ spells.pieces in
       let same : h.done ++ piece ∷ left ≡ spells.others = cc in
       let found = zip_piece h.done piece left others (subst (λ ps. AllZip SpellsIp4 ps others) (sym same) spells.spell_ips) in
       none found.0 found.1
 
 -- a first piece that spells no address
-pub no_mac : (text first : List ℕ) (left : List (List ℕ)) → slice_split (λ b. b == 32) text ≡ first ∷ left → ((mac : Mac) → ¬ SpellsMac first mac) → (entry : PortAddress) → ¬ SpellsEntry text entry
-no_mac text first left pieces none (Ether mac ips) spells =
+pub no_mac : (text first : List ℕ) (left : List (List ℕ)) → slice_split (λ b. b == 32) text ≡ first ∷ left → ((mac : Mac) → ¬ SpellsMac first mac) → (ether : Mac × List Ip4) → ¬ SpellsEther text ether.0 ether.1
+no_mac text first left pieces none (mac, ips) spells =
     let cuts : first ∷ left ≡ spells.first ∷ spells.others = sym pieces ∙ spells.pieces in
     let same : spells.first ≡ first = cc in
     none mac (subst (λ t. SpellsMac t mac) same spells.spells_mac)
+
+-- ---- the text `unknown`
+
+u_apart : (b : ℕ) → digit_value b < 16 → b ≢ 117
+u_apart b small e = let thirty : digit_value b ≡ 30 = ap digit_value e in absurd (omega (arith, thirty))
+
+-- a pair of hexadecimal digits has no `u`
+u_lacks : (text : List ℕ) (byte : ℕ) → SpellsPair text byte → Lacks 117 text
+u_lacks text byte h =
+    subst (λ t. Lacks 117 t) (sym h.digits)
+    (All-cons (λ c. c ≢ 117) h.high (h.low ∷ []) (u_apart h.high h.high_digit) (All-cons (λ c. c ≢ 117) h.low [] (u_apart h.low h.low_digit) (λ k d small. absurd (omega arith))))
+
+-- it spells no Ethernet address
+pub not_unknown : (text : List ℕ) (mac : Mac) (ips : List Ip4) → text ≡ codes "unknown" → ¬ SpellsEther text mac ips
+not_unknown text mac ips is h =
+    let whole : slice_split (λ b. b == 32) (codes "unknown") ≡ codes "unknown" ∷ [] = refl in
+    let cuts : codes "unknown" ∷ [] ≡ h.first ∷ h.others = sym whole ∙ ap (λ (t : List ℕ). slice_split (λ b. b == 32) t) (sym is) ∙ h.pieces in
+    let first : h.first ≡ codes "unknown" = cc in
+    let lacks = joined_lacks SpellsPair 58 117 (λ e. absurd (omega arith)) u_lacks h.first mac.0 h.spells_mac.pairs in
+    lacks_head 117 117 (codes "nknown") (subst (λ t. Lacks 117 t) first lacks) refl

@@ -1,9 +1,10 @@
 -- Which event a JSON value asks for.
-use Rattle.std.specs.Prelude.{◌≡◌, ◌≢◌, ◌≤◌, ◌+◌, ◌*◌, ◌%◌, ◌==◌, ℕ, List, [], ◌∷◌, length, codes, slice_index, Option, Some, None, Ok}
+use Rattle.std.specs.Prelude.{◌≡◌, ◌≢◌, ◌≤◌, ◌+◌, ◌*◌, ◌==◌, ℕ, List, [], ◌∷◌, length, map, codes, slice_index, Option, Some, None, Ok}
 use Rattle.std.specs.List.{AllZip, slice_split}
 use Rattle.std.specs.Str.{IsUtf8}
-use Rattle.serde_json.specs.Data.{Data, string, array, object, item, no_items, Members, no_members, put}
+use Rattle.serde_json.specs.Data.{Data, unsigned, number, string, array, object, item, no_items, Members, no_members, put}
 use Rattle.serde_json.specs.Read.{read}
+use Rattle.serde_json.specs.View.{items_of}
 use Rattle.hex.specs.Hex.{decode_of}
 use denote.Ref.{Bor}
 use Rattle.ovn_base.specs.NameText.{IsName}
@@ -14,12 +15,12 @@ use Rattle.ovn_base.specs.declared.address.Ip4.{Ip4}
 use Rattle.nb_records.specs.declared.record.Switch.{Switch}
 use Rattle.nb_records.specs.declared.record.SwitchPort.{SwitchPort}
 use Rattle.nb_records.specs.declared.record.PortAddress.{PortAddress}
-use Rattle.nb_records.specs.declared.record.PortAddress.TheVariants.{Ether}
+use Rattle.nb_records.specs.declared.record.PortAddress.TheVariants.{Ether, Unknown}
 use Rattle.nb_records.specs.declared.record.Record.{Record}
 use Rattle.nb_records.specs.declared.record.Record.TheVariants as kind
 use Rattle.nb_records.specs.declared.record.Op.TheVariants.{Add}
 use Rattle.edit_reader.specs.declared.event.Event.{Event}
-use Rattle.edit_reader.specs.declared.event.Event.TheVariants.{Edit, Bind, AddChassis, Packet, NotBuilt}
+use Rattle.edit_reader.specs.declared.event.Event.TheVariants.{Edit, Bind, AddChassis, Inject, Deliver, Lose, Repeat, Drain, Packet, NotBuilt}
 
 -- the members with these names and values; an object keeps them in order of name
 abbrev pub members_with : List (List ℕ × Data) → Members
@@ -33,6 +34,10 @@ object_with ms = object (members_with ms)
 -- the array that has this element alone
 abbrev pub array_of_one : Data → Data
 array_of_one d = array (item d no_items)
+
+-- the array of these elements
+abbrev pub array_of : List Data → Data
+array_of ds = array (items_of ds)
 
 -- the value is the text of the name
 pub record IsNamed (d : Data) (name : Name) : Type 0 where
@@ -55,6 +60,18 @@ pub record SpellsEther (text : List ℕ) (mac : Mac) (ips : List Ip4) : Type 0 w
 -- the text is that entry
 abbrev pub SpellsEntry : List ℕ → PortAddress → Type 0
 SpellsEntry text (Ether mac ips) = SpellsEther text mac ips
+SpellsEntry text Unknown = text ≡ codes "unknown"
+
+-- the value is an array of texts, and they are these entries
+pub record IsAddressList (d : Data) (addresses : List PortAddress) : Type 0 where
+  pub texts : List (List ℕ)
+  pub list : d ≡ array_of (map string texts)
+  pub spell : AllZip SpellsEntry texts addresses
+
+-- the entries of the list, which is empty where it is left out
+abbrev pub AreListed : Option Data → List PortAddress → Type 0
+AreListed None addresses = addresses ≡ []
+AreListed (Some list) addresses = IsAddressList list addresses
 
 -- {"add":"switch","name":N}: the switch, before its birth is known
 pub record AddsSwitch (d : Data) (switch : Switch) : Type 0 where
@@ -62,35 +79,39 @@ pub record AddsSwitch (d : Data) (switch : Switch) : Type 0 where
   pub is_name : IsName switch.name
   pub unborn : switch.birth.0 ≡ 0
 
--- {"add":"switch_port","name":N,"switch":S,"addresses":[A]}
-pub record HasPort (d : Data) (name switch : Name) (entry : List ℕ) : Type 0 where
-  pub members : d ≡ object_with ((codes "add", string (codes "switch_port")) ∷ (codes "name", string name) ∷ (codes "switch", string switch) ∷ (codes "addresses", array_of_one (string entry)) ∷ [])
+-- the member `addresses`, where it is not left out
+abbrev pub member_of_list : Option Data → List (List ℕ × Data)
+member_of_list None = []
+member_of_list (Some list) = (codes "addresses", list) ∷ []
+
+-- {"add":KIND,"name":N,"switch":S,"addresses":LIST}, from which the list may be left out
+abbrev pub port_object : Data → Data → Data → Option Data → Data
+port_object kind name switch list = object_with ((codes "add", kind) ∷ (codes "name", name) ∷ (codes "switch", switch) ∷ member_of_list list)
+
+-- such an object, of the kind "switch_port" and with names
+pub record HasPort (d : Data) (name switch : Name) (list : Option Data) : Type 0 where
+  pub members : d ≡ port_object (string (codes "switch_port")) (string name) (string switch) list
   pub is_name : IsName name
   pub is_switch_name : IsName switch
 
 -- such an operation: the port, before its birth is known
 pub record AddsPort (d : Data) (port : SwitchPort) : Type 0 where
-  pub entry : List ℕ
-  pub address : PortAddress
-  pub has_port : HasPort d port.name port.switch entry
+  pub list : Option Data
+  pub has_port : HasPort d port.name port.switch list
   pub unborn : port.birth.0 ≡ 0
-  pub addresses : port.addresses ≡ address ∷ []
-  pub spells : SpellsEntry entry address
+  pub lists : AreListed list port.addresses
 
 -- the operation adds the record
 abbrev pub Adds : Data → Record → Type 0
 Adds d (kind.Switch switch) = AddsSwitch d switch
 Adds d (kind.SwitchPort port) = AddsPort d port
 
--- 14 to 9,216 bytes from one unicast address to another, of a type other than IPv4, ARP and VLAN
+-- 14 to 9,216 bytes of a type other than IPv4 and ARP
 pub record IsPlainFrame (frame : List ℕ) : Type 0 where
   pub long : 14 ≤ length frame
   pub short : length frame ≤ 9216
-  pub to_one : slice_index frame 0 % 2 ≡ 0
-  pub from_one : slice_index frame 6 % 2 ≡ 0
   pub not_ip4 : 256 * slice_index frame 12 + slice_index frame 13 ≢ 0x0800
   pub not_arp : 256 * slice_index frame 12 + slice_index frame 13 ≢ 0x0806
-  pub not_vlan : 256 * slice_index frame 12 + slice_index frame 13 ≢ 0x8100
 
 -- {"edit":[OP]}
 abbrev pub HasOperation : Data → Data → Type 0
@@ -113,9 +134,9 @@ pub record IsBind (d : Data) (port chassis : Name) : Type 0 where
   pub is_port_name : IsName port
   pub is_chassis_name : IsName chassis
 
--- {"packet":{"port":P,"frame":HEX}}
-pub record HasPacket (d : Data) (port : Name) (digits : List ℕ) : Type 0 where
-  pub members : d ≡ object_with ((codes "packet", object_with ((codes "port", string port) ∷ (codes "frame", string digits) ∷ [])) ∷ [])
+-- {KIND:{"port":P,"frame":HEX}}
+pub record HasFrame (kind : List ℕ) (d : Data) (port : Name) (digits : List ℕ) : Type 0 where
+  pub members : d ≡ object_with ((kind, object_with ((codes "port", string port) ∷ (codes "frame", string digits) ∷ [])) ∷ [])
   pub is_port_name : IsName port
 
 -- two hexadecimal digits in either case for each byte of such a frame
@@ -124,17 +145,30 @@ pub record SpellsFrame (digits frame : List ℕ) : Type 0 where
   pub plain : IsPlainFrame frame
 
 -- such a frame enters at the port
-pub record IsPacket (d : Data) (port : Name) (frame : List ℕ) : Type 0 where
+pub record IsEntry (kind : List ℕ) (d : Data) (port : Name) (frame : List ℕ) : Type 0 where
   pub digits : List ℕ
-  pub has_packet : HasPacket d port digits
+  pub has_frame : HasFrame kind d port digits
   pub spells : SpellsFrame digits frame
+
+-- {KIND:{"frame":N}}
+abbrev pub IsOfFrame : List ℕ → Data → ℕ → Type 0
+IsOfFrame kind d n = d ≡ object_with ((kind, object_with ((codes "frame", number (unsigned n)) ∷ [])) ∷ [])
+
+-- {"drain":{}}
+abbrev pub IsDrain : Data → Type 0
+IsDrain d = d ≡ object_with ((codes "drain", object_with []) ∷ [])
 
 -- the value is of a form that is built, and asks for the event
 pub data IsForm (d : Data) (event : Event) : Type 0 where
   edits : (row : Record) → IsEdit d row → event ≡ Edit (Add row ∷ []) → IsForm d event
   adds_chassis : (name : Name) → IsChassis d name → event ≡ AddChassis name → IsForm d event
   binds : (port chassis : Name) → IsBind d port chassis → event ≡ Bind port chassis → IsForm d event
-  sends : (port : Name) (frame : List ℕ) → IsPacket d port frame → event ≡ Packet port frame → IsForm d event
+  sends : (port : Name) (frame : List ℕ) → IsEntry (codes "packet") d port frame → event ≡ Packet port frame → IsForm d event
+  injects : (port : Name) (frame : List ℕ) → IsEntry (codes "inject") d port frame → event ≡ Inject port frame → IsForm d event
+  delivers : (n : ℕ) → IsOfFrame (codes "deliver") d n → event ≡ Deliver n → IsForm d event
+  loses : (n : ℕ) → IsOfFrame (codes "lose") d n → event ≡ Lose n → IsForm d event
+  repeats : (n : ℕ) → IsOfFrame (codes "repeat") d n → event ≡ Repeat n → IsForm d event
+  drains : IsDrain d → event ≡ Drain → IsForm d event
 
 -- the event that a value asks for: NotBuilt where it is of no form
 pub data Reads (d : Data) (event : Event) : Type 0 where

@@ -15,6 +15,16 @@ pub enum Event {
     Bind { port: Name, chassis: Name },
     /// The chassis is there from now on.
     AddChassis(Name),
+    /// The frame enters at the port. Its bytes begin with the destination, the source and the type (IEEE 802.3 section 3.2).
+    Inject { port: Name, frame: Bytes },
+    /// The waiting frame of the number arrives, and waits no more.
+    Deliver { frame: u64 },
+    /// The waiting frame of the number waits no more.
+    Lose { frame: u64 },
+    /// The waiting frame of the number arrives, and still waits.
+    Repeat { frame: u64 },
+    /// The waiting frames arrive, the lowest first, until none waits or 65,536 arrived.
+    Drain,
     /// The frame enters at the port and is carried to its ends. Its bytes begin with the destination, the source and the
     /// type (IEEE 802.3 section 3.2).
     Packet { port: Name, frame: Bytes },
@@ -77,6 +87,14 @@ impl Event {
                 chassis: *chassis,
             }),
             Event::AddChassis(name) => Ok(Event::AddChassis(*name)),
+            Event::Inject { port, frame } => Ok(Event::Inject {
+                port: *port,
+                frame: frame.copy()?,
+            }),
+            Event::Deliver { frame } => Ok(Event::Deliver { frame: *frame }),
+            Event::Lose { frame } => Ok(Event::Lose { frame: *frame }),
+            Event::Repeat { frame } => Ok(Event::Repeat { frame: *frame }),
+            Event::Drain => Ok(Event::Drain),
             Event::Packet { port, frame } => Ok(Event::Packet {
                 port: *port,
                 frame: frame.copy()?,

@@ -1,14 +1,16 @@
 // The forms of events.
-ghost use Rattle.std.specs.Prelude.{◌≡◌, ◌↔◌, ℕ, List, IfOk, IfSome, IfNone, IsTrue};
+ghost use Rattle.std.specs.Prelude.{◌≡◌, ◌≢◌, ◌↔◌, ℕ, List, Option, IfOk, IfSome, IfNone, IsTrue};
+ghost use Rattle.std.specs.Option.{option_map};
 ghost use Rattle.serde_json.specs.Data.{Data};
 ghost use Rattle.serde_json.specs.View.{view};
 ghost use Rattle.ovn_base.specs.declared.name.Name.{Name};
 ghost use Rattle.edit_reader.specs.Finds.{Finds};
-ghost use Rattle.edit_reader.specs.Reads.{HasOperation, AddsSwitch, AddsPort, HasPort, IsEdit, IsChassis, IsBind, HasPacket, SpellsFrame, IsPlainFrame, IsPacket};
+ghost use Rattle.edit_reader.specs.Reads.{HasOperation, AddsSwitch, AddsPort, port_object, HasPort, IsEdit, IsChassis, IsBind, HasFrame, SpellsFrame, IsPlainFrame, IsEntry, IsOfFrame, IsDrain};
 
-use crate::entry::entry_of;
+use crate::entry::listed_entries;
 use crate::members::{
-    four_members, is_text, name_of, only_item, only_member, text_of, two_members,
+    four_members, is_empty_object, is_text, name_of, number_of, only_item, only_member, text_of,
+    three_members, two_members,
 };
 use hex::FromHexError;
 use nb_records::record::{Record, Switch, SwitchPort};
@@ -26,8 +28,6 @@ const LONGEST: usize = 9216;
 const IPV4: u16 = 0x0800;
 
 const ARP: u16 = 0x0806;
-
-const VLAN: u16 = 0x8100;
 
 // The only operation of an edit.
 fn only_operation(value: &Value) -> Option<&Value>
@@ -51,33 +51,46 @@ fn added_switch(op: &Value) -> Option<Switch>
     })
 }
 
-// The name, the switch and the entry of the port that an operation adds.
-fn port_texts(op: &Value) -> Option<(Name, Name, &str)>
-    ensures found { IfSome result (λ texts. HasPort (view op.now) texts.0 texts.1 texts.2.now) }
-    ensures none { IfNone result ((name switch : Name) (entry : List ℕ) → ¬ HasPort (view op.now) name switch entry) }
+// The three members that each operation that adds a port has, and the fourth where it is not left out.
+fn port_members(op: &Value) -> Option<(&Value, &Value, &Value, Option<&Value>)>
+    ensures found { IfSome result (λ parts. view op.now ≡ port_object (view parts.0.now) (view parts.1.now) (view parts.2.now) (option_map (λ v. view v.now) parts.3)) }
+    ensures none { IfNone result ((add name switch : Data) (list : Option Data) → view op.now ≢ port_object add name switch list) }
 {
-    let (add, addresses, name, switch) = four_members(op, "add", "addresses", "name", "switch")?;
+    if let Some((add, list, name, switch)) = four_members(
+        op,
+        "add",
+        "addresses",
+        "name",
+        "switch",
+    ) {
+        return Some((add, name, switch, Some(list)));
+    }
+    let (add, name, switch) = three_members(op, "add", "name", "switch")?;
+    Some((add, name, switch, None))
+}
+
+// The name and the switch of the port that an operation adds, and its list where it is not left out.
+fn port_parts(op: &Value) -> Option<(Name, Name, Option<&Value>)>
+    ensures found { IfSome result (λ parts. HasPort (view op.now) parts.0 parts.1 (option_map (λ v. view v.now) parts.2)) }
+    ensures none { IfNone result ((name switch : Name) (list : Option Data) → ¬ HasPort (view op.now) name switch list) }
+{
+    let (add, name, switch, list) = port_members(op)?;
     if !is_text(add, "switch_port") {
         return None;
     }
-    let name = name_of(name)?;
-    let switch = name_of(switch)?;
-    let entry = text_of(only_item(addresses)?)?;
-    Some((name, switch, entry))
+    Some((name_of(name)?, name_of(switch)?, list))
 }
 
 // The port that an operation adds.
 fn added_port(alloc: Global, op: &Value) -> Result<Option<SwitchPort>, NoMemory>
     ensures { IfOk result (Finds (AddsPort (view op.now))) }
 {
-    let Some((name, switch, text)) = port_texts(op) else {
+    let Some((name, switch, list)) = port_parts(op) else {
         return Ok(None);
     };
-    let Some(entry) = entry_of(alloc, text.as_bytes())? else {
+    let Some(addresses) = listed_entries(alloc, list)? else {
         return Ok(None);
     };
-    let mut addresses = List::new(alloc);
-    addresses.push(entry)?;
     Ok(Some(SwitchPort {
         name,
         birth: Birth(0),
@@ -118,11 +131,11 @@ pub fn bound(value: &Value) -> Option<(Name, Name)>
 }
 
 // The port at which a frame enters, and the digits of the frame.
-fn packet_texts(value: &Value) -> Option<(Name, &str)>
-    ensures found { IfSome result (λ texts. HasPacket (view value.now) texts.0 texts.1.now) }
-    ensures none { IfNone result ((port : Name) (digits : List ℕ) → ¬ HasPacket (view value.now) port digits) }
+fn frame_texts<'v>(value: &'v Value, kind: &str) -> Option<(Name, &'v str)>
+    ensures found { IfSome result (λ texts. HasFrame kind.now (view value.now) texts.0 texts.1.now) }
+    ensures none { IfNone result ((port : Name) (digits : List ℕ) → ¬ HasFrame kind.now (view value.now) port digits) }
 {
-    let (frame, port) = two_members(only_member(value, "packet")?, "frame", "port")?;
+    let (frame, port) = two_members(only_member(value, kind)?, "frame", "port")?;
     Some((name_of(port)?, text_of(frame)?))
 }
 
@@ -134,7 +147,7 @@ fn is_plain(frame: &[u8]) -> bool
         return false;
     }
     let kind = u16::from(frame[12]) * 256 + u16::from(frame[13]);
-    frame[0] % 2 == 0 && frame[6] % 2 == 0 && kind != IPV4 && kind != ARP && kind != VLAN
+    kind != IPV4 && kind != ARP
 }
 
 // The frame that the digits spell.
@@ -149,14 +162,28 @@ fn frame_of(alloc: Global, digits: &str) -> Result<Option<Bytes>, NoMemory>
 }
 
 // The port at which a frame enters, and the frame.
-pub fn sent(alloc: Global, value: &Value) -> Result<Option<(Name, Bytes)>, NoMemory>
-    ensures { IfOk result (Finds (λ packet. IsPacket (view value.now) packet.0 packet.1)) }
+pub fn entered(alloc: Global, value: &Value, kind: &str) -> Result<Option<(Name, Bytes)>, NoMemory>
+    ensures { IfOk result (Finds (λ entry. IsEntry kind.now (view value.now) entry.0 entry.1)) }
 {
-    let Some((port, digits)) = packet_texts(value) else {
+    let Some((port, digits)) = frame_texts(value, kind) else {
         return Ok(None);
     };
     match frame_of(alloc, digits)? {
         Some(frame) => Ok(Some((port, frame))),
         None => Ok(None),
     }
+}
+
+// The number of the frame of which the event is.
+pub fn numbered(value: &Value, kind: &str) -> Option<u64>
+    ensures { Finds (IsOfFrame kind.now (view value.now)) result }
+{
+    number_of(only_member(only_member(value, kind)?, "frame")?)
+}
+
+// Whether all waiting frames are to arrive.
+pub fn is_drain(value: &Value) -> bool
+    ensures { IsTrue result ↔ IsDrain (view value.now) }
+{
+    only_member(value, "drain").is_some_and(is_empty_object)
 }

@@ -1,7 +1,7 @@
 // What a JSON value is made of.
 ghost use Rattle.std.specs.Prelude.{◌≡◌, ◌≢◌, ◌↔◌, ℕ, List, IfSome, IfNone, IsTrue, IsSome};
-ghost use Rattle.serde_json.specs.Data.{Data, string, array, object, item, no_items, Members, member, no_members};
-ghost use Rattle.serde_json.specs.View.{view, members_view};
+ghost use Rattle.serde_json.specs.Data.{Data, unsigned, number, string, array, object, Items, item, no_items, Members, member, no_members};
+ghost use Rattle.serde_json.specs.View.{view, items_view, members_view};
 ghost use Rattle.ovn_base.specs.NameText.{IsName};
 ghost use Rattle.edit_reader.specs.Finds.{Finds};
 ghost use Rattle.edit_reader.specs.Reads.{IsNamed};
@@ -74,6 +74,27 @@ pub fn two_members<'v>(
     }
 }
 
+// Whether the value is the object without members.
+pub fn is_empty_object(value: &Value) -> bool
+    ensures { IsTrue result ↔ (view value.now ≡ object no_members) }
+{
+    match members_of(value) {
+        Some(mut members) => is_done(&mut members),
+        None => false,
+    }
+}
+
+// The elements of an array.
+pub fn items_of(value: &Value) -> Option<&[Value]>
+    ensures found { IfSome result (λ items. view value.now ≡ array (items_view items.now)) }
+    ensures none { IfNone result ((items : Items) → view value.now ≢ array items) }
+{
+    match value {
+        Value::Array(items) => Some(items.as_slice()),
+        _ => None,
+    }
+}
+
 // The only element of an array.
 pub fn only_item(value: &Value) -> Option<&Value>
     ensures found { IfSome result (λ inner. view value.now ≡ array (item (view inner.now) no_items)) }
@@ -100,6 +121,13 @@ pub fn text_of(value: &Value) -> Option<&str>
     }
 }
 
+// The number that the value is, where it is whole, not negative and below 2^64.
+pub fn number_of(value: &Value) -> Option<u64>
+    ensures { Finds (λ n. view value.now ≡ number (unsigned n)) result }
+{
+    value.as_u64()
+}
+
 // Whether the value is that text.
 pub fn is_text(value: &Value, text: &str) -> bool
     ensures { IsTrue result ↔ (view value.now ≡ string text.now) }
@@ -112,6 +140,29 @@ pub fn name_of(value: &Value) -> Option<Name>
     ensures { Finds (IsNamed (view value.now)) result }
 {
     Name::read(text_of(value)?.as_bytes())
+}
+
+// The values of the three members, where they have the names.
+pub fn three_members<'v>(
+    value: &'v Value,
+    first: &str,
+    second: &str,
+    third: &str,
+) -> Option<(&'v Value, &'v Value, &'v Value)>
+    ensures found { IfSome result (λ inner. view value.now
+        ≡ object (member first.now (view inner.0.now) (member second.now (view inner.1.now) (member third.now (view inner.2.now) no_members)))) }
+    ensures none { IfNone result ((d e f : Data) → view value.now
+        ≢ object (member first.now d (member second.now e (member third.now f no_members)))) }
+{
+    let mut members = members_of(value)?;
+    let one = next_named(&mut members, first)?;
+    let two = next_named(&mut members, second)?;
+    let three = next_named(&mut members, third)?;
+    if is_done(&mut members) {
+        Some((one, two, three))
+    } else {
+        None
+    }
 }
 
 // The values of the four members, where they have the names.

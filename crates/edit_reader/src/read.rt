@@ -6,7 +6,7 @@ ghost use Rattle.edit_reader.specs.Reads.{Reads, ReadsLine, IsReading};
 ghost use Rattle.edit_reader.specs.declared.event.Event.{Event};
 
 use crate::event::{Event, ReadError, ReadRefusal};
-use crate::forms::{added_chassis, bound, edited, sent};
+use crate::forms::{added_chassis, bound, edited, entered, is_drain, numbered};
 use nb_records::record::Op;
 use ovn_base::list::List;
 use ovn_base::memory::NoMemory;
@@ -42,9 +42,25 @@ fn event_of(alloc: Global, value: &Value) -> Result<Event, NoMemory>
         let (port, chassis) = names;
         return Ok(Event::Bind { port, chassis });
     }
-    if let Some(packet) = sent(alloc, value)? {
-        let (port, frame) = packet;
+    if let Some(entry) = entered(alloc, value, "packet")? {
+        let (port, frame) = entry;
         return Ok(Event::Packet { port, frame });
+    }
+    if let Some(entry) = entered(alloc, value, "inject")? {
+        let (port, frame) = entry;
+        return Ok(Event::Inject { port, frame });
+    }
+    if let Some(frame) = numbered(value, "deliver") {
+        return Ok(Event::Deliver { frame });
+    }
+    if let Some(frame) = numbered(value, "lose") {
+        return Ok(Event::Lose { frame });
+    }
+    if let Some(frame) = numbered(value, "repeat") {
+        return Ok(Event::Repeat { frame });
+    }
+    if is_drain(value) {
+        return Ok(Event::Drain);
     }
     Ok(Event::NotBuilt)
 }

@@ -34,6 +34,15 @@ fn port(alloc: Global, called: &[u8], last: u8) -> Result<Record, NoMemory> {
     }))
 }
 
+fn port_with(name: Name, switch: Name, addresses: List<PortAddress>) -> Record {
+    Record::SwitchPort(SwitchPort {
+        name,
+        birth: Birth(0),
+        switch,
+        addresses,
+    })
+}
+
 #[test]
 fn reads_the_first_path(rt: HostRuntime) -> Result<(), Fail> {
     let alloc = rt.alloc();
@@ -93,8 +102,84 @@ fn takes_no_other_form(rt: HostRuntime) {
         b"{\"chassis\":{\"add\":\"hv1\"},\"x\":1}",
         b"{\"packet\":{\"port\":\"p1\",\"frame\":\"0a00000000020a000000000188b5686\"}}",
         b"{\"packet\":{\"port\":\"p1\",\"frame\":\"0a00000000020a00000000010800\"}}",
-        b"{\"packet\":{\"port\":\"p1\",\"frame\":\"0a00000000020b000000000188b5\"}}",
+        b"{\"edit\":[{\"add\":\"switch_port\",\"name\":\"p1\",\"switch\":\"s0\",\"addresses\":[\"router\"]}]}",
+        b"{\"edit\":[{\"add\":\"switch_port\",\"name\":\"p1\",\"switch\":\"s0\",\"addresses\":[\"unknown\",1]}]}",
+        b"{\"edit\":[{\"add\":\"switch_port\",\"name\":\"p1\",\"switch\":\"s0\",\"addresses\":[\"unknown \"]}]}",
+        b"{\"edit\":[{\"add\":\"switch_port\",\"name\":\"p1\",\"switch\":\"s0\",\"addresses\":\"unknown\"}]}",
+        b"{\"packet\":{\"port\":\"p1\",\"frame\":\"0a00000000020a00000000010806\"}}",
+        b"{\"inject\":{\"port\":\"p1\",\"frame\":\"0a00000000020a000000000188\"}}",
+        b"{\"inject\":{\"port\":\"p1\"}}",
+        b"{\"lose\":{\"frame\":-1}}",
+        b"{\"deliver\":{\"frame\":18446744073709551616}}",
+        b"{\"repeat\":{\"frame\":\"1\"}}",
+        b"{\"drain\":[]}",
+        b"{\"drain\":{\"frame\":1}}",
     ] {
         assert!(rt; read_event(rt.alloc(), line) == Ok(Event::NotBuilt));
     }
+}
+
+#[test]
+fn reads_frames_that_wait(rt: HostRuntime) -> Result<(), Fail> {
+    let alloc = rt.alloc();
+    let frame = b"\x0a\0\0\0\0\x02\x0a\0\0\0\0\x01\x88\xb5hi";
+    let inject = Event::Inject {
+        port: name(b"p1")?,
+        frame: List::from_slice(alloc, frame)?,
+    };
+    let line = b"{\"inject\":{\"port\":\"p1\",\"frame\":\"0a00000000020a000000000188b56869\"}}";
+    assert!(rt; read_event(alloc, line) == Ok(inject.copy()?));
+    assert!(rt; read_event(alloc, b"{\"repeat\":{\"frame\":1}}") == Ok(Event::Repeat { frame: 1 }));
+    assert!(rt; read_event(alloc, b"{\"lose\":{\"frame\":1}}") == Ok(Event::Lose { frame: 1 }));
+    assert!(rt;
+        read_event(alloc, b"{\"deliver\":{\"frame\":0}}") == Ok(Event::Deliver { frame: 0 })
+    );
+    let last = Event::Deliver {
+        frame: 18446744073709551615,
+    };
+    let line = b"{\"deliver\":{\"frame\":18446744073709551615}}";
+    assert!(rt; read_event(alloc, line) == Ok(last.copy()?));
+    assert!(rt; read_event(alloc, b"{\"drain\":{}}") == Ok(Event::Drain.copy()?));
+    Ok(())
+}
+
+#[test]
+fn reads_frames_to_groups(rt: HostRuntime) -> Result<(), Fail> {
+    let alloc = rt.alloc();
+    let broadcast = Event::Packet {
+        port: name(b"q1")?,
+        frame: List::from_slice(alloc, b"\xff\xff\xff\xff\xff\xff\x0b\0\0\0\0\x01\x81\0")?,
+    };
+    let line = b"{\"packet\":{\"port\":\"q1\",\"frame\":\"FFFFFFFFFFFF0b00000000018100\"}}";
+    assert!(rt; read_event(alloc, line) == Ok(broadcast));
+    Ok(())
+}
+
+#[test]
+fn reads_lists_of_addresses(rt: HostRuntime) -> Result<(), Fail> {
+    let alloc = rt.alloc();
+    let mut addresses = List::new(alloc);
+    addresses.push(PortAddress::Unknown)?;
+    let unknown = port_with(name(b"p3")?, name(b"s0")?, addresses);
+    let line =
+        b"{\"edit\":[{\"add\":\"switch_port\",\"name\":\"p3\",\"switch\":\"s0\",\"addresses\":[\"unknown\"]}]}";
+    assert!(rt; read_event(alloc, line) == Ok(edit(alloc, unknown)?));
+    let mut addresses = List::new(alloc);
+    addresses.push(PortAddress::Ether {
+        mac: Mac([10, 0, 0, 0, 0, 9]),
+        ips: List::new(alloc),
+    })?;
+    addresses.push(PortAddress::Unknown)?;
+    let both = port_with(name(b"p3")?, name(b"s0")?, addresses);
+    let line =
+        b"{\"edit\":[{\"add\":\"switch_port\",\"name\":\"p3\",\"switch\":\"s0\",\"addresses\":[\"0A:00:00:00:00:09\",\"unknown\"]}]}";
+    assert!(rt; read_event(alloc, line) == Ok(edit(alloc, both)?));
+    let line =
+        b"{\"edit\":[{\"add\":\"switch_port\",\"name\":\"p3\",\"switch\":\"s0\",\"addresses\":[]}]}";
+    let none = port_with(name(b"p3")?, name(b"s0")?, List::new(alloc));
+    assert!(rt; read_event(alloc, line) == Ok(edit(alloc, none)?));
+    let line = b"{\"edit\":[{\"add\":\"switch_port\",\"name\":\"p3\",\"switch\":\"s0\"}]}";
+    let left_out = port_with(name(b"p3")?, name(b"s0")?, List::new(alloc));
+    assert!(rt; read_event(alloc, line) == Ok(edit(alloc, left_out)?));
+    Ok(())
 }

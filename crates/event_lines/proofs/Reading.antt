@@ -22,8 +22,8 @@ use Rattle.inet_packet.specs.Frame.{frame_of}
 use Rattle.switch_engine.specs.declared.effect.NetEffect.{NetEffect}
 use Rattle.switch_engine.specs.declared.effect.NetEffect.TheVariants.{DatapathKey, PortKey, Tunnel, Out, Drop, Lost}
 use Rattle.event_lines.specs.declared.refusal.Refusal.{Refusal}
-use Rattle.event_lines.specs.declared.refusal.Refusal.TheVariants.{Read, NoSuch, NotBuilt}
-use Rattle.event_lines.specs.Lines.{cause_name, words_of, line_of, ok_line, lines_of, refusal_words, refused_line, end_line}
+use Rattle.event_lines.specs.declared.refusal.Refusal.TheVariants.{Read, NoSuch, DuplicateName, LimitChassis, NoFrame, TooManyFrames, NotBuilt}
+use Rattle.event_lines.specs.Lines.{cause_name, route_words, words_of, line_of, ok_line, lines_of, refusal_words, refused_line, end_line}
 use Rattle.event_lines.specs.Picks.{Pick, words_in, is_word, is_number, key_of, named_by, picks_in, picks_of, IsNamedEffect, AreNamed, IsNamedRefusal, AreWholeLines}
 
 -- ---- bytes that end neither a word nor a line
@@ -222,7 +222,6 @@ words_no_feed (Tunnel frame from to bytes) is =
       no_feed_joined from _ (no_feed_in from (name_is_word from is.0))
           ((λ e. omega arith), no_feed_joined to _ (no_feed_in to (name_is_word to is.1)) ((λ e. omega arith), hex_no_feed bytes)),
     ))
-words_no_feed (Lost frame) is = no_feed_joined (codes "lost ") (decimal frame) (tested (codes "lost ") refl) (no_feed_in (decimal frame) (decimal_in_word frame))
 words_no_feed (Out port packet) is =
     no_feed_joined (codes "out ") _ (tested (codes "out ") refl)
     (no_feed_joined port _ (no_feed_in port (name_is_word port is)) ((λ e. omega arith), hex_no_feed (frame_of packet)))
@@ -237,6 +236,7 @@ words_no_feed (Drop datapath port cause) is =
     cause_no_feed UnknownAddress = tested (codes "unknown-address") refl
     cause_no_feed Loopback = tested (codes "loopback") refl
     cause_no_feed Unbound = tested (codes "unbound") refl
+words_no_feed (Lost frame) is = no_feed_joined (codes "lost ") _ (tested (codes "lost ") refl) (no_feed_in (decimal frame) (decimal_in_word frame))
 
 effect_named : (number : ℕ) (effect : NetEffect) → IsNamedEffect effect → named_by (decimal number ∷ words_in (words_of effect)) ≡ one_pick effect
 effect_named number (DatapathKey name key) is =
@@ -248,19 +248,19 @@ effect_named number (PortKey name key) is =
     ap (λ ws. named_by (decimal number ∷ codes "key" ∷ codes "port" ∷ ws)) words
     ∙ key_words (decimal number) (codes "port") name key (decimal_is_number number) is.1
 effect_named number (Tunnel frame from to bytes) is =
-    other_words (decimal number) (codes "tunnel") (words_in (decimal frame ++ 32 ∷ (from ++ 32 ∷ (to ++ 32 ∷ encode_lower bytes)))) refl
-effect_named number (Lost frame) is = other_words (decimal number) (codes "lost") (words_in (decimal frame)) refl
+    other_words (decimal number) (codes "tunnel") (words_in (decimal frame ++ 32 ∷ route_words from to bytes)) refl
 effect_named number (Out port packet) is = other_words (decimal number) (codes "out") (words_in (port ++ 32 ∷ encode_lower (frame_of packet))) refl
 effect_named number (Drop datapath port cause) is =
     other_words (decimal number) (codes "drop") (words_in (datapath ++ 32 ∷ (port ++ 32 ∷ cause_name cause))) refl
+effect_named number (Lost frame) is = other_words (decimal number) (codes "lost") (words_in (decimal frame)) refl
 
 picks_cons : (effect : NetEffect) (effects : List NetEffect) → picks_of (effect ∷ effects) ≡ one_pick effect ++ picks_of effects
 picks_cons (DatapathKey name key) effects = refl
 picks_cons (PortKey name key) effects = refl
 picks_cons (Tunnel frame from to bytes) effects = refl
 picks_cons (Out port packet) effects = refl
-picks_cons (Lost frame) effects = refl
 picks_cons (Drop datapath port cause) effects = refl
+picks_cons (Lost frame) effects = refl
 
 ok_names : (number walks : ℕ) → picks_in (ok_line number walks) ≡ []
 ok_names number walks =
@@ -281,6 +281,12 @@ refusal_no_feed : (why : Refusal) → IsNamedRefusal why → HaveNoFeed (refusal
 refusal_no_feed (Read TooLong) is = tested (codes "TooLong") refl
 refusal_no_feed (Read BadJson) is = tested (codes "BadJson") refl
 refusal_no_feed (NoSuch name) is = no_feed_joined (codes "NoSuch ") name (tested (codes "NoSuch ") refl) (no_feed_in name (name_is_word name is))
+refusal_no_feed (DuplicateName name) is =
+    no_feed_joined (codes "DuplicateName ") name (tested (codes "DuplicateName ") refl) (no_feed_in name (name_is_word name is))
+refusal_no_feed LimitChassis is = tested (codes "Limit chassis") refl
+refusal_no_feed (NoFrame frame) is =
+    no_feed_joined (codes "NoFrame ") (decimal frame) (tested (codes "NoFrame ") refl) (no_feed_in (decimal frame) (decimal_in_word frame))
+refusal_no_feed TooManyFrames is = tested (codes "TooManyFrames") refl
 refusal_no_feed NotBuilt is = tested (codes "NotBuilt") refl
 
 pub refused : (number : ℕ) (why : Refusal) → IsNamedRefusal why → picks_in (refused_line number why) ≡ []

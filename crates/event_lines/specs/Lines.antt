@@ -1,6 +1,7 @@
 -- The lines of events, byte by byte.
 use Rattle.std.specs.Prelude.{ℕ, List, ◌++◌, codes, decimal, flat_map}
 use Rattle.hex.specs.Hex.{encode_lower}
+use Rattle.ovn_base.specs.declared.name.Name.{Name}
 use Rattle.inet_packet.specs.Frame.{frame_of}
 use Rattle.flow_table.specs.declared.flow.Cause.{Cause}
 use Rattle.flow_table.specs.declared.flow.Cause.TheVariants.{BadSource, Vlan, UnknownAddress, Loopback, Unbound}
@@ -8,7 +9,7 @@ use Rattle.edit_reader.specs.declared.event.ReadRefusal.TheVariants.{TooLong, Ba
 use Rattle.switch_engine.specs.declared.effect.NetEffect.{NetEffect}
 use Rattle.switch_engine.specs.declared.effect.NetEffect.TheVariants.{DatapathKey, PortKey, Tunnel, Out, Drop, Lost}
 use Rattle.event_lines.specs.declared.refusal.Refusal.{Refusal}
-use Rattle.event_lines.specs.declared.refusal.Refusal.TheVariants.{Read, NoSuch, NotBuilt}
+use Rattle.event_lines.specs.declared.refusal.Refusal.TheVariants.{Read, NoSuch, DuplicateName, LimitChassis, NoFrame, TooManyFrames, NotBuilt}
 
 -- why a packet was dropped
 abbrev pub cause_name : Cause → List ℕ
@@ -18,11 +19,15 @@ cause_name UnknownAddress = codes "unknown-address"
 cause_name Loopback = codes "loopback"
 cause_name Unbound = codes "unbound"
 
+-- from one chassis to another, and the bytes in hexadecimal digits
+abbrev pub route_words : Name → Name → List ℕ → List ℕ
+route_words from to bytes = from ++ (codes " " ++ (to ++ (codes " " ++ encode_lower bytes)))
+
 -- what a line says of an effect
 abbrev pub words_of : NetEffect → List ℕ
 words_of (DatapathKey name key) = codes "key datapath " ++ (name ++ (codes " " ++ decimal key))
 words_of (PortKey name key) = codes "key port " ++ (name ++ (codes " " ++ decimal key))
-words_of (Tunnel frame from to bytes) = codes "tunnel " ++ (decimal frame ++ (codes " " ++ (from ++ (codes " " ++ (to ++ (codes " " ++ encode_lower bytes))))))
+words_of (Tunnel frame from to bytes) = codes "tunnel " ++ (decimal frame ++ (codes " " ++ route_words from to bytes))
 words_of (Out port packet) = codes "out " ++ (port ++ (codes " " ++ encode_lower (frame_of packet)))
 words_of (Drop datapath port cause) = codes "drop " ++ (datapath ++ (codes " " ++ (port ++ (codes " " ++ cause_name cause))))
 words_of (Lost frame) = codes "lost " ++ decimal frame
@@ -44,6 +49,10 @@ abbrev pub refusal_words : Refusal → List ℕ
 refusal_words (Read TooLong) = codes "TooLong"
 refusal_words (Read BadJson) = codes "BadJson"
 refusal_words (NoSuch name) = codes "NoSuch " ++ name
+refusal_words (DuplicateName name) = codes "DuplicateName " ++ name
+refusal_words LimitChassis = codes "Limit chassis"
+refusal_words (NoFrame frame) = codes "NoFrame " ++ decimal frame
+refusal_words TooManyFrames = codes "TooManyFrames"
 refusal_words NotBuilt = codes "NotBuilt"
 
 -- the line of a refused event

@@ -11,7 +11,7 @@ use Rattle.ovn_base.specs.declared.name.Name.{Name}
 use Rattle.switch_engine.specs.declared.effect.NetEffect.{NetEffect}
 use Rattle.switch_engine.specs.declared.effect.NetEffect.TheVariants as effect
 use Rattle.event_lines.specs.declared.refusal.Refusal.{Refusal}
-use Rattle.event_lines.specs.declared.refusal.Refusal.TheVariants.{Read, NoSuch, NotBuilt}
+use Rattle.event_lines.specs.declared.refusal.Refusal.TheVariants.{Read, NoSuch, DuplicateName, LimitChassis, NoFrame, TooManyFrames, NotBuilt}
 
 -- what was picked: the tunnel key of a datapath, or of a port
 pub data Pick : Type 0 where
@@ -69,6 +69,10 @@ AreNamed effects = AllByRecursion IsNamedEffect effects
 abbrev pub IsNamedRefusal : Refusal → Type 0
 IsNamedRefusal (Read fault) = Unit {0}
 IsNamedRefusal (NoSuch name) = IsName name
+IsNamedRefusal (DuplicateName name) = IsName name
+IsNamedRefusal LimitChassis = Unit {0}
+IsNamedRefusal (NoFrame frame) = Unit {0}
+IsNamedRefusal TooManyFrames = Unit {0}
 IsNamedRefusal NotBuilt = Unit {0}
 
 -- the text is made of whole lines: it is empty, or a line feed ends it

@@ -1,7 +1,6 @@
 //! The lines of events.
 ghost use Rattle.std.specs.Prelude.{◌≡◌, ◌++◌, codes, decimal, OnOk, OnErr};
-ghost use Rattle.hex.specs.Hex.{encode_lower};
-ghost use Rattle.event_lines.specs.Lines.{cause_name, words_of, line_of, ok_line, lines_of, refusal_words, refused_line, end_line};
+ghost use Rattle.event_lines.specs.Lines.{cause_name, route_words, words_of, line_of, ok_line, lines_of, refusal_words, refused_line, end_line};
 ghost use Rattle.event_lines.specs.Text.{StartsWith};
 
 use crate::put::{put, put_frame, put_hex, put_number, put_wide};
@@ -13,12 +12,12 @@ use ovn_base::name::Name;
 use switch_engine::effect::NetEffect;
 
 // What is counted, and the count.
-fn put_count(counted: &[u8], count: u64, out: &mut Vec<u8>) -> Result<(), NoMemory>
+fn put_count(counted: &[u8], count: u128, out: &mut Vec<u8>) -> Result<(), NoMemory>
     ensures ok { OnOk result (out.new.items ≡ out.old.items ++ (counted.now ++ decimal count)) }
     ensures err { OnErr result (StartsWith out.new.items out.old.items) }
 {
     put(counted, out)?;
-    put_number(count, out)
+    put_wide(count, out)
 }
 
 fn put_cause(cause: Cause, out: &mut Vec<u8>) -> Result<(), NoMemory>
@@ -45,9 +44,9 @@ fn put_key(kind: &[u8], name: &Name, key: u64, out: &mut Vec<u8>) -> Result<(), 
     put_number(key, out)
 }
 
-// From where to where, and the bytes.
-fn put_way(from: &Name, to: &Name, bytes: &[u8], out: &mut Vec<u8>) -> Result<(), NoMemory>
-    ensures ok { OnOk result (out.new.items ≡ out.old.items ++ (from.now ++ (codes " " ++ (to.now ++ (codes " " ++ encode_lower bytes.now))))) }
+// From one chassis to another, and the bytes in hexadecimal digits.
+fn put_route(from: &Name, to: &Name, bytes: &[u8], out: &mut Vec<u8>) -> Result<(), NoMemory>
+    ensures ok { OnOk result (out.new.items ≡ out.old.items ++ route_words from.now to.now bytes.now) }
     ensures err { OnErr result (StartsWith out.new.items out.old.items) }
 {
     put(from.text(), out)?;
@@ -75,7 +74,7 @@ fn put_words(effect: &NetEffect, out: &mut Vec<u8>) -> Result<(), NoMemory>
             put(b"tunnel ", out)?;
             put_wide(*frame, out)?;
             put(b" ", out)?;
-            put_way(from, to, bytes.as_slice(), out)
+            put_route(from, to, bytes.as_slice(), out)
         }
         NetEffect::Out { port, packet } => {
             put(b"out ", out)?;
@@ -115,13 +114,13 @@ pub fn line(effect: &NetEffect, number: u64, out: &mut Vec<u8>) -> Result<(), No
 }
 
 // The last line of an accepted event.
-fn put_ok(walks: usize, number: u64, out: &mut Vec<u8>) -> Result<(), NoMemory>
+fn put_ok(walks: u128, number: u64, out: &mut Vec<u8>) -> Result<(), NoMemory>
     ensures ok { OnOk result (out.new.items ≡ out.old.items ++ ok_line number walks) }
     ensures err { OnErr result (StartsWith out.new.items out.old.items) }
 {
     put_number(number, out)?;
     put(b" ", out)?;
-    put_count(b"ok walks=", walks as u64, out)?;
+    put_count(b"ok walks=", walks, out)?;
     put(b"\n", out)
 }
 
@@ -129,7 +128,7 @@ fn put_ok(walks: usize, number: u64, out: &mut Vec<u8>) -> Result<(), NoMemory>
 /// Without memory the text keeps what it held, and may have a part of the lines behind it.
 pub fn accepted(
     effects: &[NetEffect],
-    walks: usize,
+    walks: u128,
     number: u64,
     out: &mut Vec<u8>,
 ) -> Result<(), NoMemory>
@@ -153,6 +152,16 @@ fn put_refusal(refusal: &Refusal, out: &mut Vec<u8>) -> Result<(), NoMemory>
             put(b"NoSuch ", out)?;
             put(name.text(), out)
         }
+        Refusal::DuplicateName(name) => {
+            put(b"DuplicateName ", out)?;
+            put(name.text(), out)
+        }
+        Refusal::LimitChassis => put(b"Limit chassis", out),
+        Refusal::NoFrame(frame) => {
+            put(b"NoFrame ", out)?;
+            put_wide(*frame, out)
+        }
+        Refusal::TooManyFrames => put(b"TooManyFrames", out),
         Refusal::NotBuilt => put(b"NotBuilt", out),
     }
 }
@@ -182,9 +191,9 @@ pub fn end(
     ensures ok { OnOk result (out.new.items ≡ out.old.items ++ end_line events accepted refused waiting) }
     ensures err { OnErr result (StartsWith out.new.items out.old.items) }
 {
-    put_count(b"end events=", events, out)?;
-    put_count(b" accepted=", accepted, out)?;
-    put_count(b" refused=", refused, out)?;
-    put_count(b" waiting=", waiting as u64, out)?;
+    put_count(b"end events=", events as u128, out)?;
+    put_count(b" accepted=", accepted as u128, out)?;
+    put_count(b" refused=", refused as u128, out)?;
+    put_count(b" waiting=", waiting as u128, out)?;
     put(b"\n", out)
 }

@@ -26,7 +26,7 @@ pub fn put_number(number: u64, out: &mut Vec<u8>) -> Result<(), NoMemory>
     put(Buffer::new().format(number).as_bytes(), out)
 }
 
-// The digits of the number of a frame, in base 10.
+// The digits of a number of up to 128 bits, in base 10.
 pub fn put_wide(number: u128, out: &mut Vec<u8>) -> Result<(), NoMemory>
     ensures ok { OnOk result (out.new.items ≡ out.old.items ++ decimal number) }
     ensures err { OnErr result (StartsWith out.new.items out.old.items) }

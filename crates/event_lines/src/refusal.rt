@@ -12,6 +12,14 @@ pub enum Refusal {
     Read(ReadRefusal),
     /// There is no switch, port or chassis of the name.
     NoSuch(Name),
+    /// There is a chassis of the name already.
+    DuplicateName(Name),
+    /// There are 64 chassis already.
+    LimitChassis,
+    /// No frame of the number waits.
+    NoFrame(u128),
+    /// 65,536 frames or more wait already.
+    TooManyFrames,
     /// The event asks for something that is not built.
     NotBuilt,
 }
@@ -24,6 +32,10 @@ impl Refusal {
         match self {
             Refusal::Read(refusal) => Ok(Refusal::Read(refusal.copy()?)),
             Refusal::NoSuch(name) => Ok(Refusal::NoSuch(*name)),
+            Refusal::DuplicateName(name) => Ok(Refusal::DuplicateName(*name)),
+            Refusal::LimitChassis => Ok(Refusal::LimitChassis),
+            Refusal::NoFrame(frame) => Ok(Refusal::NoFrame(*frame)),
+            Refusal::TooManyFrames => Ok(Refusal::TooManyFrames),
             Refusal::NotBuilt => Ok(Refusal::NotBuilt),
         }
     }

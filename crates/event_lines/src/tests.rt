@@ -76,3 +76,76 @@ fn writes_drops_and_refusals(rt: HostRuntime) {
         b"8 drop s0 p1 loopback\n8 ok walks=11\n9 refused TooLong\n10 refused BadJson\n11 refused NotBuilt\n12 refused NoSuch s0\n13 key port p1 3\n";
     assert_eq!(rt; text.as_slice(), wanted.as_slice());
 }
+
+// A frame from one chassis to another, what comes out of it, and a frame that is lost.
+fn tunnels(alloc: Global, hv1: Name, hv2: Name, p2: Name) -> Result<Vec<u8>, NoMemory> {
+    let mut text = Vec::new(alloc);
+    let bytes =
+        b"\x02\x40\x65\x58\0\0\x01\0\x01\x02\x80\x01\0\x01\0\x02\x0a\0\0\0\0\x02\x0a\0\0\0\0\x01\x88\xb5hi";
+    let sent = NetEffect::Tunnel {
+        frame: 1,
+        from: hv1,
+        to: hv2,
+        bytes: List::from_slice(alloc, bytes)?,
+    };
+    let packet = frame(alloc)?;
+    accepted(
+        &[sent, NetEffect::Out { port: p2, packet }],
+        17,
+        8,
+        &mut text,
+    )?;
+    accepted(&[NetEffect::Lost { frame: 1 }], 1, 12, &mut text)?;
+    accepted(
+        &[NetEffect::Lost {
+            frame: 18446744073709551616,
+        }],
+        1,
+        13,
+        &mut text,
+    )?;
+    Ok(text)
+}
+
+#[test]
+fn writes_tunnels(rt: HostRuntime) {
+    let hv1 = Name::read(b"hv1").expect(&rt, "a name");
+    let hv2 = Name::read(b"hv2").expect(&rt, "a name");
+    let p2 = Name::read(b"p2").expect(&rt, "a name");
+    let text = tunnels(rt.alloc(), hv1, hv2, p2).expect(&rt, "memory");
+    let wanted =
+        b"8 tunnel 1 hv1 hv2 024065580000010001028001000100020a00000000020a000000000188b56869\n8 out p2 0a00000000020a000000000188b56869\n8 ok walks=17\n12 lost 1\n12 ok walks=1\n13 lost 18446744073709551616\n13 ok walks=1\n";
+    assert_eq!(rt; text.as_slice(), wanted.as_slice());
+}
+
+// Drops of a bad source and of a tagged frame, and refusals of frames and chassis.
+fn more_refusals(alloc: Global, none: Name, hv1: Name) -> Result<Vec<u8>, NoMemory> {
+    let mut text = Vec::new(alloc);
+    let bad_source = NetEffect::Drop {
+        datapath: none,
+        port: none,
+        cause: Cause::BadSource,
+    };
+    let vlan = NetEffect::Drop {
+        datapath: none,
+        port: none,
+        cause: Cause::Vlan,
+    };
+    accepted(&[bad_source, vlan], 4, 10, &mut text)?;
+    refused(&Refusal::DuplicateName(hv1).copy()?, 11, &mut text)?;
+    refused(&Refusal::NoFrame(1).copy()?, 12, &mut text)?;
+    refused(&Refusal::LimitChassis.copy()?, 130, &mut text)?;
+    refused(&Refusal::TooManyFrames.copy()?, 1235, &mut text)?;
+    end(1235, 1234, 1, 65583, &mut text)?;
+    Ok(text)
+}
+
+#[test]
+fn writes_more_refusals(rt: HostRuntime) {
+    let none = Name::read(b"-").expect(&rt, "a name");
+    let hv1 = Name::read(b"hv1").expect(&rt, "a name");
+    let text = more_refusals(rt.alloc(), none, hv1).expect(&rt, "memory");
+    let wanted =
+        b"10 drop - - bad-source\n10 drop - - vlan\n10 ok walks=4\n11 refused DuplicateName hv1\n12 refused NoFrame 1\n130 refused Limit chassis\n1235 refused TooManyFrames\nend events=1235 accepted=1234 refused=1 waiting=65583\n";
+    assert_eq!(rt; text.as_slice(), wanted.as_slice());
+}

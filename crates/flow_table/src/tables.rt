@@ -29,7 +29,6 @@ impl Model for Tables {
     ghost use Rattle.std.specs.Vec.{vec_capacity};
     ghost use Rattle.ovn_base.specs.Once.{EachOnce};
     ghost use Rattle.flow_table.specs.Held.{Held};
-    ghost use Rattle.ovn_base.specs.Once.{EachOnce};
 
     ghost Value = { Held };
 

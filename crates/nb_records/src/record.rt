@@ -28,6 +28,8 @@ pub struct SwitchPort {
 pub enum PortAddress {
     /// An Ethernet address, with the IPv4 addresses that it answers for.
     Ether { mac: Mac, ips: List<Ip4> },
+    /// The port also gets what goes to an address that no port of the switch has.
+    Unknown,
 }
 
 /// A record of any kind.
@@ -61,6 +63,7 @@ impl PortAddress {
                 mac: *mac,
                 ips: ips.copy()?,
             }),
+            PortAddress::Unknown => Ok(PortAddress::Unknown),
         }
     }
 }

@@ -19,6 +19,7 @@ fn port(alloc: Global, called: &[u8], last: u8) -> Result<SwitchPort, NoMemory> 
         mac: Mac([10, 0, 0, 0, 0, last]),
         ips,
     })?;
+    addresses.push(PortAddress::Unknown)?;
     Ok(SwitchPort {
         name: name(called)?,
         birth: Birth(1),

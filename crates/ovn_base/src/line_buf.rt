@@ -161,6 +161,7 @@ impl LineBuf {
         ensures at_end { self.new.ended ≡ true → IsAtEnd (S.left source.new) }
         ensures err { OnErr result ((self.new.held ≡ self.old.held) × (self.new.ended ≡ false)) }
         ensures read_fault { result ≡ Err LineFault.ReadFault → Rose (S.faults source.old) (S.faults source.new) }
+        ensures read_short { result ≡ Err LineFault.ReadFault → taken self.new < 2 ^ 40 }
         ensures too_long { result ≡ Err LineFault.InputTooLong → taken self.new ≡ 2 ^ 40 }
         ensures faulted { self.new.faulted ≡ (if is_err result then true else self.old.faulted) }
         ensures limit { taken self.new ≤ 2 ^ 40 }

@@ -61,8 +61,8 @@ fn line_of(is_skipped: bool, length: usize) -> Line
 ///
 /// # Errors
 ///
-/// `ReadFault` only where the source failed, and `InputTooLong` where 2^40 bytes were taken without an end. No line
-/// that was taken whole is left out then, and the buffer can't be used again.
+/// `ReadFault` only where the source failed before 2^40 bytes were taken, and `InputTooLong` where 2^40 bytes were taken
+/// without an end. No line that was taken whole is left out then, and the buffer can't be used again.
 pub fn next_line<S: Source>(source: &mut S, buf: &mut LineBuf) -> Result<Line, LineFault>
     requires { buf.old.faulted ≡ false }
 
@@ -74,7 +74,7 @@ pub fn next_line<S: Source>(source: &mut S, buf: &mut LineBuf) -> Result<Line, L
     ensures short { result ≡ Ok Line.Text → length buf.new.text ≤ LINE_LIMIT }
     ensures progress { IfOk result (λ line. line ≢ Line.End → buf.old.given < buf.new.given) }
 
-    // It takes more only while it holds no whole line and the end wasn't seen. The end is seen where nothing is left.
+    // It takes nothing where a whole line is held or the end was seen before. The end is seen where nothing is left.
     ensures patient { ended_lines buf.old.held ≢ [] → source.new ≡ source.old }
     ensures after_end { buf.old.ended ≡ true → source.new ≡ source.old }
     ensures at_end { buf.old.ended ≡ false → buf.new.ended ≡ true → IsAtEnd (S.left source.new) }
@@ -85,6 +85,7 @@ pub fn next_line<S: Source>(source: &mut S, buf: &mut LineBuf) -> Result<Line, L
     ensures none_held { OnErr result (ended_lines buf.new.held ≡ []) }
     ensures before_end { OnErr result (buf.old.ended ≡ false) }
     ensures read_fault { result ≡ Err LineFault.ReadFault → Rose (S.faults source.old) (S.faults source.new) }
+    ensures read_short { result ≡ Err LineFault.ReadFault → taken buf.new < 2 ^ 40 }
     ensures too_long { result ≡ Err LineFault.InputTooLong → taken buf.new ≡ 2 ^ 40 }
     ensures faulted { buf.new.faulted ≡ is_err result }
 

@@ -1,20 +1,21 @@
 -- An event that a line asks for is one that a world takes.
-use Rattle.std.proofs.Common.{◌<◌, ℕ, List, [], ◌∷◌, refl, arith, subst, sym, inl, inr}
+use Rattle.std.proofs.Common.{◌≡◌, ◌<◌, ℕ, List, [], ◌∷◌, Option, Some, None, refl, arith, subst, sym, ap, ◌∙◌, inl, inr}
 use Rattle.std.specs.List.{All, AllByRecursion, AllZip}
-use Rattle.std.proofs.lemmas.List.{get_or_default}
 use Rattle.std.proofs.lemmas.List.Elements.{All-cons, All-nil}
-use Rattle.hex.proofs.HexLemmas.{decode_of-ok}
+use Rattle.std.proofs.lemmas.Option.{none-some, same_Some}
 use Rattle.ovn_base.specs.Address.{IsMac}
+use Rattle.ovn_base.specs.Among.{Among}
 use Rattle.ovn_base.specs.AddressText.{SpellsMac, SpellsPair}
 use Rattle.ovn_base.specs.declared.address.Mac.{Mac}
+use Rattle.ovn_base.proofs.AmongLaws.{among_cases, among_none}
 use Rattle.nb_records.specs.declared.record.PortAddress.{PortAddress}
-use Rattle.nb_records.specs.declared.record.PortAddress.TheVariants.{Ether}
+use Rattle.nb_records.specs.declared.record.PortAddress.TheVariants.{Ether, Unknown}
 use Rattle.nb_records.specs.declared.record.Record.{Record}
 use Rattle.nb_records.specs.declared.record.Record.TheVariants as kind
-use Rattle.edit_reader.specs.Reads.{Adds, IsForm, Reads, ReadsLine, SpellsEntry, edits, adds_chassis, binds, sends, is_form, is_none}
+use Rattle.edit_reader.specs.Reads.{Adds, AreListed, IsForm, Reads, ReadsLine, SpellsEntry, edits, adds_chassis, binds, sends, injects, delivers, loses, repeats, drains, is_form, is_none}
 use Rattle.edit_reader.specs.declared.event.Event.{Event}
 use Rattle.serde_json.specs.Data.{Data}
-use Rattle.world_core.specs.Addresses.{mac_of}
+use Rattle.world_core.specs.Addresses.{HasMac, mac_in}
 use Rattle.world_core.specs.Admitted.{IsAdmitted, IsAdmittedRecord}
 use Rattle.ovnsim.specs.Events.{AreEvents, AsksFor, is_too_long, is_no_json, is_read}
 
@@ -38,18 +39,38 @@ bytes_of_pairs (piece ∷ pieces) (b ∷ values) h = All-cons IsByte b values (b
 mac_is : (text : List ℕ) (mac : Mac) → SpellsMac text mac → IsMac mac
 mac_is text mac h = record { six = h.six; bytes = bytes_of_pairs h.pairs.pieces mac.0 h.pairs.each }
 
-entry_is : (text : List ℕ) (entry : PortAddress) → SpellsEntry text entry → IsMac (mac_of entry)
-entry_is text (Ether mac ips) h = mac_is h.first mac h.spells_mac
+entry_is : (text : List ℕ) (entry : PortAddress) (mac : Mac) → SpellsEntry text entry → mac_in entry ≡ Some mac → IsMac mac
+entry_is text (Ether own ips) mac h has = subst IsMac (same_Some own mac has) (mac_is h.first own h.spells_mac)
+entry_is text Unknown mac h has = absurd (none-some mac has)
+
+-- each entry of a list is spelt by a text
+entries_are : (texts : List (List ℕ)) (entries : List PortAddress) (entry : PortAddress) (mac : Mac) → AllZip SpellsEntry texts entries → Among entry entries → mac_in entry ≡ Some mac → IsMac mac
+entries_are [] [] entry mac h among has = absurd (among_none entry among)
+entries_are [] (e ∷ entries) entry mac h among has = absurd h
+entries_are (text ∷ texts) [] entry mac h among has = absurd h
+entries_are (text ∷ texts) (e ∷ entries) entry mac h among has = elim (among_cases entry e entries among) [
+  | inl same ↦ entry_is text e mac h.0 (ap mac_in (sym same) ∙ has)
+  | inr later ↦ entries_are texts entries entry mac h.1 later has
+]
+
+listed_are : (list : Option Data) (addresses : List PortAddress) → AreListed list addresses → (mac : Mac) → HasMac addresses mac → IsMac mac
+listed_are None addresses h mac m = absurd (among_none m.entry (subst (λ es. Among m.entry es) h m.among))
+listed_are (Some list) addresses h mac m = entries_are h.texts addresses m.entry mac h.spell m.among m.has
 
 record_is : (d : Data) (row : Record) → Adds d row → IsAdmittedRecord row
 record_is d (kind.Switch switch) h = tt
-record_is d (kind.SwitchPort port) h = (h.address, h.addresses, entry_is h.entry h.address h.spells)
+record_is d (kind.SwitchPort port) h = listed_are h.list port.addresses h.lists
 
 form_is : (d : Data) (event : Event) → IsForm d event → IsAdmitted event
 form_is d event (edits row h e) = subst IsAdmitted (sym e) (row, refl, record_is h.op row h.adds)
 form_is d event (adds_chassis name h e) = subst IsAdmitted (sym e) tt
 form_is d event (binds port chassis h e) = subst IsAdmitted (sym e) tt
-form_is d event (sends port frame h e) = subst IsAdmitted (sym e) (h.spells.plain, λ k x within. subst IsByte (sym (get_or_default frame k x 0 within)) ((decode_of-ok h.digits frame h.spells.bytes).3 k))
+form_is d event (sends port frame h e) = subst IsAdmitted (sym e) h.spells.plain
+form_is d event (injects port frame h e) = subst IsAdmitted (sym e) h.spells.plain
+form_is d event (delivers n h e) = subst IsAdmitted (sym e) tt
+form_is d event (loses n h e) = subst IsAdmitted (sym e) tt
+form_is d event (repeats n h e) = subst IsAdmitted (sym e) tt
+form_is d event (drains h e) = subst IsAdmitted (sym e) tt
 
 value_is : (d : Data) (event : Event) → Reads d event → IsAdmitted event
 value_is d event (is_form h) = form_is d event h

@@ -1,5 +1,6 @@
 -- Lemmas.
 pub mod Admits
+pub mod Named
 pub mod ReadOff
 pub mod OneReading
 pub mod OneRun

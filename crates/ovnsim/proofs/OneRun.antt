@@ -1,8 +1,6 @@
 -- Events and picks have one run.
 use Rattle.std.proofs.Common.{◌≡◌, ◌+◌, ◌++◌, ℕ, List, [], ◌∷◌, refl, sym, ap, ◌∙◌, subst, arith}
-use Rattle.std.specs.List.Sorted.{IsStrictlySortedBy}
 use Rattle.std.proofs.lemmas.Option.{none-some, same_Some}
-use Rattle.ovn_base.proofs.AmongLaws.{among_none}
 use Rattle.edit_reader.specs.declared.event.Event.{Event}
 use Rattle.event_lines.specs.Lines.{lines_of, refused_line}
 use Rattle.event_lines.specs.Picks.{Pick}
@@ -16,76 +14,11 @@ use Rattle.world_core.specs.State.{State, events_of}
 use Rattle.world_core.specs.Step as net
 use Rattle.world_core.specs.Zones.{zones_after}
 use Rattle.world_core.proofs.OneStep.{step_with}
-use Rattle.world_core.proofs.OneWalk.{same_walks}
+use Rattle.world_core.proofs.OnePass.{same_walks}
+use Rattle.world_core.proofs.Starting.{new_sound}
 use Rattle.ovnsim.specs.Runs.{Runs, RunsLines, Takes, accepts, refuses, IsTextOf, AreTexts}
 use Rattle.ovnsim.proofs.OneReading.{same_events}
 use Rattle.ovnsim.proofs.Taken.{step_counts}
-
--- the empty world is sound
-new_sound : IsSound new_world
-unfolding IsStrictlySortedBy
-new_sound = record {
-  whole = refl;
-  consistent = record {
-    valid = record {
-      switches_sorted = tt;
-      ports_sorted = tt;
-      switch_names = λ a switch e. absurd (none-some switch e);
-      port_names = λ q port e. absurd (none-some port e);
-      on_switch = λ q port e. absurd (none-some port e);
-      macs = λ q port entry e among. absurd (none-some port e);
-      stations = λ q port entry e among. absurd (none-some port e);
-      once = λ q port e. absurd (none-some port e);
-      apart = λ p q ours theirs mac e f switch has also. absurd (none-some ours e);
-      ips_apart = λ p q ours theirs ip e f switch has also. absurd (none-some ours e);
-    };
-    within = record { switches = omega arith; ports = omega arith };
-    keys = record {
-      hold = record {
-        datapath_ranges = (omega arith, omega arith);
-        port_ranges = (omega arith, omega arith);
-        datapaths_in_order = tt;
-        ports_in_order = tt;
-        on_datapath = λ e among. absurd (among_none e among);
-        on_held = λ a among. absurd (among_none a among);
-        datapath_keys = λ a among. absurd (among_none a among);
-        port_keys = λ a among. absurd (among_none a among);
-        datapaths_apart = λ a b among also same. absurd (among_none a among);
-        ports_apart = λ a b among also on same. absurd (among_none a among);
-        datapath_once = λ a b among also same. absurd (among_none a among);
-        port_once = λ a b among also same. absurd (among_none a among);
-        datapath_live = λ e a among also. absurd (among_none e among);
-        port_live = λ e a among also. absurd (among_none e among);
-      };
-      datapath_has = λ a switch e. absurd (none-some switch e);
-      datapath_of = λ a k e. absurd (none-some k e);
-      port_has = λ q port e. absurd (none-some port e);
-      port_of = λ q k e. absurd (none-some k e);
-      datapath_range = refl;
-      port_range = refl;
-      no_retired_datapaths = refl;
-      no_retired_ports = refl;
-    };
-    bound = record {
-      port_there = λ q c e. absurd (none-some c e);
-      chassis_there = λ q c e. absurd (none-some c e);
-      one_chassis = omega arith;
-      has_zone = λ q c e. absurd (none-some c e);
-      zone_of = λ q z e. absurd (none-some z e);
-      zone_fits = λ q z e. absurd (none-some z e);
-      zones_apart = λ p q z e f. absurd (none-some z e);
-    };
-    born = record {
-      none = λ e. refl;
-      switches = λ a switch e. absurd (none-some switch e);
-      ports = λ q port e. absurd (none-some port e);
-      datapath_keys = λ a among. absurd (among_none a among);
-      port_keys = λ a among. absurd (among_none a among);
-    };
-    few = omega arith;
-  };
-  compiled = record { exact = λ c among. absurd (among_none c among) };
-}
 
 -- two worlds of one state, and with the same zones
 pub record AreAlike (one two : Seen) : Type 0 where
@@ -104,11 +37,11 @@ takes_same one two event own their left more first other mid after sound also li
     let moved : net.Step one.state event k.effects after.state = subst (λ s. net.Step s event k.effects after.state) (sym like.state) k.step in
     let step =
     step_with one.state event h.effects k.effects mid.state after.state left more sound.consistent.valid h.step moved (sym (ap (λ ps. ps ++ left) p) ∙ e ∙ ap (λ ps. ps ++ more) q) in
-    let walks : mid.walks ≡ after.walks = same_walks one two event h.effects k.effects mid.walks after.walks sound also like.state like.zones h.walked k.walked in
+    let walks : mid.walks ≡ after.walks = same_walks one two event (record { effects = h.effects; walks = mid.walks }) (record { effects = k.effects; walks = after.walks }) mid.sim after.sim sound also like.state like.zones h.passed k.passed in
     let number : events_of one.state + 1 ≡ events_of two.state + 1 = ap (λ (s : State). events_of s + 1) like.state in
     record {
       texts = h.text ∙ (λ i. lines_of (number i) (step.effects_are i) (matched (walks i))) ∙ sym k.text;
-      like = record { state = step.state; zones = h.zones ∙ ap (λ zs. zones_after zs event) like.zones ∙ sym k.zones };
+      like = record { state = step.state; zones = h.zones ∙ (λ i. zones_after (like.state i).bindings (like.zones i) event) ∙ sym k.zones };
       rest = step.rest;
     }
 takes_same one two event own their left more first other mid after sound also like (accepts h p) (refuses why k q) e =

@@ -4,7 +4,7 @@ use Rattle.std.specs.List.{AllByRecursion}
 use Rattle.serde_json.specs.Data.{Data}
 use Rattle.nb_records.specs.declared.record.Record.{Record}
 use Rattle.nb_records.specs.declared.record.Record.TheVariants as kind
-use Rattle.edit_reader.specs.Reads.{Adds, IsForm, Reads, edits, adds_chassis, binds, sends, is_form, is_none}
+use Rattle.edit_reader.specs.Reads.{Adds, IsForm, Reads, edits, adds_chassis, binds, sends, injects, delivers, loses, repeats, drains, is_form, is_none}
 use Rattle.edit_reader.specs.declared.event.Event.{Event}
 use Rattle.event_lines.specs.Picks.{Pick, picks_in, AreWholeLines}
 use Rattle.event_lines.proofs.Reading as read
@@ -12,9 +12,9 @@ use Rattle.world_core.specs.Outcome.{matched}
 use Rattle.world_core.specs.Parts.{new_world}
 use Rattle.world_core.specs.Seen.{Seen}
 use Rattle.world_core.specs.State.{events_of}
-use Rattle.world_core.proofs.Named.{IsNamedRecord, IsNamedEvent, IsNamedState, none_named, refusal_named, step_named}
 use Rattle.ovnsim.specs.Events.{AreEvents, AsksFor, is_too_long, is_no_json, is_read}
 use Rattle.ovnsim.specs.Runs.{Runs, Takes, accepts, refuses}
+use Rattle.ovnsim.proofs.Named.{IsNamedRecord, IsNamedEvent, IsNamedState, none_named, refusal_named, step_named}
 
 -- ---- the names in what a line asks for
 
@@ -26,7 +26,12 @@ form_named : (d : Data) (event : Event) → IsForm d event → IsNamedEvent even
 form_named d event (edits row h e) = subst IsNamedEvent (sym e) (record_named h.op row h.adds, tt)
 form_named d event (adds_chassis name h e) = subst IsNamedEvent (sym e) h.is_name
 form_named d event (binds port chassis h e) = subst IsNamedEvent (sym e) (h.is_port_name, h.is_chassis_name)
-form_named d event (sends port frame h e) = subst IsNamedEvent (sym e) h.has_packet.is_port_name
+form_named d event (sends port frame h e) = subst IsNamedEvent (sym e) h.has_frame.is_port_name
+form_named d event (injects port frame h e) = subst IsNamedEvent (sym e) h.has_frame.is_port_name
+form_named d event (delivers n h e) = subst IsNamedEvent (sym e) tt
+form_named d event (loses n h e) = subst IsNamedEvent (sym e) tt
+form_named d event (repeats n h e) = subst IsNamedEvent (sym e) tt
+form_named d event (drains h e) = subst IsNamedEvent (sym e) tt
 
 value_named : (d : Data) (event : Event) → Reads d event → IsNamedEvent event
 value_named d event (is_form h) = form_named d event h
@@ -60,7 +65,7 @@ takes_read old event own text new named fine (accepts h e) =
     record { picks = ap picks_in h.text ∙ read.accepted (events_of old.state + 1) (matched new.walks) h.effects step.0 ∙ sym e; named = step.1 }
 takes_read old event own text new named fine (refuses why h e) = record {
   picks = ap picks_in h.text ∙ read.refused (events_of old.state + 1) why (refusal_named old.state event why fine h.first) ∙ sym e;
-  named = subst (λ (w : Seen). IsNamedState w.state) (sym h.kept) (record { ports = named.ports; keys = named.keys });
+  named = subst (λ (w : Seen). IsNamedState w.state) (sym h.kept) (record { ports = named.ports; chassis = named.chassis; bindings = named.bindings; waiting = named.waiting; keys = named.keys });
 }
 
 -- ---- the text of a run

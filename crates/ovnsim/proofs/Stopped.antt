@@ -117,13 +117,14 @@ stop_lines m k world before sent input ahead left open' h s =
     h.lines r (taken k) first (λ e. cc (sym open' ∙ e)) ∙ ap (λ ls. h.done ++ ls) (s.none r (sym first)) ∙ append-nil h.done
 
 -- the source failed
-pub at_read : (X Y Z before sent : Option (List ℕ)) (m k : Reading) (world : Seen) → m.ended ≡ false → WhereTold X Y (Ran m world before sent) → WhereTold Y Z (Stops m k)
+pub at_read : (X Y Z before sent : Option (List ℕ)) (m k : Reading) (world : Seen) → m.ended ≡ false → taken k < 2 ^ 40 → WhereTold X Y (Ran m world before sent) → WhereTold Y Z (Stops m k)
     → WhereTold X Z (GainsRead before sent)
-at_read X Y Z before sent m k world open' h s =
+at_read X Y Z before sent m k world open' few h s =
     told_then X Y Z (Ran m world before sent) (Stops m k) (GainsRead before sent) h s (λ x y z p q.
     let all = p.count in
     let taken_is = q.count in
     let n : length x - length z ≡ taken k = omega arith in record {
+      taken = omega arith;
       text = p.text;
       last = world;
       run = subst (λ ls. RunsLines ls (picks_in p.text) p.text world) (sym (ap (λ i. lines_within i x) n ∙ stop_lines m k world before sent x y z open' p q)) p.run;
@@ -172,11 +173,11 @@ map_some None P Q p k = tt
 map_some (Some x) P Q p k = k x p
 
 -- the last line of a world
-end_is : (last : Seen) (a r waiting : ℕ) → a ≡ last.state.accepted → r ≡ last.state.refused → waiting ≡ 0 → end_line (a + r) a r waiting ≡ end_of last
+end_is : (last : Seen) (a r waiting : ℕ) → a ≡ last.state.accepted → r ≡ last.state.refused → waiting ≡ length last.state.waiting → end_line (a + r) a r waiting ≡ end_of last
 end_is last a r waiting e f z = rw (e, f, z) refl
 
 -- the last line went out
-pub whole_of : (X before sent now : Option (List ℕ)) (last : Seen) (a r waiting : ℕ) (refused : Bool) → IfSome X (GainsTexts before sent last) → a ≡ last.state.accepted → r ≡ last.state.refused → waiting ≡ 0
+pub whole_of : (X before sent now : Option (List ℕ)) (last : Seen) (a r waiting : ℕ) (refused : Bool) → IfSome X (GainsTexts before sent last) → a ≡ last.state.accepted → r ≡ last.state.refused → waiting ≡ length last.state.waiting
     → refused ≡ nat_lt 0 r → now ≡ append_known sent (end_line (a + r) a r waiting) → IfSome X (GainsWhole refused before now)
 whole_of X before sent now last a r waiting refused h e f z b g = map_some X (GainsTexts before sent last) (GainsWhole refused before now) h (λ x p. record {
   short = p.short;
@@ -191,7 +192,7 @@ end_within-short : (input : List ℕ) (last : Seen) → length input < 2 ^ 40 �
 end_within-short input last h = cond-true _ _ _ (lt-ltb (length input) (2 ^ 40) h)
 
 -- some first bytes of the last line went out
-pub end_cut : (X before sent now : Option (List ℕ)) (last : Seen) (a r waiting : ℕ) → IfSome X (GainsTexts before sent last) → a ≡ last.state.accepted → r ≡ last.state.refused → waiting ≡ 0
+pub end_cut : (X before sent now : Option (List ℕ)) (last : Seen) (a r waiting : ℕ) → IfSome X (GainsTexts before sent last) → a ≡ last.state.accepted → r ≡ last.state.refused → waiting ≡ length last.state.waiting
     → WasCut sent now (end_line (a + r) a r waiting) → IfSome X (GainsFront before now)
 end_cut X before sent now last a r waiting h e f z g = map_some X (GainsTexts before sent last) (GainsFront before now) h (λ x p. record {
   done = lines_in x;
@@ -225,7 +226,7 @@ with_end input text last h =
     subst (λ ps. RunsLines (lines_in input) ps text last) (sym (by whole (nat_lt (length input) (2 ^ 40)))) h
   where
     by : AreWholeLines text → (t : Bool) → picks_in (text ++ cond t (end_of last) []) ≡ picks_in text
-    by whole true = read.joined text (end_of last) whole ∙ ap (λ ps. picks_in text ++ ps) (read.end (events_of last.state) last.state.accepted last.state.refused 0) ∙ append-nil (picks_in text)
+    by whole true = read.joined text (end_of last) whole ∙ ap (λ ps. picks_in text ++ ps) (read.end (events_of last.state) last.state.accepted last.state.refused (length last.state.waiting)) ∙ append-nil (picks_in text)
     by whole false = ap picks_in (append-nil text)
 
 -- an input with an end is answered

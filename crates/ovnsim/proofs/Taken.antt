@@ -1,8 +1,8 @@
 -- What one event leaves.
-use Rattle.std.proofs.Common.{◌≡◌, ◌+◌, ◌++◌, ℕ, Bool, true, false, List, [], refl, sym, ap, ◌∙◌, subst, take, drop, take-append-drop, arith, Option, Result, Ok, Err, IsErrAnd}
+use Rattle.std.proofs.Common.{◌≡◌, ◌+◌, ◌++◌, ℕ, zero, suc, Bool, true, false, List, [], inl, inr, refl, sym, ap, ◌∙◌, subst, take, drop, take-append-drop, arith, Option, Result, Ok, Err, IsErrAnd}
 use Rattle.std.specs.Io.KnownBytes.{append_known}
 use Rattle.edit_reader.specs.declared.event.Event.{Event}
-use Rattle.edit_reader.specs.declared.event.Event.TheVariants.{Edit, Bind, AddChassis, Packet, Unread, NotBuilt}
+use Rattle.edit_reader.specs.declared.event.Event.TheVariants.{Edit, Bind, AddChassis, Inject, Deliver, Lose, Repeat, Drain, Packet, Unread, NotBuilt}
 use Rattle.event_lines.specs.declared.refusal.Refusal.{Refusal}
 use Rattle.switch_engine.specs.declared.effect.NetEffect.{NetEffect}
 use Rattle.event_lines.specs.Lines.{lines_of}
@@ -10,22 +10,55 @@ use Rattle.event_lines.specs.Picks.{picks_of}
 use Rattle.world_core.specs.Outcome.{IsAccepted, IsRefused, matched}
 use Rattle.world_core.specs.Seen.{Seen, IsSound}
 use Rattle.world_core.specs.State.{State, events_of}
-use Rattle.world_core.specs.Step.{Step}
+use Rattle.world_core.specs.Step.{Step, Does, Arrives, Drains, most_arrivals}
 use Rattle.ovnsim.specs.Runs.{Takes, accepts, refuses}
 use Rattle.ovnsim.specs.Taking.{TakesWith, WasCut}
 
+-- how many events were accepted and refused
+record HasCounts (m : State) (accepted refused : ℕ) : Type 0 where
+  accepted_are : m.accepted ≡ accepted
+  refused_are : m.refused ≡ refused
+
+counts_kept : (m after next : State) → after ≡ next → HasCounts next m.accepted m.refused → HasCounts after m.accepted m.refused
+counts_kept m after next e h = subst (λ (s : State). HasCounts s m.accepted m.refused) (sym e) h
+
+arrives_counts : (m : State) (n : ℕ) (keep : Bool) (effects : List NetEffect) (after : State) → Arrives m n keep effects after → HasCounts after m.accepted m.refused
+arrives_counts m n true effects after h = counts_kept m after _ h.state (record { accepted_are = refl; refused_are = refl })
+arrives_counts m n false effects after h = counts_kept m after _ h.state (record { accepted_are = refl; refused_are = refl })
+
+drains_counts : (most : ℕ) (m : State) (effects : List NetEffect) (after : State) → Drains most m effects after → HasCounts after m.accepted m.refused
+drains_counts zero m effects after h = counts_kept m after m h.1 (record { accepted_are = refl; refused_are = refl })
+drains_counts (suc most) m effects after (inl h) = counts_kept m after m h.2 (record { accepted_are = refl; refused_are = refl })
+drains_counts (suc most) m effects after (inr h) =
+    let first = arrives_counts m h.n false h.own h.mid h.arrives in
+    let rest = drains_counts most h.mid h.more after h.others in
+    record { accepted_are = rest.accepted_are ∙ first.accepted_are; refused_are = rest.refused_are ∙ first.refused_are }
+
+does_counts : (m : State) (event : Event) (effects : List NetEffect) (after : State) → Does m event effects after → HasCounts after m.accepted m.refused
+does_counts m (Edit ops) effects after h = counts_kept m after _ h.state (record { accepted_are = refl; refused_are = refl })
+does_counts m (Bind port chassis) effects after h = counts_kept m after _ h.1 (record { accepted_are = refl; refused_are = refl })
+does_counts m (AddChassis chassis) effects after h = counts_kept m after _ h.1 (record { accepted_are = refl; refused_are = refl })
+does_counts m (Inject port frame) effects after h = counts_kept m after _ h.state (record { accepted_are = refl; refused_are = refl })
+does_counts m (Deliver n) effects after h = arrives_counts m n false effects after h
+does_counts m (Lose n) effects after h = counts_kept m after _ h.1 (record { accepted_are = refl; refused_are = refl })
+does_counts m (Repeat n) effects after h = arrives_counts m n true effects after h
+does_counts m Drain effects after h = drains_counts most_arrivals m effects after h
+does_counts m (Packet port frame) effects after h =
+    let first : HasCounts h.mid m.accepted m.refused = counts_kept m h.mid _ h.enters.state (record { accepted_are = refl; refused_are = refl }) in
+    let rest = drains_counts most_arrivals h.mid h.more after h.drains in
+    record { accepted_are = rest.accepted_are ∙ first.accepted_are; refused_are = rest.refused_are ∙ first.refused_are }
+does_counts m (Unread fault) effects after h = absurd h
+does_counts m NotBuilt effects after h = absurd h
+
 -- a step counts one event that was accepted
 pub step_counts : (m : State) (event : Event) (effects : List NetEffect) (after : State) → Step m event effects after → (after.accepted ≡ m.accepted + 1) × (after.refused ≡ m.refused)
-step_counts m (Edit ops) effects after h = (ap (λ (s : State). s.accepted) h.state, ap (λ (s : State). s.refused) h.state)
-step_counts m (Bind port chassis) effects after h = (ap (λ (s : State). s.accepted) h.1, ap (λ (s : State). s.refused) h.1)
-step_counts m (AddChassis chassis) effects after h = (ap (λ (s : State). s.accepted) h.1, ap (λ (s : State). s.refused) h.1)
-step_counts m (Packet port frame) effects after h = (ap (λ (s : State). s.accepted) h.state, ap (λ (s : State). s.refused) h.state)
-step_counts m (Unread fault) effects after h = absurd h
-step_counts m NotBuilt effects after h = absurd h
+step_counts m event effects after h =
+    let does = does_counts m event effects h.mid h.does in
+    (ap (λ (s : State). s.accepted) h.state ∙ ap (λ n. n + 1) does.accepted_are, ap (λ (s : State). s.refused) h.state ∙ does.refused_are)
 
 accepts_from : (old : Seen) (event : Event) (before text : List ℕ) (new : Seen) → before ≡ [] → (h : IsAccepted old event before text new) → Takes old event (picks_of h.effects) text new
 accepts_from old event before text new empty h =
-    accepts (record { admitted = h.admitted; effects = h.effects; step = h.step; walked = h.walked; zones = h.zones; text = h.text ∙ ap (λ b. b ++ lines_of (events_of old.state + 1) h.effects (matched new.walks)) empty }) refl
+    accepts (record { admitted = h.admitted; effects = h.effects; step = h.step; passed = h.passed; zones = h.zones; text = h.text ∙ ap (λ b. b ++ lines_of (events_of old.state + 1) h.effects (matched new.walks)) empty }) refl
 
 -- an accepted event, where the text was empty
 pub takes_accepted : (old : Seen) (event : Event) (before text : List ℕ) (new : Seen) → before ≡ [] → IsAccepted old event before text new × IsSound new → TakesWith true old event text new

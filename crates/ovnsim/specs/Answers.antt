@@ -14,7 +14,7 @@ lines_in input = lines_within (2 ^ 40) input
 
 -- the last line, for the world that the events left
 abbrev pub end_of : Seen → List ℕ
-end_of last = end_line (events_of last.state) last.state.accepted last.state.refused 0
+end_of last = end_line (events_of last.state) last.state.accepted last.state.refused (length last.state.waiting)
 
 -- an event was refused
 abbrev pub is_refusing : Seen → Bool
@@ -68,8 +68,10 @@ pub record GainsFront (before after : Option (List ℕ)) (input : List ℕ) : Ty
   pub cut : text ++ then_last rest input last ≡ front ++ more
   pub gone : after ≡ append_known before front
 
--- the sink gained the texts of the events whose line ended within the bytes that were taken; `left` were not
+-- fewer than 2^40 bytes of the input were taken, `left` were not, and the sink gained the texts of the events whose line
+-- ended within those that were
 pub record GainsRead (before after : Option (List ℕ)) (input left : List ℕ) : Type 0 where
+  pub taken : length input < 2 ^ 40 + length left
   pub text : List ℕ
   pub last : Seen
   pub run : RunsLines (lines_within (length input - length left) input) (picks_in text) text last

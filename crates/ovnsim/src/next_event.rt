@@ -66,7 +66,7 @@ pub fn next_event<S: Source>(alloc: Global, source: &mut S, buf: &mut LineBuf) -
     ensures progress { IfOk result (λ next. next ≢ Next.End → buf.old.given < buf.new.given) }
     ensures sound { IfOk result (λ _. buf.new.faulted ≡ false) }
     ensures read_fault { result ≡ Err Stop.ReadFault → Rose (S.faults source.old) (S.faults source.new) }
-    ensures stopped { result ≡ Err Stop.ReadFault → (buf.old.ended ≡ false)
+    ensures stopped { result ≡ Err Stop.ReadFault → (taken buf.new < 2 ^ 40) × (buf.old.ended ≡ false)
         × WhereTold (unread buf.old (S.left source.old)) (S.left source.new) (Stops buf.old buf.new) }
     ensures too_long { result ≡ Err Stop.InputTooLong → (taken buf.new ≡ 2 ^ 40) × (buf.old.ended ≡ false)
         × WhereTold (unread buf.old (S.left source.old)) (S.left source.new) (Stops buf.old buf.new) }

@@ -34,10 +34,10 @@ use Rattle.tunnel_keys.proofs.Planned.{new_datapaths, new_datapaths_sorted, all_
 -- ---- settled keys
 
 module _ (keys : Keys) where
-  settled_datapath : (a : HeldDatapath) → Among a (held_datapaths (settled keys)) → Among a (held_datapaths keys)
+  pub settled_datapath : (a : HeldDatapath) → Among a (held_datapaths (settled keys)) → Among a (held_datapaths keys)
   settled_datapath a m = elim (among_append a (map held_datapath keys.datapaths) [] m) [ inl p ↦ among_left a (map held_datapath keys.datapaths) keys.retired_datapaths p | inr n ↦ absurd (among_none a n) ]
 
-  settled_port : (a : HeldPort) → Among a (held_ports (settled keys)) → Among a (held_ports keys)
+  pub settled_port : (a : HeldPort) → Among a (held_ports (settled keys)) → Among a (held_ports keys)
   settled_port a m = elim (among_append a (filter_map (held_port keys.datapaths) keys.ports) [] m) [ inl p ↦ among_left a (filter_map (held_port keys.datapaths) keys.ports) keys.retired_ports p | inr n ↦ absurd (among_none a n) ]
 
   pub settled_hold : IsKeys keys → IsKeys (settled keys)

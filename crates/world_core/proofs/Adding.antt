@@ -21,10 +21,10 @@ use Rattle.tunnel_keys.specs.Keys.{Keys, IsKeys}
 use Rattle.tunnel_keys.specs.Owners.{ports_in}
 use Rattle.tunnel_keys.specs.declared.owner.DatapathKey.{DatapathKey}
 use Rattle.tunnel_keys.specs.declared.owner.KeyOwner.TheVariants.{Datapath, Port}
-use Rattle.world_core.specs.Editing.{Edits, counted, datapath_effect, key_effects, port_effect}
+use Rattle.world_core.specs.Consistent.{IsConsistent}
+use Rattle.world_core.specs.Editing.{Edits, datapath_effect, key_effects, port_effect}
 use Rattle.world_core.specs.New.{AreNew}
-use Rattle.world_core.specs.Seen.{IsConsistent}
-use Rattle.world_core.specs.State.{State, events_of}
+use Rattle.world_core.specs.State.{State, events_of, finished}
 use Rattle.world_core.proofs.Coming.{switch_comes, port_comes}
 
 -- ---- the line of the key
@@ -72,40 +72,38 @@ module _ (m n : State) (after : Keys) (hold : IsKeys after) where
   -- ---- a switch
 
   module _ (s : Switch) (gives : GivesKeys m.keys (Datapath s.name (record { 0 = events_of m + 1 }) ∷ []) [] after)
-      (is : n ≡ record (counted m) { net = record m.net { switches = put m.net.switches s.name (record s { birth = record { 0 = events_of m + 1 } }) }; keys = after }) where
+      (is : n ≡ record m { net = record m.net { switches = put m.net.switches s.name (record s { birth = record { 0 = events_of m + 1 } }) }; keys = after }) where
     pub edits_switch : (effects : List NetEffect) → effects ≡ datapath_effect after (s.name, record { 0 = events_of m + 1 }) ∷ [] → Edits m (Add (record_of.Switch s) ∷ []) effects n
     edits_switch effects named = record {
       keys = after;
-      datapaths_in_order = hold.datapaths_in_order;
-      ports_in_order = hold.ports_in_order;
+      hold = hold;
       given = gives;
       effects_are = named ∙ sym (datapath_named s.name (record { 0 = events_of m + 1 }) after);
       state = is;
     }
 
-    pub consistent_switch : (zones : List (Name × ℕ)) → IsConsistent m zones → at m.net.switches s.name ≡ None → length m.net.switches < 1024 → events_of m < 2 ^ 42 → IsConsistent n zones
+    pub consistent_switch : (zones : List (Name × ℕ)) → IsConsistent m zones → at m.net.switches s.name ≡ None → length m.net.switches < 1024 → events_of m < 2 ^ 42 → IsConsistent (finished n) zones
     consistent_switch zones old absent few room =
-        subst (λ w. IsConsistent w zones) (sym is) (switch_comes m zones old room after hold (record s { birth = record { 0 = events_of m + 1 } }) absent few refl gives)
+        subst (λ w. IsConsistent (finished w) zones) (sym is) (switch_comes m zones old room after hold (record s { birth = record { 0 = events_of m + 1 } }) absent few refl gives)
 
   -- ---- a port
 
   module _ (p : SwitchPort) (gives : GivesKeys m.keys (Port p.switch p.name (record { 0 = events_of m + 1 }) ∷ []) [] after)
-      (is : n ≡ record (counted m) { net = record m.net { ports = put m.net.ports p.name (record p { birth = record { 0 = events_of m + 1 } }) }; keys = after }) where
+      (is : n ≡ record m { net = record m.net { ports = put m.net.ports p.name (record p { birth = record { 0 = events_of m + 1 } }) }; keys = after }) where
     pub edits_port : (effects : List NetEffect) → effects ≡ port_effect after (p.name, record { 0 = events_of m + 1 }) ∷ [] → Edits m (Add (record_of.SwitchPort p) ∷ []) effects n
     edits_port effects named =
         let given = gives.port_given p.switch p.name (record { 0 = events_of m + 1 }) here in
         record {
           keys = after;
-          datapaths_in_order = hold.datapaths_in_order;
-          ports_in_order = hold.ports_in_order;
+          hold = hold;
           given = gives;
           effects_are = named ∙ sym (port_named p.switch p.name (record { 0 = events_of m + 1 }) after given.1 hold.datapaths_in_order given.3);
           state = is;
         }
 
     pub consistent_port : (zones : List (Name × ℕ)) → IsConsistent m zones → at m.net.ports p.name ≡ None → length m.net.ports < 10000 → IsSome (at m.net.switches p.switch) → AreNew m.net p → events_of m < 2 ^ 42
-        → IsConsistent n zones
+        → IsConsistent (finished n) zones
     consistent_port zones old absent few on new room =
-        subst (λ w. IsConsistent w zones) (sym is)
+        subst (λ w. IsConsistent (finished w) zones) (sym is)
         (port_comes m zones old room after hold (record p { birth = record { 0 = events_of m + 1 } }) absent few on
         (record { macs = new.macs; stations = new.stations; once = new.once; apart = new.apart; ips_apart = new.ips_apart }) refl gives)

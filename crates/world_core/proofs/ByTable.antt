@@ -26,8 +26,11 @@ module _ (b : Basis) (f : Flow) where
   -- the rows of a stage are of its table
   pub table_of_entry : EntryRow b f → f.table ≡ 0
   table_of_entry (EntryRow.entry q port dp key zone on home e) = table_is _ e
+  table_of_entry (EntryRow.arrival e) = table_is _ e
 
   pub table_of_admit : AdmitRow b f → f.table ≡ 8
+  table_of_admit (AdmitRow.bad_source a dp on e) = table_is _ e
+  table_of_admit (AdmitRow.vlan a dp on e) = table_is _ e
   table_of_admit (AdmitRow.s_admit_base a dp on e) = table_is _ e
 
   pub table_of_port_sec : PortSecRow b f → f.table ≡ 9
@@ -46,14 +49,18 @@ module _ (b : Basis) (f : Flow) where
   table_of_arp (ArpRow.s_arp_base a dp on e) = table_is _ e
 
   pub table_of_lookup : LookupRow b f → f.table ≡ 14
-  table_of_lookup (LookupRow.address q port dp key entry on among e) = table_is _ e
-  table_of_lookup (LookupRow.unknown a dp on e) = table_is _ e
+  table_of_lookup (LookupRow.flood_to a dp on e) = table_is _ e
+  table_of_lookup (LookupRow.address q port dp key mac on has e) = table_is _ e
+  table_of_lookup (LookupRow.unknown_to a dp on e) = table_is _ e
 
   pub table_of_remote : RemoteRow b f → f.table ≡ 32
+  table_of_remote (RemoteRow.remote q port dp key home on bound apart e) = table_is _ e
+  table_of_remote (RemoteRow.spread a dp group on e) = table_is _ e
   table_of_remote (RemoteRow.stay e) = table_is _ e
 
   pub table_of_home : HomeRow b f → f.table ≡ 33
   table_of_home (HomeRow.home q port dp key zone on home e) = table_is _ e
+  table_of_home (HomeRow.copies a dp group arrived on e) = table_is _ e
 
   pub table_of_return : ReturnRow b f → f.table ≡ 34
   table_of_return (ReturnRow.back q port dp key on e) = table_is _ e

@@ -1,6 +1,6 @@
 -- A consistent state stays so where a record, a chassis or a binding comes.
-use Rattle.std.specs.Prelude.{◌≡◌, ◌≢◌, ◌≤◌, ◌<◌, ◌+◌, ◌^◌, ℕ, List, [], ◌∷◌, Some, None, IsSome, length, refl}
-use Rattle.std.proofs.Common.{arith, subst, ap}
+use Rattle.std.specs.Prelude.{◌≡◌, ◌≤◌, ◌<◌, ◌+◌, ◌^◌, ℕ, List, [], ◌∷◌, None, IsSome, length, refl}
+use Rattle.std.proofs.Common.{arith, ap}
 use Rattle.std.specs.Cmp.Lexicographic.{slice_cmp}
 use Rattle.std.specs.Ordering.{nat_cmp, match_ordering}
 use Rattle.std.specs.declared.cmp.Ordering.TheVariants.{Less, Equal, Greater}
@@ -13,13 +13,18 @@ use Rattle.tunnel_keys.specs.Edits.{GivesKeys}
 use Rattle.tunnel_keys.specs.Keys.{Keys, IsKeys}
 use Rattle.tunnel_keys.specs.declared.owner.KeyOwner.{KeyOwner}
 use Rattle.tunnel_keys.specs.declared.owner.KeyOwner.TheVariants.{Datapath, Port}
-use Rattle.world_core.specs.Editing.{counted}
+use Rattle.world_core.specs.Consistent.{IsConsistent}
+use Rattle.world_core.specs.Editing.{with_name}
 use Rattle.world_core.specs.New.{AreNew}
-use Rattle.world_core.specs.Seen.{IsConsistent}
-use Rattle.world_core.specs.State.{State, events_of}
+use Rattle.world_core.specs.State.{State, counted, events_of, finished}
+use Rattle.world_core.specs.Zones.{zone_for}
 use Rattle.world_core.proofs.Given.{given_beside, switch_keys, port_keys, keys_born}
-use Rattle.world_core.proofs.Owning.{birth_in, the_one}
+use Rattle.world_core.proofs.InOrder.{name_kept, names_few, names_sorted}
 use Rattle.world_core.proofs.Kept.{switch_valid, port_valid, some_kept, bound_kept, bound_fresh, born_kept, born_switch, born_port}
+use Rattle.world_core.proofs.Lasting.{port_kept, same_kept, switch_kept, way_on}
+use Rattle.world_core.proofs.Owning.{birth_in, the_one}
+use Rattle.world_core.proofs.Settling.{finished_consistent}
+use Rattle.world_core.proofs.Zoning.{zone_is}
 
 -- one entry more at the most
 pub few_put : {X : Type 0} (entries : List (Name × X)) (name : Name) (value : X) → length (put entries name value) ≤ length entries + 1
@@ -32,68 +37,79 @@ few_put (e ∷ entries) name value =
       | Greater ↦ omega (arith, ih)
     ]
 
-module _ (m : State) (zones : List (Name × ℕ)) (old : IsConsistent m zones) (room : events_of m < 2 ^ 42) (after : Keys) (hold : IsKeys after) where
-  pub switch_comes : (s : Switch) → at m.net.switches s.name ≡ None → length m.net.switches < 1024 → s.birth.0 ≡ events_of m + 1 → GivesKeys m.keys (Datapath s.name s.birth ∷ []) [] after
-      → IsConsistent (record (counted m) { net = record m.net { switches = put m.net.switches s.name s }; keys = after }) zones
-  switch_comes s absent few birth gives =
-      let beside = given_beside m.keys (Datapath s.name s.birth ∷ []) after gives in
-      let n = record (counted m) { net = record m.net { switches = put m.net.switches s.name s }; keys = after } in
-      record {
-        valid = switch_valid m.net s.name s old.valid absent refl;
-        within = record { switches = omega (arith, few, few_put m.net.switches s.name s); ports = old.within.ports };
-        keys = switch_keys m.net m.keys after old.keys hold s beside;
-        bound = bound_kept m n zones old.bound refl (λ q h. h) (λ c h. h) old.bound.one_chassis;
-        born = born_switch m n old.born (omega arith) (λ h. omega arith) s.name s refl (omega (arith, birth))
-            (keys_born m old.born old.keys after hold (events_of n) (omega arith) (Datapath s.name s.birth ∷ []) (λ owner among. in_time owner (Datapath s.name s.birth) among birth) beside);
+module _ (m : State) (zones : List (Name × ℕ)) (old : IsConsistent m zones) (room : events_of m < 2 ^ 42) where
+  -- ---- a record
+
+  module _ (after : Keys) (hold : IsKeys after) where
+    in_time : (owner one : KeyOwner) → Among owner (one ∷ []) → (birth_in one).0 ≡ events_of m + 1 → (birth_in owner).0 ≤ events_of (counted m)
+    in_time owner one among late = let same : (birth_in owner).0 ≡ (birth_in one).0 = ap (λ o. (birth_in o).0) (the_one owner one among) in omega (arith, same, late)
+
+    pub switch_comes : (s : Switch) → at m.net.switches s.name ≡ None → length m.net.switches < 1024 → s.birth.0 ≡ events_of m + 1 → GivesKeys m.keys (Datapath s.name s.birth ∷ []) [] after
+        → IsConsistent (finished (record m { net = record m.net { switches = put m.net.switches s.name s }; keys = after })) zones
+    switch_comes s absent few birth gives =
+        let beside = given_beside m.keys (Datapath s.name s.birth ∷ []) after gives in
+        let mid = record m { net = record m.net { switches = put m.net.switches s.name s }; keys = after } in
+        let n = counted mid in
+        finished_consistent mid zones (record {
+          valid = switch_valid m.net s.name s old.valid absent refl;
+          within = record { switches = omega (arith, few, few_put m.net.switches s.name s); ports = old.within.ports };
+          keys = switch_keys m.net m.keys after old.keys hold s beside;
+          bound = bound_kept m n zones old.bound refl (λ q h. h) (λ c h. h) old.bound.chassis_sorted old.bound.few_chassis;
+          born = born_switch m n old.born (omega arith) (λ h. omega arith) s.name s refl (omega (arith, birth))
+              (keys_born m old.born old.keys after hold (events_of n) (omega arith) (Datapath s.name s.birth ∷ []) (λ owner among. in_time owner (Datapath s.name s.birth) among birth) beside);
+          on_the_way = way_on m n old.born (switch_kept m (Datapath s.name s.birth ∷ []) after old.keys.hold hold gives s birth n refl refl) old.on_the_way refl refl (omega arith) (λ h. omega arith);
+          few = omega (arith, room);
+        })
+
+    pub port_comes : (p : SwitchPort) → at m.net.ports p.name ≡ None → length m.net.ports < 10000 → IsSome (at m.net.switches p.switch) → AreNew m.net p → p.birth.0 ≡ events_of m + 1
+        → GivesKeys m.keys (Port p.switch p.name p.birth ∷ []) [] after
+        → IsConsistent (finished (record m { net = record m.net { ports = put m.net.ports p.name p }; keys = after })) zones
+    port_comes p absent few on new birth gives =
+        let beside = given_beside m.keys (Port p.switch p.name p.birth ∷ []) after gives in
+        let mid = record m { net = record m.net { ports = put m.net.ports p.name p }; keys = after } in
+        let n = counted mid in
+        finished_consistent mid zones (record {
+          valid = port_valid m.net p.name p old.valid absent refl on new;
+          within = record { switches = old.within.switches; ports = omega (arith, few, few_put m.net.ports p.name p) };
+          keys = port_keys m.net m.keys after old.keys hold p beside;
+          bound = bound_kept m n zones old.bound refl (λ q h. some_kept m.net.ports p.name p q h) (λ c h. h) old.bound.chassis_sorted old.bound.few_chassis;
+          born = born_port m n old.born (omega arith) (λ h. omega arith) p.name p refl (omega (arith, birth))
+              (keys_born m old.born old.keys after hold (events_of n) (omega arith) (Port p.switch p.name p.birth ∷ []) (λ owner among. in_time owner (Port p.switch p.name p.birth) among birth) beside);
+          on_the_way = way_on m n old.born (port_kept m (Port p.switch p.name p.birth ∷ []) after old.keys.hold hold gives n refl refl) old.on_the_way refl refl (omega arith) (λ h. omega arith);
+          few = omega (arith, room);
+        })
+
+  -- ---- a chassis
+
+  pub chassis_comes : (c : Name) → length m.chassis < 64 → IsConsistent (finished (record m { chassis = with_name m.chassis c })) zones
+  chassis_comes c few =
+      let mid = record m { chassis = with_name m.chassis c } in
+      let n = counted mid in
+      let more = names_few m.chassis c in
+      finished_consistent mid zones (record {
+        valid = old.valid;
+        within = old.within;
+        keys = old.keys;
+        bound = bound_kept m n zones old.bound refl (λ q h. h) (λ d h. name_kept m.chassis c d h) (names_sorted m.chassis c old.bound.chassis_sorted) (omega (arith, few, more));
+        born = born_kept m n old.born (omega arith) (λ h. absurd (omega arith)) refl refl;
+        on_the_way = way_on m n old.born (same_kept m n refl refl old.keys.hold) old.on_the_way refl refl (omega arith) (λ h. omega arith);
         few = omega (arith, room);
-      }
-    where
-      in_time : (owner one : KeyOwner) → Among owner (one ∷ []) → (birth_in one).0 ≡ events_of m + 1 → (birth_in owner).0 ≤ events_of (counted m)
-      in_time owner one among late = let same : (birth_in owner).0 ≡ (birth_in one).0 = ap (λ o. (birth_in o).0) (the_one owner one among) in omega (arith, same, late)
+      })
 
-  pub port_comes : (p : SwitchPort) → at m.net.ports p.name ≡ None → length m.net.ports < 10000 → IsSome (at m.net.switches p.switch) → AreNew m.net p → p.birth.0 ≡ events_of m + 1
-      → GivesKeys m.keys (Port p.switch p.name p.birth ∷ []) [] after
-      → IsConsistent (record (counted m) { net = record m.net { ports = put m.net.ports p.name p }; keys = after }) zones
-  port_comes p absent few on new birth gives =
-      let beside = given_beside m.keys (Port p.switch p.name p.birth ∷ []) after gives in
-      let n = record (counted m) { net = record m.net { ports = put m.net.ports p.name p }; keys = after } in
-      record {
-        valid = port_valid m.net p.name p old.valid absent refl on new;
-        within = record { switches = old.within.switches; ports = omega (arith, few, few_put m.net.ports p.name p) };
-        keys = port_keys m.net m.keys after old.keys hold p beside;
-        bound = bound_kept m n zones old.bound refl (λ q h. some_kept m.net.ports p.name p q h) (λ c h. h) old.bound.one_chassis;
-        born = born_port m n old.born (omega arith) (λ h. omega arith) p.name p refl (omega (arith, birth))
-            (keys_born m old.born old.keys after hold (events_of n) (omega arith) (Port p.switch p.name p.birth ∷ []) (λ owner among. in_time owner (Port p.switch p.name p.birth) among birth) beside);
+  -- ---- a binding
+
+  pub port_bound : (p c : Name) → IsSome (at m.net.ports p) → Among c m.chassis → IsConsistent (finished (record m { bindings = put m.bindings p c })) (put zones p (zone_for m.bindings zones p c))
+  port_bound p c there known =
+      let zone = zone_for m.bindings zones p c in
+      let is = zone_is m zones old.bound c p old.within.ports in
+      let mid = record m { bindings = put m.bindings p c } in
+      let n = counted mid in
+      finished_consistent mid (put zones p zone) (record {
+        valid = old.valid;
+        within = old.within;
+        keys = old.keys;
+        bound = bound_fresh m n zones p c zone old.bound refl refl refl there known is.low is.high is.apart;
+        born = born_kept m n old.born (omega arith) (λ h. absurd (omega arith)) refl refl;
+        on_the_way = way_on m n old.born (same_kept m n refl refl old.keys.hold) old.on_the_way refl refl (omega arith) (λ h. omega arith);
         few = omega (arith, room);
-      }
-    where
-      in_time : (owner one : KeyOwner) → Among owner (one ∷ []) → (birth_in one).0 ≡ events_of m + 1 → (birth_in owner).0 ≤ events_of (counted m)
-      in_time owner one among late = let same : (birth_in owner).0 ≡ (birth_in one).0 = ap (λ o. (birth_in o).0) (the_one owner one among) in omega (arith, same, late)
-
-pub chassis_comes : (m : State) (zones : List (Name × ℕ)) (c : Name) → IsConsistent m zones → m.chassis ≡ [] → events_of m < 2 ^ 42 → IsConsistent (record (counted m) { chassis = c ∷ [] }) zones
-chassis_comes m zones c old none room = record {
-  valid = old.valid;
-  within = old.within;
-  keys = old.keys;
-  bound = bound_kept m n zones old.bound refl (λ q h. h) (λ d h. absurd (elim (subst (λ cs. Among d cs) none h) [ ])) (omega arith);
-  born = born_kept m n old.born (omega arith) (λ h. absurd (omega arith)) refl refl;
-  few = omega (arith, room);
-}
-  where
-    n : State
-    n = record (counted m) { chassis = c ∷ [] }
-
--- a port that has no zone takes one that is free
-pub port_bound : (m : State) (zones : List (Name × ℕ)) (p c : Name) (zone : ℕ) → IsConsistent m zones → IsSome (at m.net.ports p) → Among c m.chassis → events_of m < 2 ^ 42
-    → 1 ≤ zone → zone < 2 ^ 16 → ((q : Name) (z : ℕ) → q ≢ p → at zones q ≡ Some z → z ≢ zone) → IsConsistent (record (counted m) { bindings = put m.bindings p c }) (put zones p zone)
-port_bound m zones p c zone old there known room low high free = record {
-  valid = old.valid;
-  within = old.within;
-  keys = old.keys;
-  bound = bound_fresh m n zones p c zone old.bound refl refl refl there known low high free;
-  born = born_kept m n old.born (omega arith) (λ h. absurd (omega arith)) refl refl;
-  few = omega (arith, room);
-}
-  where
-    n : State
-    n = record (counted m) { bindings = put m.bindings p c }
+      })

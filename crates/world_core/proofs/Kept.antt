@@ -1,27 +1,25 @@
 -- What stays true of the records, the bindings and the births, when a record comes, a port is bound, a chassis comes.
-use Rattle.std.specs.Prelude.{◌≡◌, ◌≢◌, ◌≤◌, ◌<◌, ◌^◌, ◌⊎◌, ℕ, List, [], ◌∷◌, Some, None, Option, IsSome, is_some, length, map, refl}
+use Rattle.std.specs.Prelude.{◌≡◌, ◌≢◌, ◌≤◌, ◌<◌, ◌^◌, ◌⊎◌, ℕ, List, Some, None, Option, IsSome, is_some, length, refl}
 use mathlib.Core.Path.{sym, ap, subst, ◌∙◌}
 use mathlib.Core.Logic.{inl, inr}
 use native.Mathlib.Omega.{arith}
+use Rattle.std.specs.Cmp.Lexicographic.{slice_cmp}
+use Rattle.std.specs.List.Sorted.{IsStrictlySortedBy}
+use Rattle.std.specs.Ordering.{nat_cmp}
 use Rattle.std.proofs.lemmas.Option.{none-some}
 use Rattle.ovn_base.specs.Among.{Among}
-use Rattle.ovn_base.specs.Address.{IsMac}
-use Rattle.ovn_base.specs.declared.address.Ip4.{Ip4}
-use Rattle.ovn_base.specs.declared.address.Mac.{Mac}
 use Rattle.ovn_base.specs.declared.name.Name.{Name}
-use Rattle.ovn_base.proofs.AmongLaws.{among_cases, among_none}
 use Rattle.ovn_base.specs.Once.{EachOnce}
-use Rattle.ovn_base.specs.ByName.{at, put}
+use Rattle.ovn_base.specs.ByName.{at, put, IsByName}
 use Rattle.nb_records.specs.Network.{Network}
 use Rattle.ovn_base.proofs.Puts.{put_there, put_other, put_cases, put_sorted, one_or_two}
-use Rattle.nb_records.specs.declared.record.PortAddress.{PortAddress}
 use Rattle.nb_records.specs.declared.record.Switch.{Switch}
 use Rattle.nb_records.specs.declared.record.SwitchPort.{SwitchPort}
 use Rattle.tunnel_keys.specs.Keys.{Keys, held_datapaths, held_ports}
 use Rattle.tunnel_keys.specs.declared.owner.HeldDatapath.{HeldDatapath}
 use Rattle.tunnel_keys.specs.declared.owner.HeldPort.{HeldPort}
 use Rattle.world_core.specs.State.{State, events_of}
-use Rattle.world_core.specs.Addresses.{mac_of, HasMac, HasIp, IsOfStation}
+use Rattle.world_core.specs.Addresses.{macs_in, HasMac, HasIp}
 use Rattle.world_core.specs.New.{AreNew}
 use Rattle.world_core.specs.Sound.{IsValid, AreBound, AreBorn}
 use Rattle.world_core.proofs.Found.{some_of, is_some_of}
@@ -59,19 +57,6 @@ module _ (net : Network) (name : Name) (switch : Switch) where
 
 -- ---- a port comes
 
--- one entry
-pub new_entry : (net : Network) (port : SwitchPort) (entry : PortAddress) → port.addresses ≡ entry ∷ [] → IsMac (mac_of entry)
-    → ((other : PortAddress) → Among other port.addresses → IsOfStation (mac_of other))
-    → ((q : Name) (other : SwitchPort) → at net.ports q ≡ Some other → other.switch ≡ port.switch → (mac : Mac) → HasMac other.addresses mac → ¬ HasMac port.addresses mac)
-    → ((q : Name) (other : SwitchPort) → at net.ports q ≡ Some other → other.switch ≡ port.switch → (ip : Ip4) → HasIp other.addresses ip → ¬ HasIp port.addresses ip) → AreNew net port
-new_entry net port entry one mac stations apart ips_apart = record {
-  macs = λ e m. elim (among_cases e entry [] (subst (λ l. Among e l) one m)) [ inl same ↦ subst (λ w. IsMac (mac_of w)) (sym same) mac | inr n ↦ absurd (among_none e n) ];
-  once = subst (λ l. EachOnce (map (λ w. mac_of w) l)) (sym one) (λ m. among_none (mac_of entry) m, tt);
-  stations = stations;
-  apart = apart;
-  ips_apart = ips_apart;
-}
-
 module _ (net : Network) (name : Name) (port : SwitchPort) where
   pub port_valid : IsValid net → at net.ports name ≡ None → port.name ≡ name → IsSome (at net.switches port.switch) → AreNew net port → IsValid (record net { ports = put net.ports name port })
   port_valid valid absent named on new = record {
@@ -86,16 +71,16 @@ module _ (net : Network) (name : Name) (port : SwitchPort) where
       | inl is ↦ subst (λ (w : SwitchPort). IsSome (at net.switches w.switch)) (sym is.1) on
       | inr old ↦ valid.on_switch q p old.1
     ];
-    macs = λ q p entry found m. elim (put_cases net.ports name port q p found) [
-      | inl is ↦ new.macs entry (subst (λ (w : SwitchPort). Among entry w.addresses) is.1 m)
-      | inr old ↦ valid.macs q p entry old.1 m
+    macs = λ q p mac found m. elim (put_cases net.ports name port q p found) [
+      | inl is ↦ new.macs mac (subst (λ (w : SwitchPort). HasMac w.addresses mac) is.1 m)
+      | inr old ↦ valid.macs q p mac old.1 m
     ];
-    stations = λ q p entry found m. elim (put_cases net.ports name port q p found) [
-      | inl is ↦ new.stations entry (subst (λ (w : SwitchPort). Among entry w.addresses) is.1 m)
-      | inr old ↦ valid.stations q p entry old.1 m
+    stations = λ q p mac found m. elim (put_cases net.ports name port q p found) [
+      | inl is ↦ new.stations mac (subst (λ (w : SwitchPort). HasMac w.addresses mac) is.1 m)
+      | inr old ↦ valid.stations q p mac old.1 m
     ];
     once = λ q p found. elim (put_cases net.ports name port q p found) [
-      | inl is ↦ subst (λ (w : SwitchPort). EachOnce (map (λ entry. mac_of entry) w.addresses)) (sym is.1) new.once
+      | inl is ↦ subst (λ (w : SwitchPort). EachOnce (macs_in w.addresses)) (sym is.1) new.once
       | inr old ↦ valid.once q p old.1
     ];
     apart = λ p q ours theirs mac at_p at_q same has also. elim (put_cases net.ports name port p ours at_p) [
@@ -126,25 +111,29 @@ module _ (net : Network) (name : Name) (port : SwitchPort) where
 
 module _ (m n : State) (zones : List (Name × ℕ)) where
   -- bindings hold on to ports that stay, and to chassis that stay
-  pub bound_kept : AreBound m zones → n.bindings ≡ m.bindings → ((q : Name) → IsSome (at m.net.ports q) → IsSome (at n.net.ports q)) → ((c : Name) → Among c m.chassis → Among c n.chassis) → length n.chassis ≤ 1
-      → AreBound n zones
-  bound_kept bound same ports chassis one = record {
+  pub bound_kept : AreBound m zones → n.bindings ≡ m.bindings → ((q : Name) → IsSome (at m.net.ports q) → IsSome (at n.net.ports q)) → ((c : Name) → Among c m.chassis → Among c n.chassis)
+      → IsStrictlySortedBy (slice_cmp nat_cmp) n.chassis → length n.chassis ≤ 64 → AreBound n zones
+  bound_kept bound same ports chassis sorted few = record {
+    bindings_sorted = subst (λ l. IsByName l) (sym same) bound.bindings_sorted;
     port_there = λ q c e. ports q (bound.port_there q c (before q (Some c) e));
     chassis_there = λ q c e. chassis c (bound.chassis_there q c (before q (Some c) e));
-    one_chassis = one;
+    chassis_sorted = sorted;
+    few_chassis = few;
+    zones_sorted = bound.zones_sorted;
     has_zone = λ q c e. bound.has_zone q c (before q (Some c) e);
     zone_of = λ q z e. subst (λ l. IsSome (at l q)) (sym same) (bound.zone_of q z e);
     zone_fits = bound.zone_fits;
-    zones_apart = bound.zones_apart;
+    zones_apart = λ p q c z at_p at_q. bound.zones_apart p q c z (before p (Some c) at_p) (before q (Some c) at_q);
   }
     where
       before : (q : Name) (o : Option Name) → at n.bindings q ≡ o → at m.bindings q ≡ o
       before q o e = ap (λ l. at l q) (sym same) ∙ e
 
--- a port is bound to a chassis, and takes a zone that no other port has
+-- a port is bound to a chassis, and takes a zone that no other port has there
 pub bound_fresh : (m n : State) (zones : List (Name × ℕ)) (p c : Name) (zone : ℕ) → AreBound m zones → n.net ≡ m.net → n.chassis ≡ m.chassis → n.bindings ≡ put m.bindings p c → IsSome (at m.net.ports p) → Among c m.chassis
-    → 1 ≤ zone → zone < 2 ^ 16 → ((q : Name) (z : ℕ) → q ≢ p → at zones q ≡ Some z → z ≢ zone) → AreBound n (put zones p zone)
+    → 1 ≤ zone → zone < 2 ^ 16 → ((q : Name) (z : ℕ) → q ≢ p → at m.bindings q ≡ Some c → at zones q ≡ Some z → z ≢ zone) → AreBound n (put zones p zone)
 bound_fresh m n zones p c zone bound net chassis bindings port known low high free = record {
+  bindings_sorted = subst (λ l. IsByName l) (sym bindings) (put_sorted m.bindings p c bound.bindings_sorted);
   port_there = λ q d e. subst (λ w. IsSome (at w.ports q)) (sym net) (elim (bound_cases q d e) [
     | inl is ↦ subst (λ a. IsSome (at m.net.ports a)) (sym is.0) port
     | inr old ↦ bound.port_there q d old.1
@@ -153,7 +142,9 @@ bound_fresh m n zones p c zone bound net chassis bindings port known low high fr
     | inl is ↦ subst (λ a. Among a m.chassis) (sym is.1) known
     | inr old ↦ bound.chassis_there q d old.1
   ]);
-  one_chassis = subst (λ l. length l ≤ 1) (sym chassis) bound.one_chassis;
+  chassis_sorted = subst (λ l. IsStrictlySortedBy (slice_cmp nat_cmp) l) (sym chassis) bound.chassis_sorted;
+  few_chassis = subst (λ l. length l ≤ 64) (sym chassis) bound.few_chassis;
+  zones_sorted = put_sorted zones p zone bound.zones_sorted;
   has_zone = λ q d e. elim (bound_cases q d e) [
     | inl is ↦ subst (λ a. IsSome (at (put zones p zone) a)) (sym is.0) (some_put zones p zone)
     | inr old ↦ some_kept zones p zone q (bound.has_zone q d old.1)
@@ -166,20 +157,26 @@ bound_fresh m n zones p c zone bound net chassis bindings port known low high fr
     | inl is ↦ subst (λ w. (1 ≤ w) × (w < 2 ^ 16)) (sym is.1) (low, high)
     | inr old ↦ bound.zone_fits q z old.1
   ];
-  zones_apart = λ a b z at_a at_b. elim (put_cases zones p zone a z at_a) [
-    | inl is ↦ elim (put_cases zones p zone b z at_b) [
-      | inl too ↦ is.0 ∙ sym too.0
-      | inr old ↦ absurd (free b z old.0 old.1 is.1)
+  zones_apart = λ a b d z at_a at_b zone_a zone_b. elim (put_cases zones p zone a z zone_a) [
+    | inl own ↦ elim (put_cases zones p zone b z zone_b) [
+      | inl too ↦ own.0 ∙ sym too.0
+      | inr old ↦ absurd (free b z old.0 (on_c b d old.0 at_b ∙ ap (λ x. Some x) (chassis_is a d own.0 at_a)) old.1 own.1)
     ]
-    | inr old ↦ elim (put_cases zones p zone b z at_b) [
-      | inl is ↦ absurd (free a z old.0 old.1 is.1)
-      | inr too ↦ bound.zones_apart a b z old.1 too.1
+    | inr old ↦ elim (put_cases zones p zone b z zone_b) [
+      | inl own ↦ absurd (free a z old.0 (on_c a d old.0 at_a ∙ ap (λ x. Some x) (chassis_is b d own.0 at_b)) old.1 own.1)
+      | inr too ↦ bound.zones_apart a b d z (on_c a d old.0 at_a) (on_c b d too.0 at_b) old.1 too.1
     ]
   ];
 }
   where
     bound_cases : (q d : Name) → at n.bindings q ≡ Some d → ((q ≡ p) × (d ≡ c)) ⊎ ((q ≢ p) × (at m.bindings q ≡ Some d))
     bound_cases q d e = put_cases m.bindings p c q d (ap (λ l. at l q) (sym bindings) ∙ e)
+
+    on_c : (q d : Name) → q ≢ p → at n.bindings q ≡ Some d → at m.bindings q ≡ Some d
+    on_c q d apart e = elim (bound_cases q d e) [ inl is ↦ absurd (apart is.0) | inr old ↦ old.1 ]
+
+    chassis_is : (q d : Name) → q ≡ p → at n.bindings q ≡ Some d → d ≡ c
+    chassis_is q d same e = elim (bound_cases q d e) [ inl is ↦ is.1 | inr old ↦ absurd (old.0 same) ]
 
 -- a port that isn't bound has no zone
 pub no_zone : (m : State) (zones : List (Name × ℕ)) (p : Name) → AreBound m zones → at m.bindings p ≡ None → at zones p ≡ None

@@ -25,7 +25,7 @@ of_number number (Some x) n e = (x, refl, same_Some (number x) n e)
 module _ (net : Network) (keys : Keys) (have : HaveKeys net keys) where
   -- ---- datapaths
 
-  datapath_held : (a : Name) (k : DatapathKey) → at keys.datapaths a ≡ Some k → Among (held_datapath (a, k)) (held_datapaths keys)
+  pub datapath_held : (a : Name) (k : DatapathKey) → at keys.datapaths a ≡ Some k → Among (held_datapath (a, k)) (held_datapaths keys)
   datapath_held a k has = among_left (held_datapath (a, k)) (map held_datapath keys.datapaths) keys.retired_datapaths (among_map held_datapath (a, k) keys.datapaths (at_among keys.datapaths a k has))
 
   pub datapath_fits : (a : Name) (k : DatapathKey) → at keys.datapaths a ≡ Some k → (1 ≤ k.key) × (k.key < 2 ^ 24)
@@ -49,10 +49,10 @@ module _ (net : Network) (keys : Keys) (have : HaveKeys net keys) where
   -- ---- ports
 
   -- the key of a port's datapath
-  datapath_under : (q : Name) (k : PortKey) → at keys.ports q ≡ Some k → (d : DatapathKey) × (at keys.datapaths k.datapath ≡ Some d)
+  pub datapath_under : (q : Name) (k : PortKey) → at keys.ports q ≡ Some k → (d : DatapathKey) × (at keys.datapaths k.datapath ≡ Some d)
   datapath_under q k has = some_of (at keys.datapaths k.datapath) (have.hold.on_datapath (q, k) (at_among keys.ports q k has))
 
-  port_held : (q : Name) (k : PortKey) (d : DatapathKey) → at keys.ports q ≡ Some k → at keys.datapaths k.datapath ≡ Some d → Among (on_datapath_key q k d) (held_ports keys)
+  pub port_held : (q : Name) (k : PortKey) (d : DatapathKey) → at keys.ports q ≡ Some k → at keys.datapaths k.datapath ≡ Some d → Among (on_datapath_key q k d) (held_ports keys)
   port_held q k d has under =
       among_left (on_datapath_key q k d) (filter_map (held_port keys.datapaths) keys.ports) keys.retired_ports
       (among_filter_map (held_port keys.datapaths) (q, k) (on_datapath_key q k d) keys.ports (at_among keys.ports q k has) (is_held_port keys.datapaths q k d under))

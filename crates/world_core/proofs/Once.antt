@@ -1,34 +1,39 @@
 -- Each flow of a chassis stands once.
-use Rattle.std.specs.Prelude.{◌≡◌, ◌≤◌, ◌<◌, ◌-◌, ◌^◌, ◌⊎◌, ℕ, List, [], ◌∷◌, ◌++◌, Some, None, Option, map, flat_map, if◌then◌else◌, refl}
+use Rattle.std.specs.Prelude.{◌≡◌, ◌≤◌, ◌<◌, ◌+◌, ◌*◌, ◌-◌, ◌^◌, ◌⊎◌, ◌||◌, ℕ, Bool, true, false, cond, nat_lt, List, [], ◌∷◌, ◌++◌, Some, None, Option, map, flat_map, if◌then◌else◌, refl}
 use mathlib.Core.Path.{sym, ap, subst, ◌∙◌}
 use mathlib.Core.Logic.{inl, inr}
 use native.Mathlib.Omega.{arith}
 use Rattle.std.proofs.Math.Dec.{eqb as nat_eq}
+use Rattle.std.proofs.lemmas.Bool.{false≢true, lt-ltb}
 use Rattle.std.proofs.lemmas.Option.{same_Some}
 use Rattle.ovn_base.specs.Among.{Among}
 use Rattle.ovn_base.specs.Address.{IsMac}
+use Rattle.ovn_base.specs.declared.address.Mac.{Mac}
 use Rattle.ovn_base.specs.declared.name.Name.{Name}
+use Rattle.ovn_base.specs.SameName.{same_name}
 use Rattle.ovn_base.proofs.AmongLaws.{among_append, among_cases, among_none, among_all, map_among, flat_map_among}
 use Rattle.ovn_base.proofs.MacLemmas.{same_mac_number}
 use Rattle.ovn_base.specs.Once.{EachOnce}
 use Rattle.ovn_base.specs.ByName.{at}
-use Rattle.flow_table.proofs.ChangeLaws.{once_append}
+use Rattle.flow_table.proofs.ChangeLaws.{once_append, once_map}
 use Rattle.flow_table.specs.declared.flow.Flow.{Flow}
 use Rattle.flow_table.specs.declared.flow.FlowOp.{FlowOp}
 use Rattle.flow_table.specs.declared.flow.FlowOp.TheVariants.{Set, Go, Drop, Header, Frame, Copies, Output}
 use Rattle.ovn_base.proofs.Puts.{among_at}
 use Rattle.nb_records.specs.declared.record.PortAddress.{PortAddress}
+use Rattle.nb_records.specs.declared.record.Switch.{Switch}
 use Rattle.nb_records.specs.declared.record.SwitchPort.{SwitchPort}
 use Rattle.tunnel_keys.specs.declared.owner.DatapathKey.{DatapathKey}
 use Rattle.tunnel_keys.specs.declared.owner.PortKey.{PortKey}
-use Rattle.world_core.specs.Addresses.{mac_of}
+use Rattle.world_core.specs.Addresses.{macs_in}
 use Rattle.world_core.specs.Numbers.{datapath_number, port_number}
-use Rattle.world_core.specs.Rows.{pass_row, address_row, stay_row, return_row, leave_row, output_row}
+use Rattle.world_core.specs.Rows.{arrival_row, pass_row, address_row, remote_row, stay_row, return_row, leave_row, output_row}
 use Rattle.world_core.specs.Sound.{IsValid, HaveKeys}
 use Rattle.world_core.specs.Stages.{Basis}
-use Rattle.world_core.specs.Tables.{switch_rows, address_rows, port_rows, local_rows, switch_part, local_part, port_part, zone_here, table_flows}
-use Rattle.world_core.proofs.KeyLaws.{of_number, datapaths_apart, ports_apart}
-use Rattle.world_core.proofs.OnceLaws.{once_by, once_image, once_parts, once_rising, once_keys, AreRising}
+use Rattle.world_core.specs.TableList.{switch_rows, address_rows, port_rows, local_rows, local_part, bound_rows, switch_part, port_part, table_flows}
+use Rattle.world_core.proofs.KeyLaws.{of_number, datapaths_apart, ports_apart, port_fits}
+use Rattle.world_core.proofs.Macs.{listed_mac}
+use Rattle.world_core.proofs.OnceLaws.{once_by, once_parts, once_rising, once_keys, AreRising}
 
 -- ---- what a row tells
 
@@ -46,6 +51,11 @@ abbrev second_value : List FlowOp → ℕ
 second_value [] = 0
 second_value (op ∷ ops) = first_value ops
 
+abbrev is_arrival : List FlowOp → Bool
+is_arrival [] = false
+is_arrival (Header ∷ ops) = true
+is_arrival (op ∷ ops) = false
+
 -- the key of the datapath in a row of a port
 abbrev datapath_in : Flow → ℕ
 datapath_in f = if nat_eq f.table 0 then first_value f.ops else f.cube.dp.value
@@ -54,112 +64,160 @@ datapath_in f = if nat_eq f.table 0 then first_value f.ops else f.cube.dp.value
 abbrev port_in : Flow → ℕ
 port_in f = if nat_eq f.table 0 then second_value f.ops else (if nat_eq f.table 14 then first_value f.ops else f.cube.out_port.value)
 
+-- the row is one of a port, not of a switch
+abbrev is_of_port : Flow → Bool
+is_of_port f = if nat_eq f.table 14 then nat_eq f.priority 50 else (if nat_eq f.table 32 || nat_eq f.table 33 then nat_lt f.cube.out_port.value 32768 else nat_eq f.table 0 || nat_eq f.table 34 || nat_eq f.table 64)
+
 record IsSwitchRow (dp : ℕ) (f : Flow) : Type 0 where
   pub on : f.cube.dp.value ≡ dp
   pub masked : f.cube.dp.mask ≡ 2 ^ 24 - 1
-  pub last : f.priority ≡ 0
+  pub of_switch : is_of_port f ≡ false
 
 record IsPortRow (dp key : ℕ) (f : Flow) : Type 0 where
   pub on : datapath_in f ≡ dp
   pub of : port_in f ≡ key
+  pub of_port : is_of_port f ≡ true
   pub before : 50 ≤ f.priority
+  pub leaves : is_arrival f.ops ≡ false
 
 -- ---- the rows of a switch
 
-switch_row : (dp : ℕ) (f : Flow) → Among f (switch_rows dp) → IsSwitchRow dp f
-switch_row dp f m =
-    let row : (table next : ℕ) → IsSwitchRow dp (pass_row dp table next) = λ table next. record { on = refl; masked = refl; last = refl } in
-    among_all (IsSwitchRow dp) f (switch_rows dp)
-    (row 8 9, (row 9 10, (row 10 11, (row 11 12, (row 12 13, (row 13 14, (record { on = refl; masked = refl; last = refl }, (row 40 41, (row 41 42, (row 42 43, (row 43 64, tt))))))))))) m
+-- its place among them: by group, table, priority and the flag `arrived`
+abbrev place : Flow → ℕ
+place f = f.cube.out_port.value * 1048576 + f.table * 1024 + f.priority + f.cube.flags.value * 4
 
-rising : (dp : ℕ) → AreRising 0 (map (λ f. f.table) (switch_rows dp))
-rising dp = (omega arith, (omega arith, (omega arith, (omega arith, (omega arith, (omega arith, (omega arith, (omega arith, (omega arith, (omega arith, (omega arith, tt)))))))))))
+module _ (b : Basis) (a : Name) (dp : ℕ) where
+  switch_row : (f : Flow) → Among f (switch_rows b a dp) → IsSwitchRow dp f
+  switch_row f m =
+      let row : (table next : ℕ) → is_of_port (pass_row dp table next) ≡ false → IsSwitchRow dp (pass_row dp table next) = λ table next e. record { on = refl; masked = refl; of_switch = e } in
+      among_all (IsSwitchRow dp) f (switch_rows b a dp)
+      (row 8 9 refl, (record { on = refl; masked = refl; of_switch = refl }, (record { on = refl; masked = refl; of_switch = refl }, (row 9 10 refl, (row 10 11 refl, (row 11 12 refl, (row 12 13 refl, (row 13 14 refl, (record { on = refl; masked = refl; of_switch = refl }, (record { on = refl; masked = refl; of_switch = refl }, (row 40 41 refl, (row 41 42 refl, (row 42 43 refl, (row 43 64 refl, (record { on = refl; masked = refl; of_switch = refl }, (record { on = refl; masked = refl; of_switch = refl }, (record { on = refl; masked = refl; of_switch = refl }, (record { on = refl; masked = refl; of_switch = refl }, (record { on = refl; masked = refl; of_switch = refl }, (record { on = refl; masked = refl; of_switch = refl }, tt)))))))))))))))))))) m
 
-once_switch : (dp : ℕ) → EachOnce (switch_rows dp)
-once_switch dp = once_by (λ f. f.table) (switch_rows dp) (once_rising 0 (map (λ f. f.table) (switch_rows dp)) (rising dp))
+  rising : AreRising 0 (map (λ f. place f) (switch_rows b a dp))
+  rising = (omega arith, (omega arith, (omega arith, (omega arith, (omega arith, (omega arith, (omega arith, (omega arith, (omega arith, (omega arith, (omega arith, (omega arith, (omega arith, (omega arith, (omega arith, (omega arith, (omega arith, (omega arith, (omega arith, (omega arith, tt))))))))))))))))))))
+
+  once_switch : EachOnce (switch_rows b a dp)
+  once_switch = once_by (λ f. place f) (switch_rows b a dp) (once_rising 0 (map (λ f. place f) (switch_rows b a dp)) rising)
 
 -- ---- the rows of a port
 
-module _ (dp key : ℕ) where
+module _ (dp key : ℕ) (small : key < 2 ^ 15) where
+  is_small : nat_lt key 32768 ≡ true
+  is_small = lt-ltb key 32768 (omega (arith, small))
+
   is_address_row : (f : Flow) (addresses : List PortAddress) → Among f (address_rows dp addresses key) → IsPortRow dp key f × (f.table ≡ 14)
   is_address_row f addresses m =
-      let r = map_among (λ entry. address_row dp (mac_of entry) key) f addresses m in
-      subst (λ g. IsPortRow dp key g × (g.table ≡ 14)) (sym r.2) (record { on = refl; of = refl; before = omega arith }, refl)
+      let r = map_among (λ mac. address_row dp mac key) f (macs_in addresses) m in
+      subst (λ g. IsPortRow dp key g × (g.table ≡ 14)) (sym r.2) (record { on = refl; of = refl; of_port = refl; before = omega arith; leaves = refl }, refl)
 
-  is_local_row : (zone : Option ℕ) (q : Name) (f : Flow) → Among f (local_part zone dp q key) → IsPortRow dp key f × ((f.table ≡ 0) ⊎ (f.table ≡ 33))
+  -- a row of the port by its home, in table 0, 32 or 33
+  abbrev IsBoundRow : Flow → Type 0
+  IsBoundRow f = IsPortRow dp key f × (f.table < 34) × ((f.table < 14) ⊎ (14 < f.table))
+
+  is_local_row : (number : Option ℕ) (q : Name) (f : Flow) → Among f (local_part number dp q key) → IsBoundRow f
   is_local_row None q f m = absurd (among_none f m)
   is_local_row (Some zone) q f m =
-      among_all (λ g. IsPortRow dp key g × ((g.table ≡ 0) ⊎ (g.table ≡ 33))) f (local_rows dp q key zone)
-      ((record { on = refl; of = refl; before = omega arith }, inl refl), ((record { on = refl; of = refl; before = omega arith }, inr refl), tt)) m
+      among_all IsBoundRow f (local_rows dp q key zone)
+      ((record { on = refl; of = refl; of_port = refl; before = omega arith; leaves = refl }, omega arith, inl (omega arith)), ((record { on = refl; of = refl; of_port = is_small; before = omega arith; leaves = refl }, omega arith, inr (omega arith)), tt)) m
 
-  -- what stands behind the first two rows is in tables 0, 14 and 33
-  rest_row : (zone : Option ℕ) (q : Name) (addresses : List PortAddress) (f : Flow) → Among f (address_rows dp addresses key ++ local_part zone dp q key) → IsPortRow dp key f × (f.table < 34)
-  rest_row zone q addresses f m = elim (among_append f (address_rows dp addresses key) (local_part zone dp q key) m) [
-    | inl a ↦ let r = is_address_row f addresses a in (r.0, omega (arith, r.1))
-    | inr l ↦ let r = is_local_row zone q f l in (r.0, elim r.1 [ inl e ↦ omega (arith, e) | inr e ↦ omega (arith, e) ])
-  ]
+  is_remote_row : (home : Name) → IsBoundRow (remote_row dp key home)
+  is_remote_row home = (record { on = refl; of = refl; of_port = is_small; before = omega arith; leaves = refl }, omega arith, inr (omega arith))
 
-  port_row : (zone : Option ℕ) (q : Name) (port : SwitchPort) (f : Flow) → Among f (port_rows dp q port key ++ local_part zone dp q key) → IsPortRow dp key f
-  port_row zone q port f m = elim (among_cases f (return_row dp key) _ m) [
-    | inl e ↦ subst (λ g. IsPortRow dp key g) (sym e) (record { on = refl; of = refl; before = omega arith })
-    | inr n ↦ elim (among_cases f (output_row dp q key) _ n) [
-      | inl e ↦ subst (λ g. IsPortRow dp key g) (sym e) (record { on = refl; of = refl; before = omega arith })
-      | inr r ↦ (rest_row zone q port.addresses f r).0
-    ]
-  ]
+  module _ (chassis : Name) where
+    is_bound_row : (home : Option Name) (number : Option ℕ) (q : Name) (f : Flow) → Among f (bound_rows chassis home number dp q key) → IsBoundRow f
+    is_bound_row None number q f m = absurd (among_none f m)
+    is_bound_row (Some home) number q f m = by (same_name home chassis) m
+      where
+        by : (same : Bool) → Among f (cond same (local_part number dp q key) (remote_row dp key home ∷ [])) → IsBoundRow f
+        by true m = is_local_row number q f m
+        by false m = elim (among_cases f (remote_row dp key home) [] m) [ inl e ↦ subst IsBoundRow (sym e) (is_remote_row home) | inr n ↦ absurd (among_none f n) ]
 
-  once_local : (zone : Option ℕ) (q : Name) → EachOnce (local_part zone dp q key)
-  once_local None q = tt
-  once_local (Some zone) q = once_by (λ f. f.table) (local_rows dp q key zone) (once_rising 0 (0 ∷ 33 ∷ []) (omega arith, (omega arith, tt)))
+    once_bound : (home : Option Name) (number : Option ℕ) (q : Name) → EachOnce (bound_rows chassis home number dp q key)
+    once_bound None number q = tt
+    once_bound (Some home) number q = by (same_name home chassis) number
+      where
+        by : (same : Bool) (number : Option ℕ) → EachOnce (cond same (local_part number dp q key) (remote_row dp key home ∷ []))
+        by true None = tt
+        by true (Some zone) = once_by (λ f. f.table) (local_rows dp q key zone) (once_rising 0 (0 ∷ 33 ∷ []) (omega arith, (omega arith, tt)))
+        by false number = ((λ m. among_none (remote_row dp key home) m), tt)
 
-  once_addresses : (addresses : List PortAddress) → ((entry : PortAddress) → Among entry addresses → IsMac (mac_of entry)) → EachOnce (map (λ entry. mac_of entry) addresses) → EachOnce (address_rows dp addresses key)
-  once_addresses addresses macs once =
-      once_image (λ entry. address_row dp (mac_of entry) key) (λ entry. mac_of entry) addresses once
-      (λ a b m n e. same_mac_number (mac_of a) (mac_of b) (macs a m) (macs b n) (ap (λ f. f.cube.eth_dst.value) e))
+    module _ (home : Option Name) (number : Option ℕ) (q : Name) where
+      -- what stands behind the first two rows is in tables 0, 14, 32 and 33
+      rest_row : (addresses : List PortAddress) (f : Flow) → Among f (address_rows dp addresses key ++ bound_rows chassis home number dp q key) → IsPortRow dp key f × (f.table < 34)
+      rest_row addresses f m = elim (among_append f (address_rows dp addresses key) (bound_rows chassis home number dp q key) m) [
+        | inl a ↦ let r = is_address_row f addresses a in (r.0, omega (arith, r.1))
+        | inr l ↦ let r = is_bound_row home number q f l in (r.0, r.1)
+      ]
 
-  once_port : (zone : Option ℕ) (q : Name) (port : SwitchPort) → ((entry : PortAddress) → Among entry port.addresses → IsMac (mac_of entry)) → EachOnce (map (λ entry. mac_of entry) port.addresses)
-      → EachOnce (port_rows dp q port key ++ local_part zone dp q key)
-  once_port zone q port macs once =
-      let rest : EachOnce (address_rows dp port.addresses key ++ local_part zone dp q key) =
-      once_append (address_rows dp port.addresses key) (local_part zone dp q key) (once_addresses port.addresses macs once) (once_local zone q)
-      (λ f m n. let t = (is_address_row f port.addresses m).1 in elim (is_local_row zone q f n).1 [ inl e ↦ omega (arith, t, e) | inr e ↦ omega (arith, t, e) ]) in (
-        λ m. elim (among_cases (return_row dp key) (output_row dp q key) _ m) [
-          | inl e ↦ let tables : 34 ≡ 64 = ap (λ f. f.table) e in omega arith
-          | inr r ↦ let small : 34 < 34 = (rest_row zone q port.addresses (return_row dp key) r).1 in omega arith
-        ],
-        (λ m. let small : 64 < 34 = (rest_row zone q port.addresses (output_row dp q key) m).1 in omega arith, rest),
-      )
+      port_row : (port : SwitchPort) (f : Flow) → Among f (port_rows dp q port key ++ bound_rows chassis home number dp q key) → IsPortRow dp key f
+      port_row port f m = elim (among_cases f (return_row dp key) _ m) [
+        | inl e ↦ subst (λ g. IsPortRow dp key g) (sym e) (record { on = refl; of = refl; of_port = refl; before = omega arith; leaves = refl })
+        | inr n ↦ elim (among_cases f (output_row dp q key) _ n) [
+          | inl e ↦ subst (λ g. IsPortRow dp key g) (sym e) (record { on = refl; of = refl; of_port = refl; before = omega arith; leaves = refl })
+          | inr r ↦ (rest_row port.addresses f r).0
+        ]
+      ]
+
+      once_addresses : (addresses : List PortAddress) → ((mac : Mac) → Among mac (macs_in addresses) → IsMac mac) → EachOnce (macs_in addresses) → EachOnce (address_rows dp addresses key)
+      once_addresses addresses macs once =
+          once_map (λ mac. address_row dp mac key) (macs_in addresses) once
+          (λ x y m n e. same_mac_number x y (macs x m) (macs y n) (ap (λ f. f.cube.eth_dst.value) e))
+
+      once_port : (port : SwitchPort) → ((mac : Mac) → Among mac (macs_in port.addresses) → IsMac mac) → EachOnce (macs_in port.addresses)
+          → EachOnce (port_rows dp q port key ++ bound_rows chassis home number dp q key)
+      once_port port macs once =
+          let rest : EachOnce (address_rows dp port.addresses key ++ bound_rows chassis home number dp q key) =
+          once_append (address_rows dp port.addresses key) (bound_rows chassis home number dp q key) (once_addresses port.addresses macs once) (once_bound home number q)
+          (λ f m n. let t = (is_address_row f port.addresses m).1 in elim (is_bound_row home number q f n).2 [ inl e ↦ omega (arith, t, e) | inr e ↦ omega (arith, t, e) ]) in (
+            λ m. elim (among_cases (return_row dp key) (output_row dp q key) _ m) [
+              | inl e ↦ let tables : 34 ≡ 64 = ap (λ f. f.table) e in omega arith
+              | inr r ↦ let low : 34 < 34 = (rest_row port.addresses (return_row dp key) r).1 in omega arith
+            ],
+            (λ m. let low : 64 < 34 = (rest_row port.addresses (output_row dp q key) m).1 in omega arith, rest),
+          )
 
 -- ---- the parts of the list
 
--- where a row of a switch stands, the switch has a key, and the row is of it
-switch_part_row : (datapath : Option ℕ) (f : Flow) → Among f (switch_part datapath) → (dp : ℕ) × (datapath ≡ Some dp) × IsSwitchRow dp f
-switch_part_row None f m = absurd (among_none f m)
-switch_part_row (Some dp) f m = (dp, refl, switch_row dp f m)
+module _ (b : Basis) where
+  -- where a row of a switch stands, the switch has a key, and the row is of it
+  switch_part_row : (a : Name) (datapath : Option ℕ) (f : Flow) → Among f (switch_part b a datapath) → (dp : ℕ) × (datapath ≡ Some dp) × IsSwitchRow dp f
+  switch_part_row a None f m = absurd (among_none f m)
+  switch_part_row a (Some dp) f m = (dp, refl, switch_row b a dp f m)
 
-once_switch_part : (datapath : Option ℕ) → EachOnce (switch_part datapath)
-once_switch_part None = tt
-once_switch_part (Some dp) = once_switch dp
+  once_switch_part : (a : Name) (datapath : Option ℕ) → EachOnce (switch_part b a datapath)
+  once_switch_part a None = tt
+  once_switch_part a (Some dp) = once_switch b a dp
 
--- and likewise for a port
-port_part_row : (datapath of : Option ℕ) (zone : Option ℕ) (q : Name) (port : SwitchPort) (f : Flow) → Among f (port_part datapath of zone q port)
-    → (dp : ℕ) × (key : ℕ) × (datapath ≡ Some dp) × (of ≡ Some key) × IsPortRow dp key f
-port_part_row None of number q port f m = absurd (among_none f m)
-port_part_row (Some d) None number q port f m = absurd (among_none f m)
-port_part_row (Some dp) (Some key) number q port f m = (dp, key, refl, refl, port_row dp key number q port f m)
+  -- and likewise for a port
+  port_part_row : (q : Name) (port : SwitchPort) (datapath of : Option ℕ) → ((key : ℕ) → of ≡ Some key → key < 2 ^ 15) → (f : Flow) → Among f (port_part b q port datapath of)
+      → (dp : ℕ) × (key : ℕ) × (datapath ≡ Some dp) × (of ≡ Some key) × IsPortRow dp key f
+  port_part_row q port None of small f m = absurd (among_none f m)
+  port_part_row q port (Some dp) None small f m = absurd (among_none f m)
+  port_part_row q port (Some dp) (Some key) small f m = (dp, key, refl, refl, port_row dp key (small key refl) b.chassis (at b.bindings q) (at b.zones q) q port f m)
 
-once_port_part : (datapath of : Option ℕ) (zone : Option ℕ) (q : Name) (port : SwitchPort) → ((entry : PortAddress) → Among entry port.addresses → IsMac (mac_of entry))
-    → EachOnce (map (λ entry. mac_of entry) port.addresses) → EachOnce (port_part datapath of zone q port)
-once_port_part None of number q port macs once = tt
-once_port_part (Some d) None number q port macs once = tt
-once_port_part (Some dp) (Some key) number q port macs once = once_port dp key number q port macs once
+  once_port_part : (q : Name) (port : SwitchPort) (datapath of : Option ℕ) → ((key : ℕ) → of ≡ Some key → key < 2 ^ 15) → ((mac : Mac) → Among mac (macs_in port.addresses) → IsMac mac)
+      → EachOnce (macs_in port.addresses) → EachOnce (port_part b q port datapath of)
+  once_port_part q port None of small macs once = tt
+  once_port_part q port (Some dp) None small macs once = tt
+  once_port_part q port (Some dp) (Some key) small macs once = once_port dp key (small key refl) b.chassis (at b.bindings q) (at b.zones q) q port macs once
 
 module _ (b : Basis) (valid : IsValid b.net) (keys : HaveKeys b.net b.keys) where
+  abbrev of_switch : Name × Switch → List Flow
+  of_switch e = switch_part b e.0 (datapath_number b.keys e.0)
+
+  abbrev of_port : Name × SwitchPort → List Flow
+  of_port e = port_part b e.0 e.1 (datapath_number b.keys e.1.switch) (port_number b.keys e.0)
+
   -- the key of a port that is there is of the port's switch
   key_on : (q : Name) (port : SwitchPort) (live : PortKey) → at b.net.ports q ≡ Some port → at b.keys.ports q ≡ Some live → live.datapath ≡ port.switch
   key_on q port live found has =
       let own = keys.port_has q port found in
       ap (λ k. k.datapath) (same_Some live own.0 (sym has ∙ own.1)) ∙ own.3
+
+  small_key : (q : Name) (key : ℕ) → port_number b.keys q ≡ Some key → key < 2 ^ 15
+  small_key q key e =
+      let k = of_number (λ (k : PortKey). k.key) (at b.keys.ports q) key e in
+      subst (λ n. n < 2 ^ 15) k.2 (port_fits b.net b.keys keys q k.0 k.1).1
 
   -- a number is that of one datapath
   one_switch : (a c : Name) (m n : ℕ) → datapath_number b.keys a ≡ Some m → datapath_number b.keys c ≡ Some n → m ≡ n → a ≡ c
@@ -168,24 +226,32 @@ module _ (b : Basis) (valid : IsValid b.net) (keys : HaveKeys b.net b.keys) wher
       let k = of_number (λ (k : DatapathKey). k.key) (at b.keys.datapaths c) n f in
       datapaths_apart b.net b.keys keys a c j.0 k.0 j.1 k.1 (j.2 ∙ same ∙ sym k.2)
 
-  once_switches : EachOnce (flat_map (λ e. switch_part (datapath_number b.keys e.0)) b.net.switches)
+  row_of_switch : (e : Name × Switch) (f : Flow) → Among f (of_switch e) → (dp : ℕ) × (datapath_number b.keys e.0 ≡ Some dp) × IsSwitchRow dp f
+  row_of_switch e f m = switch_part_row b e.0 (datapath_number b.keys e.0) f m
+
+  row_of_port : (e : Name × SwitchPort) (f : Flow) → Among f (of_port e)
+      → (dp : ℕ) × (key : ℕ) × (datapath_number b.keys e.1.switch ≡ Some dp) × (port_number b.keys e.0 ≡ Some key) × IsPortRow dp key f
+  row_of_port e f m = port_part_row b e.0 e.1 (datapath_number b.keys e.1.switch) (port_number b.keys e.0) (small_key e.0) f m
+
+  once_switches : EachOnce (flat_map of_switch b.net.switches)
   once_switches =
-      once_parts (λ e. switch_part (datapath_number b.keys e.0)) (λ e. e.0) b.net.switches (once_keys b.net.switches valid.switches_sorted)
-      (λ e m. once_switch_part (datapath_number b.keys e.0))
+      once_parts of_switch (λ e. e.0) b.net.switches (once_keys b.net.switches valid.switches_sorted)
+      (λ e m. once_switch_part b e.0 (datapath_number b.keys e.0))
       (λ d e f m n p q.
-      let r = switch_part_row (datapath_number b.keys d.0) f p in
-      let s = switch_part_row (datapath_number b.keys e.0) f q in
+      let r = row_of_switch d f p in
+      let s = row_of_switch e f q in
       one_switch d.0 e.0 r.0 s.0 r.1 s.1 (sym r.2.on ∙ s.2.on))
 
-  once_ports : EachOnce (flat_map (λ e. port_part (datapath_number b.keys e.1.switch) (port_number b.keys e.0) (zone_here b e.0) e.0 e.1) b.net.ports)
+  once_ports : EachOnce (flat_map of_port b.net.ports)
   once_ports =
-      once_parts (λ e. port_part (datapath_number b.keys e.1.switch) (port_number b.keys e.0) (zone_here b e.0) e.0 e.1) (λ e. e.0) b.net.ports (once_keys b.net.ports valid.ports_sorted)
+      once_parts of_port (λ e. e.0) b.net.ports (once_keys b.net.ports valid.ports_sorted)
       (λ e m.
       let found : at b.net.ports e.0 ≡ Some e.1 = among_at e.0 e.1 b.net.ports valid.ports_sorted m in
-      once_port_part (datapath_number b.keys e.1.switch) (port_number b.keys e.0) (zone_here b e.0) e.0 e.1 (λ entry. valid.macs e.0 e.1 entry found) (valid.once e.0 e.1 found))
+      once_port_part b e.0 e.1 (datapath_number b.keys e.1.switch) (port_number b.keys e.0) (small_key e.0)
+      (λ mac n. valid.macs e.0 e.1 mac found (listed_mac e.1.addresses mac n)) (valid.once e.0 e.1 found))
       (λ d e f m n p q.
-      let r = port_part_row (datapath_number b.keys d.1.switch) (port_number b.keys d.0) (zone_here b d.0) d.0 d.1 f p in
-      let s = port_part_row (datapath_number b.keys e.1.switch) (port_number b.keys e.0) (zone_here b e.0) e.0 e.1 f q in
+      let r = row_of_port d f p in
+      let s = row_of_port e f q in
       let switches : d.1.switch ≡ e.1.switch = one_switch d.1.switch e.1.switch r.0 s.0 r.2 s.2 (sym r.4.on ∙ s.4.on) in
       let j = of_number (λ (k : PortKey). k.key) (at b.keys.ports d.0) r.1 r.3 in
       let k = of_number (λ (k : PortKey). k.key) (at b.keys.ports e.0) s.1 s.3 in
@@ -194,38 +260,41 @@ module _ (b : Basis) (valid : IsValid b.net) (keys : HaveKeys b.net b.keys) wher
       ports_apart b.net b.keys keys d.0 e.0 j.0 k.0 j.1 k.1 (mine ∙ switches ∙ sym theirs) (j.2 ∙ sym r.4.of ∙ s.4.of ∙ sym k.2))
 
   -- a row of a switch isn't one of a port
-  apart : (f : Flow) → Among f (flat_map (λ e. switch_part (datapath_number b.keys e.0)) b.net.switches)
-      → ¬ Among f (flat_map (λ e. port_part (datapath_number b.keys e.1.switch) (port_number b.keys e.0) (zone_here b e.0) e.0 e.1) b.net.ports)
+  apart : (f : Flow) → Among f (flat_map of_switch b.net.switches) → ¬ Among f (flat_map of_port b.net.ports)
   apart f m n =
-      let d = flat_map_among (λ e. switch_part (datapath_number b.keys e.0)) f b.net.switches m in
-      let e = flat_map_among (λ e. port_part (datapath_number b.keys e.1.switch) (port_number b.keys e.0) (zone_here b e.0) e.0 e.1) f b.net.ports n in
-      let last : f.priority ≡ 0 = (switch_part_row (datapath_number b.keys d.0.0) f d.2).2.last in
-      let before : 50 ≤ f.priority = (port_part_row (datapath_number b.keys e.0.1.switch) (port_number b.keys e.0.0) (zone_here b e.0.0) e.0.0 e.0.1 f e.2).4.before in
-      omega arith
+      let d = flat_map_among of_switch f b.net.switches m in
+      let e = flat_map_among of_port f b.net.ports n in
+      false≢true (sym (row_of_switch d.0 f d.2).2.of_switch ∙ (row_of_port e.0 f e.2).4.of_port)
 
-  -- a row of one of the units matches the datapath, or stands before the last
-  unit_row : (f : Flow) → Among f (
-      flat_map (λ e. switch_part (datapath_number b.keys e.0)) b.net.switches
-      ++ flat_map (λ e. port_part (datapath_number b.keys e.1.switch) (port_number b.keys e.0) (zone_here b e.0) e.0 e.1) b.net.ports) → (f.cube.dp.mask ≡ 2 ^ 24 - 1) ⊎ (50 ≤ f.priority)
-  unit_row f m = elim (among_append f (flat_map (λ e. switch_part (datapath_number b.keys e.0)) b.net.switches) _ m) [
-    | inl a ↦
-        let d = flat_map_among (λ e. switch_part (datapath_number b.keys e.0)) f b.net.switches a in
-        inl (switch_part_row (datapath_number b.keys d.0.0) f d.2).2.masked
+  -- a row of one of the units matches the datapath, or stands before the last and is none for what comes out of a tunnel
+  unit_row : (f : Flow) → Among f (flat_map of_switch b.net.switches ++ flat_map of_port b.net.ports) → (f.cube.dp.mask ≡ 2 ^ 24 - 1) ⊎ ((50 ≤ f.priority) × (is_arrival f.ops ≡ false))
+  unit_row f m = elim (among_append f (flat_map of_switch b.net.switches) _ m) [
+    | inl a ↦ let d = flat_map_among of_switch f b.net.switches a in inl (row_of_switch d.0 f d.2).2.masked
     | inr n ↦
-        let e = flat_map_among (λ e. port_part (datapath_number b.keys e.1.switch) (port_number b.keys e.0) (zone_here b e.0) e.0 e.1) f b.net.ports n in
-        inr (port_part_row (datapath_number b.keys e.0.1.switch) (port_number b.keys e.0.0) (zone_here b e.0.0) e.0.0 e.0.1 f e.2).4.before
+        let e = flat_map_among of_port f b.net.ports n in
+        let row = (row_of_port e.0 f e.2).4 in
+        inr (row.before, row.leaves)
   ]
 
   -- each flow of the list stands once
   table_flows_once_at : EachOnce (table_flows b)
   table_flows_once_at = (
-    λ m. elim (among_cases stay_row leave_row _ m) [
-      | inl e ↦ let tables : 32 ≡ 34 = ap (λ f. f.table) e in omega arith
-      | inr n ↦ elim (unit_row stay_row n) [ inl e ↦ omega (arith, e) | inr l ↦ omega (arith, l) ]
+    λ m. elim (among_cases arrival_row stay_row _ m) [
+      | inl e ↦ let tables : 0 ≡ 32 = ap (λ f. f.table) e in omega arith
+      | inr n ↦ elim (among_cases arrival_row leave_row _ n) [
+        | inl e ↦ let tables : 0 ≡ 34 = ap (λ f. f.table) e in omega arith
+        | inr r ↦ elim (unit_row arrival_row r) [ inl e ↦ omega (arith, e) | inr l ↦ absurd (false≢true (sym l.1)) ]
+      ]
     ],
     (
-      λ m. elim (unit_row leave_row m) [ inl e ↦ omega (arith, e) | inr l ↦ omega (arith, l) ],
-      once_append (flat_map (λ e. switch_part (datapath_number b.keys e.0)) b.net.switches) _ once_switches once_ports apart,
+      λ m. elim (among_cases stay_row leave_row _ m) [
+        | inl e ↦ let tables : 32 ≡ 34 = ap (λ f. f.table) e in omega arith
+        | inr n ↦ elim (unit_row stay_row n) [ inl e ↦ omega (arith, e) | inr l ↦ omega (arith, l.0) ]
+      ],
+      (
+        λ m. elim (unit_row leave_row m) [ inl e ↦ omega (arith, e) | inr l ↦ omega (arith, l.0) ],
+        once_append (flat_map of_switch b.net.switches) _ once_switches once_ports apart,
+      ),
     ),
   )
 

@@ -4,29 +4,21 @@ use Rattle.std.specs.List.{AllByRecursion}
 use Rattle.std.specs.Option.{option_map}
 use Rattle.std.proofs.Common.{sym, ap, ◌∙◌, subst, inl, inr}
 use Rattle.std.proofs.lemmas.Option.{none-some, same_Some}
-use Rattle.ovn_base.specs.declared.address.Mac.{Mac}
 use Rattle.ovn_base.specs.declared.name.Name.{Name}
-use Rattle.inet_packet.specs.declared.packet.Packet as inet
-use Rattle.inet_packet.proofs.OnePacket.{one_packet_at_most}
-use Rattle.flow_table.specs.declared.flow.Cause.TheVariants.{Loopback, Unbound}
 use Rattle.ovn_base.specs.Among.{Among}
 use Rattle.ovn_base.specs.ByName.{at, put, put_all, in_order, IsByName}
 use Rattle.ovn_base.specs.declared.address.Birth.{Birth}
 use Rattle.ovn_base.proofs.AmongLaws.{among_cases, among_flat_map, among_none}
 use Rattle.ovn_base.proofs.Puts.{at_among, one_or_two, put_other, put_there}
-use Rattle.ovn_base.specs.SameName.{same_name}
-use Rattle.nb_records.specs.Network.{Network}
 use Rattle.nb_records.specs.declared.record.Op.TheVariants.{Add}
 use Rattle.nb_records.specs.declared.record.Record.{Record}
 use Rattle.nb_records.specs.declared.record.Record.TheVariants as record_of
-use Rattle.nb_records.specs.declared.record.SwitchPort.{SwitchPort}
 use Rattle.edit_reader.specs.declared.event.Event.{Event}
-use Rattle.edit_reader.specs.declared.event.Event.TheVariants.{Edit, Bind, AddChassis, Packet, Unread, NotBuilt}
+use Rattle.edit_reader.specs.declared.event.Event.TheVariants.{Edit, Bind, AddChassis, Inject, Deliver, Lose, Repeat, Drain, Packet, Unread, NotBuilt}
 use Rattle.event_lines.specs.declared.refusal.Refusal.{Refusal}
 use Rattle.event_lines.specs.declared.refusal.Refusal.TheVariants as why
 use Rattle.event_lines.specs.Picks.{Pick, datapath_key, port_key, picks_of}
 use Rattle.switch_engine.specs.declared.effect.NetEffect.{NetEffect}
-use Rattle.switch_engine.specs.declared.effect.NetEffect.TheVariants as effect
 use Rattle.tunnel_keys.specs.Edits.{GivesKeysAfter}
 use Rattle.tunnel_keys.specs.Keys.{Keys, retire}
 use Rattle.tunnel_keys.specs.Owners.{datapaths_in, ports_in}
@@ -36,17 +28,17 @@ use Rattle.tunnel_keys.specs.declared.owner.PortKey.{PortKey}
 use Rattle.tunnel_keys.proofs.Determined.{same_found}
 use Rattle.tunnel_keys.proofs.OwnerLaws.{datapaths_have, ports_have}
 use Rattle.world_core.specs.Admitted.{IsAdmitted, IsAdmittedRecord}
-use Rattle.world_core.specs.Editing.{owners_of, datapath_effect, port_effect, added_ports, key_effects, accepted, counted}
+use Rattle.world_core.specs.Editing.{owners_of, datapath_effect, port_effect, added_ports, key_effects, accepted}
 use Rattle.world_core.specs.Numbers.{datapath_number, port_number}
 use Rattle.world_core.specs.Picks.{Fate, was_refused, was_accepted, Happens, Run}
 use Rattle.world_core.specs.Refusing.{refusal, refusal_of_record}
 use Rattle.world_core.specs.Sound.{IsValid}
-use Rattle.world_core.specs.State.{State, events_of}
-use Rattle.world_core.specs.Step.{Step}
+use Rattle.world_core.specs.State.{State, events_of, finished}
+use Rattle.world_core.specs.Step.{Step, Does, most_arrivals}
 use Rattle.world_core.specs.Unbuilt.{is_unbuilt_port}
-use Rattle.world_core.specs.Visit.{HasTarget, Target, Visit, ends_at, to_none, to_port, known, unknown}
 use Rattle.world_core.proofs.Kept.{switch_valid, port_valid}
 use Rattle.world_core.proofs.Refusals.{is_built, is_new}
+use Rattle.world_core.proofs.OneVisit.{AreOne, one_enters, one_arrives, one_drains, one_sends, none_of_both, enters_none, arrives_none, drains_none, enters_net, arrives_net, drains_net}
 
 -- the same effects, the same state, and the same picks left
 pub record Same (effects others : List NetEffect) (after later : State) (left more : List Pick) : Type 0 where
@@ -176,35 +168,6 @@ module _ (between : Keys) (owners : List KeyOwner) where
           second.1,
         )
 
--- ---- packets
-
-same_target : (net : Network) → IsValid net → (switch : Name) (mac : Mac) (a b : Target) → HasTarget net switch mac a → HasTarget net switch mac b → a ≡ b
-same_target net valid switch mac _ _ (known q port t) (known r other u) = ap to_port (valid.apart q r port other mac t.there u.there (t.on_switch ∙ sym u.on_switch) t.has_address u.has_address)
-same_target net valid switch mac _ _ (known q port t) (unknown none) = absurd (none q port t)
-same_target net valid switch mac _ _ (unknown none) (known q port t) = absurd (none q port t)
-same_target net valid switch mac _ _ (unknown none) (unknown never) = refl
-
-same_visit : (m : State) → IsValid m.net → (p : Name) (packet : inet.Packet) (effects others : List NetEffect) → Visit m p packet effects → Visit m p packet others → effects ≡ others
-same_visit m valid p packet effects others v w =
-    let port : v.port ≡ w.port = same_Some v.port w.port (sym v.there ∙ w.there) in
-    let aimed : HasTarget m.net w.port.switch packet.dst v.target = subst (λ (q : SwitchPort). HasTarget m.net q.switch packet.dst v.target) port v.aimed in
-    let target : v.target ≡ w.target = same_target m.net valid w.port.switch packet.dst v.target w.target aimed w.aimed in
-    v.ends ∙ ap (λ (q : SwitchPort). ends_at m q.switch p packet v.target) port ∙ ap (λ t. ends_at m w.port.switch p packet t) target ∙ sym w.ends
-
--- a packet picks nothing
-none_at : (m : State) (switch p : Name) (packet : inet.Packet) (target : Target) → picks_of (ends_at m switch p packet target) ≡ []
-none_at m switch p packet to_none = refl
-none_at m switch p packet (to_port q) = by (is_some (at m.bindings q)) (same_name q p)
-  where
-    by : (bound back : Bool)
-        → picks_of (cond bound (cond back (effect.Drop switch q Loopback ∷ []) (effect.Out q packet ∷ [])) (effect.Drop switch q Unbound ∷ [])) ≡ []
-    by true true = refl
-    by true false = refl
-    by false back = refl
-
-none_picked : (m : State) (p : Name) (packet : inet.Packet) (effects : List NetEffect) → Visit m p packet effects → picks_of effects ≡ []
-none_picked m p packet effects v = ap (λ es. picks_of es) v.ends ∙ none_at m v.port.switch p packet v.target
-
 -- ---- steps
 
 -- where neither picks anything the picks that are left are the same
@@ -219,29 +182,49 @@ still effects others after later left more then h k a b e = record {
   rest = none_left effects others left more (ap (λ es. picks_of es) h) (ap (λ es. picks_of es) k) e;
 }
 
--- an event takes the same of two lists of picks that are one, and has the same effects and the same state after it
-pub step_with : (m : State) (event : Event) (effects others : List NetEffect) (after later : State) (left more : List Pick) → IsValid m.net → Step m event effects after → Step m event others later
+-- what happens to packets, where neither picks anything
+moves : (effects others : List NetEffect) (after later : State) (left more : List Pick) → AreOne effects others after later → picks_of effects ≡ [] → picks_of others ≡ [] → picks_of effects ++ left ≡ picks_of others ++ more
+    → Same effects others after later left more
+moves effects others after later left more one h k e = record { effects_are = one.effects_are; state = one.state; rest = none_left effects others left more h k e }
+
+-- what an event does takes the same of two lists of picks that are one, and has the same effects and leaves the same state
+does_with : (m : State) (event : Event) (effects others : List NetEffect) (after later : State) (left more : List Pick) → IsValid m.net → Does m event effects after → Does m event others later
     → picks_of effects ++ left ≡ picks_of others ++ more → Same effects others after later left more
-step_with m (Edit ops) effects others after later left more valid h k e =
+does_with m (Edit ops) effects others after later left more valid h k e =
     let owners = owners_of ops (events_of m + 1) in
     let picked = sym (ap (λ es. picks_of es ++ left) h.effects_are) ∙ e ∙ ap (λ es. picks_of es ++ more) k.effects_are in
-    let same = same_keys (retire m.keys []) owners h.keys k.keys h.given k.given h.datapaths_in_order h.ports_in_order k.datapaths_in_order k.ports_in_order left more picked in
+    let same = same_keys (retire m.keys []) owners h.keys k.keys h.given k.given h.hold.datapaths_in_order h.hold.ports_in_order k.hold.datapaths_in_order k.hold.ports_in_order left more picked in
     record {
       effects_are = h.effects_are ∙ ap (λ keys. key_effects owners keys) same.0 ∙ sym k.effects_are;
-      state = h.state ∙ ap (λ (keys : Keys). record (counted m) { net = accepted m.net ops (events_of m + 1); keys = keys }) same.0 ∙ sym k.state;
+      state = h.state ∙ ap (λ (keys : Keys). record m { net = accepted m.net ops (events_of m + 1); keys = keys }) same.0 ∙ sym k.state;
       rest = same.1;
     }
-step_with m (Bind p chassis) effects others after later left more valid h k e = still effects others after later left more _ h.0 k.0 h.1 k.1 e
-step_with m (AddChassis chassis) effects others after later left more valid h k e = still effects others after later left more _ h.0 k.0 h.1 k.1 e
-step_with m (Packet p frame) effects others after later left more valid h k e =
-    let packet : h.packet ≡ k.packet = one_packet_at_most h.packet k.packet h.whole k.whole (h.frame_is ∙ sym k.frame_is) in
-    record {
-      effects_are = same_visit m valid p k.packet effects others (subst (λ x. Visit m p x effects) packet h.visit) k.visit;
-      state = h.state ∙ sym k.state;
-      rest = none_left effects others left more (none_picked m p h.packet effects h.visit) (none_picked m p k.packet others k.visit) e;
-    }
-step_with m (Unread fault) effects others after later left more valid h k e = absurd h
-step_with m NotBuilt effects others after later left more valid h k e = absurd h
+does_with m (Bind p chassis) effects others after later left more valid h k e = still effects others after later left more _ h.0 k.0 h.1 k.1 e
+does_with m (AddChassis chassis) effects others after later left more valid h k e = still effects others after later left more _ h.0 k.0 h.1 k.1 e
+does_with m (Inject p frame) effects others after later left more valid h k e =
+    moves effects others after later left more (one_enters m valid p frame effects others after later h k) (enters_none m p frame effects after h) (enters_none m p frame others later k) e
+does_with m (Deliver n) effects others after later left more valid h k e =
+    moves effects others after later left more (one_arrives m n false effects others after later h k) (arrives_none m n false effects after h) (arrives_none m n false others later k) e
+does_with m (Lose n) effects others after later left more valid h k e = still effects others after later left more _ h.0 k.0 h.1 k.1 e
+does_with m (Repeat n) effects others after later left more valid h k e =
+    moves effects others after later left more (one_arrives m n true effects others after later h k) (arrives_none m n true effects after h) (arrives_none m n true others later k) e
+does_with m Drain effects others after later left more valid h k e =
+    moves effects others after later left more (one_drains most_arrivals m effects others after later h k) (drains_none most_arrivals m effects after h) (drains_none most_arrivals m others later k) e
+does_with m (Packet p frame) effects others after later left more valid h k e =
+    let one = one_sends most_arrivals m valid p frame h.own k.own h.more k.more h.mid k.mid after later h.enters k.enters h.drains k.drains in
+    moves effects others after later left more (record { effects_are = h.all ∙ one.effects_are ∙ sym k.all; state = one.state })
+    (ap (λ es. picks_of es) h.all ∙ none_of_both h.own h.more (enters_none m p frame h.own h.mid h.enters) (drains_none most_arrivals h.mid h.more after h.drains))
+    (ap (λ es. picks_of es) k.all ∙ none_of_both k.own k.more (enters_none m p frame k.own k.mid k.enters) (drains_none most_arrivals k.mid k.more later k.drains))
+    e
+does_with m (Unread fault) effects others after later left more valid h k e = absurd h
+does_with m NotBuilt effects others after later left more valid h k e = absurd h
+
+-- so an event does
+pub step_with : (m : State) (event : Event) (effects others : List NetEffect) (after later : State) (left more : List Pick) → IsValid m.net → Step m event effects after → Step m event others later
+    → picks_of effects ++ left ≡ picks_of others ++ more → Same effects others after later left more
+step_with m event effects others after later left more valid h k e =
+    let d = does_with m event effects others h.mid k.mid left more valid h.does k.does e in
+    record { effects_are = d.effects_are; state = h.state ∙ ap finished d.state ∙ sym k.state; rest = d.rest }
 
 pub same_step : (m : State) (event : Event) (effects others : List NetEffect) (after later : State) → IsValid m.net → Step m event effects after → Step m event others later → picks_of effects ≡ picks_of others
     → (effects ≡ others) × (after ≡ later)
@@ -267,16 +250,25 @@ valid_with m (record_of.SwitchPort port) valid admitted allowed =
     (is_there (is_unbuilt_port m.net port) (is_some (at m.net.switches port.switch)) why.NotBuilt (why.NoSuch port.switch) allowed)
     (record { macs = new.macs; stations = new.stations; once = new.once; apart = new.apart; ips_apart = new.ips_apart })
 
-pub step_valid : (m : State) (event : Event) (effects : List NetEffect) (after : State) → IsValid m.net → IsAdmitted event → refusal m event ≡ None → Step m event effects after → IsValid after.net
-step_valid m (Edit ops) effects after valid admitted allowed h =
+does_valid : (m : State) (event : Event) (effects : List NetEffect) (after : State) → IsValid m.net → IsAdmitted event → refusal m event ≡ None → Does m event effects after → IsValid after.net
+does_valid m (Edit ops) effects after valid admitted allowed h =
     let row = admitted.0 in
     let fine : refusal m (Edit (Add row ∷ [])) ≡ None = subst (λ os. refusal m (Edit os) ≡ None) admitted.1 allowed in
     subst (λ (s : State). IsValid s.net) (sym h.state) (subst (λ os. IsValid (accepted m.net os (events_of m + 1))) (sym admitted.1) (valid_with m row valid admitted.2 fine))
-step_valid m (Bind p chassis) effects after valid admitted allowed h = subst (λ (s : State). IsValid s.net) (sym h.1) valid
-step_valid m (AddChassis chassis) effects after valid admitted allowed h = subst (λ (s : State). IsValid s.net) (sym h.1) valid
-step_valid m (Packet p frame) effects after valid admitted allowed h = subst (λ (s : State). IsValid s.net) (sym h.state) valid
-step_valid m (Unread fault) effects after valid admitted allowed h = absurd h
-step_valid m NotBuilt effects after valid admitted allowed h = absurd h
+does_valid m (Bind p chassis) effects after valid admitted allowed h = subst (λ (s : State). IsValid s.net) (sym h.1) valid
+does_valid m (AddChassis chassis) effects after valid admitted allowed h = subst (λ (s : State). IsValid s.net) (sym h.1) valid
+does_valid m (Inject p frame) effects after valid admitted allowed h = subst IsValid (sym (enters_net m p frame effects after h)) valid
+does_valid m (Deliver n) effects after valid admitted allowed h = subst IsValid (sym (arrives_net m n false effects after h)) valid
+does_valid m (Lose n) effects after valid admitted allowed h = subst (λ (s : State). IsValid s.net) (sym h.1) valid
+does_valid m (Repeat n) effects after valid admitted allowed h = subst IsValid (sym (arrives_net m n true effects after h)) valid
+does_valid m Drain effects after valid admitted allowed h = subst IsValid (sym (drains_net most_arrivals m effects after h)) valid
+does_valid m (Packet p frame) effects after valid admitted allowed h =
+    subst IsValid (sym (drains_net most_arrivals h.mid h.more after h.drains ∙ enters_net m p frame h.own h.mid h.enters)) valid
+does_valid m (Unread fault) effects after valid admitted allowed h = absurd h
+does_valid m NotBuilt effects after valid admitted allowed h = absurd h
+
+pub step_valid : (m : State) (event : Event) (effects : List NetEffect) (after : State) → IsValid m.net → IsAdmitted event → refusal m event ≡ None → Step m event effects after → IsValid after.net
+step_valid m event effects after valid admitted allowed h = subst (λ (s : State). IsValid s.net) (sym h.state) (does_valid m event effects h.mid valid admitted allowed h.does)
 
 -- ---- runs
 

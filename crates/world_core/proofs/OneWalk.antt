@@ -1,291 +1,80 @@
--- A packet has one walk through the flows of its chassis.
-use Rattle.std.specs.Prelude.{◌≡◌, ◌<◌, ◌^◌, ℕ, Bool, true, false, List, [], ◌∷◌, ◌++◌, refl}
-use Rattle.std.specs.List.{AllByRecursion}
-use Rattle.std.proofs.Common.{sym, ap, ◌∙◌, subst, arith, inl}
-use Rattle.std.proofs.lemmas.Bool.{false≢true}
-use Rattle.std.proofs.lemmas.Option.{same_Some}
+-- A packet has one walk through the flows of a chassis, in whatever order they are held.
+use Rattle.std.specs.Prelude.{◌≡◌, List, [], ◌∷◌, ◌++◌, refl}
+use Rattle.std.proofs.Common.{sym, ap, ◌∙◌, subst}
 use Rattle.ovn_base.specs.Among.{Among}
-use Rattle.ovn_base.specs.Address.{IsMac}
-use Rattle.ovn_base.specs.declared.name.Name.{Name}
-use Rattle.inet_packet.specs.Fits.{CubeFits}
-use Rattle.inet_packet.specs.declared.packet.Packet.{Packet}
-use Rattle.inet_packet.specs.declared.regs.At.{At}
-use Rattle.inet_packet.specs.declared.regs.At.TheVariants.{Local, Tunnel}
-use Rattle.inet_packet.specs.declared.regs.Regs.{Regs}
-use Rattle.inet_packet.proofs.OnePacket.{one_packet_at_most}
-use Rattle.flow_table.specs.Matching.{IsBest, Beats}
+use Rattle.flow_table.specs.Matching.{IsBest, NoneMatches}
 use Rattle.flow_table.specs.declared.flow.Flow.{Flow}
-use Rattle.flow_table.specs.declared.flow.FlowOp.{FlowOp}
-use Rattle.flow_table.specs.declared.flow.FlowOp.TheVariants.{Set, Go, Drop, Header, Frame, Copies, Output}
-use Rattle.switch_engine.specs.Actions.{outcome, going_on, set_reg}
-use Rattle.switch_engine.specs.Proper.{Sets}
-use Rattle.switch_engine.specs.Range.{IsInRange}
-use Rattle.switch_engine.specs.Walk.{IsWalk, IsWalkOf, start, start_regs, unmatched}
+use Rattle.switch_engine.specs.Actions.{outcome, going_on}
+use Rattle.switch_engine.specs.Walk.{IsWalk, start, unmatched}
 use Rattle.switch_engine.specs.Walk.IsWalk.{over, ends, takes}
 use Rattle.switch_engine.specs.declared.carried.Carried.{Carried}
 use Rattle.switch_engine.specs.declared.effect.Effect.{Effect}
-use Rattle.switch_engine.specs.declared.effect.Entry.TheVariants.{Vif}
-use Rattle.switch_engine.specs.declared.effect.NetEffect.{NetEffect}
-use Rattle.switch_engine.specs.declared.walk.Start.TheVariants.{Port}
+use Rattle.switch_engine.specs.declared.effect.Entry.{Entry}
 use Rattle.switch_engine.specs.declared.walk.Step.{Step}
-use Rattle.switch_engine.specs.declared.walk.Walk.{Walk}
-use Rattle.switch_engine.proofs.Framed.{proper_sets}
-use Rattle.switch_engine.proofs.Lists.{all_append}
-use Rattle.switch_engine.proofs.Ranges.{set_in_range}
-use Rattle.ovn_base.specs.ByName.{at}
-use Rattle.nb_records.specs.declared.record.SwitchPort.{SwitchPort}
-use Rattle.edit_reader.specs.declared.event.Event.{Event}
-use Rattle.edit_reader.specs.declared.event.Event.TheVariants as event_of
-use Rattle.tunnel_keys.specs.declared.owner.DatapathKey.{DatapathKey}
-use Rattle.tunnel_keys.specs.declared.owner.PortKey.{PortKey}
-use Rattle.world_core.specs.Addresses.{mac_of}
-use Rattle.world_core.specs.Outcome.{HasWalks, IsSent}
-use Rattle.world_core.specs.Rows.{entry_row, pass_row, address_row, unknown_row, home_row, return_row, output_row}
-use Rattle.world_core.specs.Seen.{Seen, IsSound}
-use Rattle.world_core.specs.Sound.{IsValid, HaveKeys, AreBound, AreExactly, basis_at}
-use Rattle.world_core.specs.Stages.{Basis, IsPort, IsHere, EntryRow, LookupRow, RemoteRow, HomeRow, ReturnRow, OutputRow}
-use Rattle.world_core.specs.State as state
-use Rattle.world_core.specs.Tables.{TableFlow}
-use Rattle.world_core.proofs.ByTable.{at_0, at_8, at_9, at_10, at_11, at_12, at_13, at_14, at_32, at_33, at_34, at_40, at_41, at_42, at_43, at_64, table_of_entry, table_of_admit, table_of_port_sec, table_of_track, table_of_acl_in, table_of_state_in, table_of_arp, table_of_lookup, table_of_remote, table_of_home, table_of_return, table_of_track_out, table_of_acl_out, table_of_state_out, table_of_sec_out, table_of_output}
-use Rattle.world_core.proofs.ProperTables.{proper}
-use Rattle.world_core.proofs.RowFits.{fits_entry, fits_datapath, fits_address, fits_exit, fits_return}
-use Rattle.world_core.proofs.WalkSteps as steps
+use Rattle.world_core.specs.Sound.{AreFlowsOf}
+use Rattle.world_core.specs.WalkLaw.{OneWalkLaw}
+use Rattle.world_core.proofs.Comes.{Setting, Matched, matched}
+use Rattle.world_core.proofs.OneRow.{one_row}
 
--- ---- what each copy of a walk keeps
+module _ (s : Setting) (more : List Flow) (also : AreFlowsOf s.m s.zones s.chassis more) (entry : Entry) where
+  held_too : (f : Flow) → Among f s.flows → Among f more
+  held_too f m = (also.same f).1 ((s.exact.same f).0 m)
 
--- the numbers of a copy lie within its registers, and its packet goes to an address
-pub record IsFine (copy : Carried) : Type 0 where
-  pub in_range : IsInRange copy.regs
-  pub is_mac : IsMac copy.packet.dst
+  held_first : (f : Flow) → Among f more → Among f s.flows
+  held_first f m = (s.exact.same f).1 ((also.same f).0 m)
 
--- no action makes copies
-abbrev makes_none : List FlowOp → Bool
-makes_none [] = true
-makes_none (Set reg n ∷ ops) = makes_none ops
-makes_none (Go next ∷ ops) = makes_none ops
-makes_none (Drop cause ∷ ops) = makes_none ops
-makes_none (Header ∷ ops) = makes_none ops
-makes_none (Frame chassis ∷ ops) = makes_none ops
-makes_none (Copies members ∷ ops) = false
-makes_none (Output port ∷ ops) = makes_none ops
+  -- the best flow is one
+  one_best : (copy : Carried) (f g : Flow) → IsBest s.flows copy.table copy.regs copy.packet f → IsBest more copy.table copy.regs copy.packet g → f ≡ g
+  one_best copy f g h k =
+      let t : Setting = record { m = s.m; zones = s.zones; chassis = s.chassis; flows = more; now = s.now; exact = also } in
+      let theirs : Matched t copy g = matched t entry copy g k in
+      one_row s copy f g (matched s entry copy f h) (record { row = theirs.row; in_table = theirs.in_table; fits = theirs.fits; unbeaten = theirs.unbeaten })
 
--- what such actions bring on from a port keeps it
-kept : (p : Name) (ops : List FlowOp) (copy : Carried) → makes_none ops ≡ true → AllByRecursion Sets ops → IsFine copy → AllByRecursion IsFine (going_on (outcome (Vif p) ops copy))
-kept p [] copy none sets fine = tt
-kept p (Set reg n ∷ ops) copy none sets fine = kept p ops (record copy { regs = set_reg reg n copy.regs }) none sets.1 (record { in_range = set_in_range reg n copy.regs sets.0 fine.in_range; is_mac = fine.is_mac })
-kept p (Go next ∷ ops) copy none sets fine = (record { in_range = fine.in_range; is_mac = fine.is_mac }, tt)
-kept p (Drop cause ∷ ops) copy none sets fine = tt
-kept p (Header ∷ ops) copy none sets fine = kept p ops copy none sets.1 fine
-kept p (Frame chassis ∷ ops) copy none sets fine = kept p ops copy none sets.1 fine
-kept p (Copies members ∷ ops) copy none sets fine = absurd (false≢true none)
-kept p (Output port ∷ ops) copy none sets fine = kept p ops copy none sets.1 fine
+  -- ---- the second walk, where the first is known
 
-module _ (b : Basis) (f : Flow) where
-  none_by : (row : Flow) → f ≡ row → makes_none row.ops ≡ true → makes_none f.ops ≡ true
-  none_by row e none = ap (λ (g : Flow). makes_none g.ops) e ∙ none
+  over_too : (others : List Step) (last : List Effect) → IsWalk more entry [] others last → (others ≡ []) × (last ≡ [])
+  over_too _ _ over = (refl, refl)
 
-  pass_makes_none : (table next : ℕ) → steps.IsPass table next f → makes_none f.ops ≡ true
-  pass_makes_none table next h = none_by (pass_row h.0 table next) h.1 refl
+  ends_too : (copy : Carried) (left : List Carried) (others : List Step) (last : List Effect) → NoneMatches s.flows copy.table copy.regs copy.packet → IsWalk more entry (copy ∷ left) others last
+      → (later : List Effect) × IsWalk more entry left others later × (last ≡ unmatched entry copy ++ later)
+  ends_too _ _ _ _ none (ends copy left others later last never again is) = (later, again, is)
+  ends_too _ _ _ _ none (takes copy left step others later last here took again is) = absurd (none step.flow (held_first step.flow took.held) took.matching)
 
-  -- no row of the tables makes copies
-  row_makes_none : TableFlow b f → makes_none f.ops ≡ true
-  row_makes_none (TableFlow.in_entry (EntryRow.entry q port dp key z of home e)) = none_by _ e refl
-  row_makes_none (TableFlow.in_s_admit r) = pass_makes_none 8 9 (steps.pass_8 b f r)
-  row_makes_none (TableFlow.in_s_port_sec r) = pass_makes_none 9 10 (steps.pass_9 b f r)
-  row_makes_none (TableFlow.in_s_track r) = pass_makes_none 10 11 (steps.pass_10 b f r)
-  row_makes_none (TableFlow.in_s_acl_in r) = pass_makes_none 11 12 (steps.pass_11 b f r)
-  row_makes_none (TableFlow.in_s_state_in r) = pass_makes_none 12 13 (steps.pass_12 b f r)
-  row_makes_none (TableFlow.in_s_arp r) = pass_makes_none 13 14 (steps.pass_13 b f r)
-  row_makes_none (TableFlow.in_s_lookup (LookupRow.address q port dp key entry of among e)) = none_by _ e refl
-  row_makes_none (TableFlow.in_s_lookup (LookupRow.unknown a dp on e)) = none_by _ e refl
-  row_makes_none (TableFlow.in_remote (RemoteRow.stay e)) = none_by _ e refl
-  row_makes_none (TableFlow.in_home (HomeRow.home q port dp key z of home e)) = none_by _ e refl
-  row_makes_none (TableFlow.in_back (ReturnRow.back q port dp key of e)) = none_by _ e refl
-  row_makes_none (TableFlow.in_back (ReturnRow.leave e)) = none_by _ e refl
-  row_makes_none (TableFlow.in_s_track_out r) = pass_makes_none 40 41 (steps.pass_40 b f r)
-  row_makes_none (TableFlow.in_s_acl_out r) = pass_makes_none 41 42 (steps.pass_41 b f r)
-  row_makes_none (TableFlow.in_s_state_out r) = pass_makes_none 42 43 (steps.pass_42 b f r)
-  row_makes_none (TableFlow.in_s_sec_out r) = pass_makes_none 43 64 (steps.pass_43 b f r)
-  row_makes_none (TableFlow.in_output (OutputRow.output q port dp key of e)) = none_by _ e refl
+  record TakesToo (copy : Carried) (left : List Carried) (f : Flow) (others : List Step) (last : List Effect) : Type 0 where
+    path : List Step
+    later : List Effect
+    steps_are : others ≡ record { table = copy.table; flow = f } ∷ path
+    again : IsWalk more entry (going_on (outcome entry f.ops copy) ++ left) path later
+    effects_are : last ≡ (outcome entry f.ops copy).effects ++ later
 
-abbrev name_at : At → Name
-name_at (Local n) = n
-name_at Tunnel = []
+  takes_too : (copy : Carried) (left : List Carried) (f : Flow) (others : List Step) (last : List Effect) → IsBest s.flows copy.table copy.regs copy.packet f → IsWalk more entry (copy ∷ left) others last → TakesToo copy left f others last
+  takes_too _ _ f _ _ best (ends copy left others later last never again is) = absurd (never f (held_too f best.held) best.matching)
+  takes_too _ _ f _ _ best (takes copy left step path later last here took again is) =
+      let same : step.flow ≡ f = sym (one_best copy f step.flow best took) in
+      record {
+        path = path;
+        later = later;
+        steps_are = λ i. record { table = here i; flow = same i } ∷ path;
+        again = subst (λ (g : Flow). IsWalk more entry (going_on (outcome entry g.ops copy) ++ left) path later) same again;
+        effects_are = is ∙ ap (λ (g : Flow). (outcome entry g.ops copy).effects ++ later) same;
+      }
 
-module _ (m : state.State) (zones : List (Name × ℕ)) (flows : List Flow) (c : Name) (valid : IsValid m.net) (keys : HaveKeys m.net m.keys) (exact : AreExactly (TableFlow (basis_at m zones c)) flows) where
-  abbrev b : Basis
-  b = basis_at m zones c
+  -- ---- both
 
-  -- a port has one pair of numbers, and one zone
-  numbers : (q r : Name) (port other : SwitchPort) (dp d key k : ℕ) → IsPort b q port dp key → IsPort b r other d k → q ≡ r → (dp ≡ d) × (key ≡ k)
-  numbers q r port other dp d key k of their same =
-      let ports : port ≡ other = same_Some port other (sym of.there ∙ ap (λ n. at m.net.ports n) same ∙ their.there) in
-      let on : of.on.live ≡ their.on.live = same_Some of.on.live their.on.live (sym of.on.has ∙ ap (λ (p : SwitchPort). at m.keys.datapaths p.switch) ports ∙ their.on.has) in
-      let own : of.live ≡ their.live = same_Some of.live their.live (sym of.has ∙ ap (λ n. at m.keys.ports n) same ∙ their.has) in
-      (sym of.on.number ∙ ap (λ (w : DatapathKey). w.key) on ∙ their.on.number, sym of.number ∙ ap (λ (w : PortKey). w.key) own ∙ their.number)
+  one_walk : (copies : List Carried) (steps : List Step) (effects : List Effect) (others : List Step) (last : List Effect) → IsWalk s.flows entry copies steps effects → IsWalk more entry copies others last → (steps ≡ others) × (effects ≡ last)
+  one_walk _ _ _ others last over w = let r = over_too others last w in (sym r.0, sym r.1)
+  one_walk _ _ _ others last (ends copy left path after effects none walk same) w =
+      let r = ends_too copy left others last none w in
+      let rest = one_walk left path after others r.0 walk r.1 in
+      (rest.0, same ∙ ap (λ l. unmatched entry copy ++ l) rest.1 ∙ sym r.2)
+  one_walk _ _ _ others last (takes copy left step path after effects here took walk same) w =
+      let r = takes_too copy left step.flow others last took w in
+      let rest = one_walk (going_on (outcome entry step.flow.ops copy) ++ left) path after r.path r.later walk r.again in (
+        (λ i. record { table = here i; flow = step.flow } ∷ rest.0 i) ∙ sym r.steps_are,
+        same ∙ ap (λ l. (outcome entry step.flow.ops copy).effects ++ l) rest.1 ∙ sym r.effects_are,
+      )
 
-  zone : (q r : Name) (z y : ℕ) → IsHere b q z → IsHere b r y → q ≡ r → z ≡ y
-  zone q r z y here there same = same_Some z y (sym here.zoned ∙ ap (λ n. at zones n) same ∙ there.zoned)
-
-  -- ---- two flows that match one packet, neither of which beats the other
-
-  module _ (regs : Regs) (range : IsInRange regs) (packet : Packet) (is_mac : IsMac packet.dst) (f g : Flow) (f_fits : CubeFits f.cube regs packet) (g_fits : CubeFits g.cube regs packet) (f_unbeaten : ¬ Beats g f) (g_unbeaten : ¬ Beats f g) where
-    entries : EntryRow b f → EntryRow b g → f ≡ g
-    entries (EntryRow.entry q port dp key z of here e) (EntryRow.entry r other d k y their there x) =
-        let first : regs.at ≡ Local q = fits_entry regs packet q (steps.row_fits regs packet f (entry_row q dp key z) e f_fits) in
-        let second : regs.at ≡ Local r = fits_entry regs packet r (steps.row_fits regs packet g (entry_row r d k y) x g_fits) in
-        let same : q ≡ r = ap name_at (sym first ∙ second) in
-        let n = numbers q r port other dp d key k of their same in
-        let w = zone q r z y here there same in
-        e ∙ (λ i. entry_row (same i) (n.0 i) (n.1 i) (w i)) ∙ sym x
-
-    passes : (table next : ℕ) → steps.IsPass table next f → steps.IsPass table next g → f ≡ g
-    passes table next h k =
-        let first : regs.dp ≡ h.0 = fits_datapath regs packet h.0 range.dp_within (steps.row_fits regs packet f (pass_row h.0 table next) h.1 f_fits) in
-        let second : regs.dp ≡ k.0 = fits_datapath regs packet k.0 range.dp_within (steps.row_fits regs packet g (pass_row k.0 table next) k.1 g_fits) in
-        h.1 ∙ ap (λ n. pass_row n table next) (sym first ∙ second) ∙ sym k.1
-
-    looks : LookupRow b f → LookupRow b g → f ≡ g
-    looks (LookupRow.address q port dp key entry of among e) (LookupRow.address r other d k also their in_it x) =
-        let first = fits_address regs packet dp (mac_of entry) range.dp_within (valid.macs q port entry of.there among) is_mac (steps.row_fits regs packet f (address_row dp (mac_of entry) key) e f_fits) in
-        let second = fits_address regs packet d (mac_of also) range.dp_within (valid.macs r other also their.there in_it) is_mac (steps.row_fits regs packet g (address_row d (mac_of also) k) x g_fits) in
-        let on : dp ≡ d = sym first.0 ∙ second.0 in
-        let mac : mac_of entry ≡ mac_of also = sym first.1 ∙ second.1 in
-        let switch : port.switch ≡ other.switch = steps.one_datapath m zones flows c valid keys exact port.switch other.switch dp d of.on their.on on in
-        let same : q ≡ r = valid.apart q r port other (mac_of also) of.there their.there switch (record { entry = entry; among = among; has = mac }) (record { entry = also; among = in_it; has = refl }) in
-        let n = numbers q r port other dp d key k of their same in
-        e ∙ (λ i. address_row (on i) (mac i) (n.1 i)) ∙ sym x
-    looks (LookupRow.address q port dp key entry of among e) (LookupRow.unknown a d on x) = absurd (g_unbeaten (inl (subst (λ (w : Flow). w.priority < f.priority) (sym x) (subst (λ (w : Flow). 0 < w.priority) (sym e) (omega arith)))))
-    looks (LookupRow.unknown a d on x) (LookupRow.address q port dp key entry of among e) = absurd (f_unbeaten (inl (subst (λ (w : Flow). w.priority < g.priority) (sym x) (subst (λ (w : Flow). 0 < w.priority) (sym e) (omega arith)))))
-    looks (LookupRow.unknown a dp on e) (LookupRow.unknown o d their x) =
-        let first : regs.dp ≡ dp = fits_datapath regs packet dp range.dp_within (steps.row_fits regs packet f (unknown_row dp) e f_fits) in
-        let second : regs.dp ≡ d = fits_datapath regs packet d range.dp_within (steps.row_fits regs packet g (unknown_row d) x g_fits) in
-        e ∙ ap unknown_row (sym first ∙ second) ∙ sym x
-
-    stays : RemoteRow b f → RemoteRow b g → f ≡ g
-    stays (RemoteRow.stay e) (RemoteRow.stay x) = e ∙ sym x
-
-    homes : HomeRow b f → HomeRow b g → f ≡ g
-    homes (HomeRow.home q port dp key z of here e) (HomeRow.home r other d k y their there x) =
-        let first = fits_exit regs packet dp key range.dp_within range.out_port_within (steps.row_fits regs packet f (home_row dp key z) e f_fits) in
-        let second = fits_exit regs packet d k range.dp_within range.out_port_within (steps.row_fits regs packet g (home_row d k y) x g_fits) in
-        let on : dp ≡ d = sym first.0 ∙ second.0 in
-        let number : key ≡ k = sym first.1 ∙ second.1 in
-        let w = zone q r z y here there (steps.one_port m zones flows c valid keys exact q r port other dp d key k of their on number) in
-        e ∙ (λ i. home_row (on i) (number i) (w i)) ∙ sym x
-
-    backs : ReturnRow b f → ReturnRow b g → f ≡ g
-    backs (ReturnRow.back q port dp key of e) (ReturnRow.back r other d k their x) =
-        let narrow : regs.in_port < 2 ^ 15 = range.in_port_within in
-        let in_port : regs.in_port < 2 ^ 16 = omega arith in
-        let first = fits_return regs packet dp key range.dp_within range.out_port_within in_port (steps.row_fits regs packet f (return_row dp key) e f_fits) in
-        let second = fits_return regs packet d k range.dp_within range.out_port_within in_port (steps.row_fits regs packet g (return_row d k) x g_fits) in
-        let on : dp ≡ d = sym first.0 ∙ second.0 in
-        let number : key ≡ k = sym first.1 ∙ second.1 in
-        e ∙ (λ i. return_row (on i) (number i)) ∙ sym x
-    backs (ReturnRow.back q port dp key of e) (ReturnRow.leave x) = absurd (g_unbeaten (inl (subst (λ (w : Flow). w.priority < f.priority) (sym x) (subst (λ (w : Flow). 0 < w.priority) (sym e) (omega arith)))))
-    backs (ReturnRow.leave x) (ReturnRow.back q port dp key of e) = absurd (f_unbeaten (inl (subst (λ (w : Flow). w.priority < g.priority) (sym x) (subst (λ (w : Flow). 0 < w.priority) (sym e) (omega arith)))))
-    backs (ReturnRow.leave e) (ReturnRow.leave x) = e ∙ sym x
-
-    outputs : OutputRow b f → OutputRow b g → f ≡ g
-    outputs (OutputRow.output q port dp key of e) (OutputRow.output r other d k their x) =
-        let first = fits_exit regs packet dp key range.dp_within range.out_port_within (steps.row_fits regs packet f (output_row dp q key) e f_fits) in
-        let second = fits_exit regs packet d k range.dp_within range.out_port_within (steps.row_fits regs packet g (output_row d r k) x g_fits) in
-        let on : dp ≡ d = sym first.0 ∙ second.0 in
-        let number : key ≡ k = sym first.1 ∙ second.1 in
-        let same : q ≡ r = steps.one_port m zones flows c valid keys exact q r port other dp d key k of their on number in
-        e ∙ (λ i. output_row (on i) (same i) (number i)) ∙ sym x
-
-    -- both are rows of the stage of their table
-    rows : f.table ≡ g.table → TableFlow b f → TableFlow b g → f ≡ g
-    rows t (TableFlow.in_entry r) of = entries r (at_0 b g of (sym t ∙ table_of_entry b f r))
-    rows t (TableFlow.in_s_admit r) of = passes 8 9 (steps.pass_8 b f r) (steps.pass_8 b g (at_8 b g of (sym t ∙ table_of_admit b f r)))
-    rows t (TableFlow.in_s_port_sec r) of = passes 9 10 (steps.pass_9 b f r) (steps.pass_9 b g (at_9 b g of (sym t ∙ table_of_port_sec b f r)))
-    rows t (TableFlow.in_s_track r) of = passes 10 11 (steps.pass_10 b f r) (steps.pass_10 b g (at_10 b g of (sym t ∙ table_of_track b f r)))
-    rows t (TableFlow.in_s_acl_in r) of = passes 11 12 (steps.pass_11 b f r) (steps.pass_11 b g (at_11 b g of (sym t ∙ table_of_acl_in b f r)))
-    rows t (TableFlow.in_s_state_in r) of = passes 12 13 (steps.pass_12 b f r) (steps.pass_12 b g (at_12 b g of (sym t ∙ table_of_state_in b f r)))
-    rows t (TableFlow.in_s_arp r) of = passes 13 14 (steps.pass_13 b f r) (steps.pass_13 b g (at_13 b g of (sym t ∙ table_of_arp b f r)))
-    rows t (TableFlow.in_s_lookup r) of = looks r (at_14 b g of (sym t ∙ table_of_lookup b f r))
-    rows t (TableFlow.in_remote r) of = stays r (at_32 b g of (sym t ∙ table_of_remote b f r))
-    rows t (TableFlow.in_home r) of = homes r (at_33 b g of (sym t ∙ table_of_home b f r))
-    rows t (TableFlow.in_back r) of = backs r (at_34 b g of (sym t ∙ table_of_return b f r))
-    rows t (TableFlow.in_s_track_out r) of = passes 40 41 (steps.pass_40 b f r) (steps.pass_40 b g (at_40 b g of (sym t ∙ table_of_track_out b f r)))
-    rows t (TableFlow.in_s_acl_out r) of = passes 41 42 (steps.pass_41 b f r) (steps.pass_41 b g (at_41 b g of (sym t ∙ table_of_acl_out b f r)))
-    rows t (TableFlow.in_s_state_out r) of = passes 42 43 (steps.pass_42 b f r) (steps.pass_42 b g (at_42 b g of (sym t ∙ table_of_state_out b f r)))
-    rows t (TableFlow.in_s_sec_out r) of = passes 43 64 (steps.pass_43 b f r) (steps.pass_43 b g (at_43 b g of (sym t ∙ table_of_sec_out b f r)))
-    rows t (TableFlow.in_output r) of = outputs r (at_64 b g of (sym t ∙ table_of_output b f r))
-
-  module _ (bound : AreBound m zones) (more : List Flow) (also : AreExactly (TableFlow (basis_at m zones c)) more) (p : Name) where
-    -- of two lists of the flows of the chassis the best flow is one
-    best : (copy : Carried) → IsFine copy → (f g : Flow) → IsBest flows copy.table copy.regs copy.packet f → IsBest more copy.table copy.regs copy.packet g → f ≡ g
-    best copy fine f g h k =
-        let here : TableFlow b f = (exact.same f).0 h.held in
-        let there : TableFlow b g = (also.same g).0 k.held in
-        rows copy.regs fine.in_range copy.packet fine.is_mac f g h.matching.fits k.matching.fits
-        (h.unbeaten g ((exact.same g).1 there) k.matching) (k.unbeaten f ((also.same f).1 here) h.matching)
-        (h.matching.in_table ∙ sym k.matching.in_table) here there
-
-    -- what a flow of the chassis brings on
-    brings_fine : (flow : Flow) → Among flow flows → (copy : Carried) → IsFine copy → AllByRecursion IsFine (going_on (outcome (Vif p) flow.ops copy))
-    brings_fine flow held copy fine =
-        kept p flow.ops copy (row_makes_none b flow ((exact.same flow).0 held)) (proper_sets flow (proper m zones flows c keys bound exact flow held)) fine
-
-    pub one_walk : (copies : List Carried) → AllByRecursion IsFine copies → (path others : List Step) (effects last : List Effect) → IsWalk flows (Vif p) copies path effects → IsWalk more (Vif p) copies others last → (path ≡ others) × (effects ≡ last)
-    one_walk _ fine _ _ _ _ over over = (refl, refl)
-    one_walk _ fine _ _ _ _ (ends copy left path after effects none walk same) (ends _ _ others later last never again is) =
-        let rest = one_walk left fine.1 path others after later walk again in
-        (rest.0, same ∙ ap (λ l. unmatched (Vif p) copy ++ l) rest.1 ∙ sym is)
-    one_walk _ fine _ _ _ _ (ends copy left path after effects none walk same) (takes _ _ next others later last there took again is) =
-        absurd (none next.flow ((exact.same next.flow).1 ((also.same next.flow).0 took.held)) took.matching)
-    one_walk _ fine _ _ _ _ (takes copy left step path after effects here took walk same) (ends _ _ others later last never again is) =
-        absurd (never step.flow ((also.same step.flow).1 ((exact.same step.flow).0 took.held)) took.matching)
-    one_walk _ fine _ _ _ _ (takes copy left step path after effects here took walk same) (takes _ _ next others later last there also_took again is) =
-        let flow : step.flow ≡ next.flow = best copy fine.0 step.flow next.flow took also_took in
-        let equal : step ≡ next = λ i. record { table = (here ∙ sym there) i; flow = flow i } in
-        let moved : IsWalk more (Vif p) (going_on (outcome (Vif p) step.flow.ops copy) ++ left) others later = subst (λ (f : Flow). IsWalk more (Vif p) (going_on (outcome (Vif p) f.ops copy) ++ left) others later) (sym flow) again in
-        let rest =
-        one_walk (going_on (outcome (Vif p) step.flow.ops copy) ++ left) (all_append IsFine (going_on (outcome (Vif p) step.flow.ops copy)) left (brings_fine step.flow took.held copy fine.0) fine.1) path others after later walk moved in (
-          ap (λ s. s ∷ path) equal ∙ ap (λ ss. next ∷ ss) rest.0,
-          same ∙ ap (λ l. (outcome (Vif p) step.flow.ops copy).effects ++ l) rest.1 ∙ ap (λ (f : Flow). (outcome (Vif p) f.ops copy).effects ++ later) flow ∙ sym is,
-        )
-
-start_in_range : (p : Name) → IsInRange (start_regs (Vif p))
-start_in_range p = record {
-  dp_within = omega arith;
-  in_port_within = omega arith;
-  out_port_within = omega arith;
-  next_within = omega arith;
-  z_in_within = omega arith;
-  z_out_within = omega arith;
-  z_dnat_within = omega arith;
-  z_snat_within = omega arith;
-  state_within = omega arith;
-  verdict_within = omega arith;
-  tier_within = omega arith;
-  flags_within = omega arith;
-}
-
--- a packet has one walk in two sound worlds of one state and with the same zones
-same_sent : (one two : Seen) (p : Name) (frame : List ℕ) (effects others : List NetEffect) (walks more : List Walk) → IsSound one → IsSound two → one.state ≡ two.state → one.zones ≡ two.zones
-    → IsSent one.state one.flows p frame effects walks → IsSent two.state two.flows p frame others more → walks ≡ more
-same_sent one two p frame effects others walks more sound also states zones h k =
-    let m = one.state in
-    let packet : h.packet ≡ k.packet = one_packet_at_most h.packet k.packet h.whole k.whole (h.frame_is ∙ sym k.frame_is) in
-    let home : h.chassis ≡ k.chassis = same_Some h.chassis k.chassis (sym h.home ∙ ap (λ (s : state.State). at s.bindings p) states ∙ k.home) in
-    let now = sound.consistent in
-    let exact = sound.compiled.exact h.chassis (now.bound.chassis_there p h.chassis h.home) in
-    let theirs = also.compiled.exact k.chassis (also.consistent.bound.chassis_there p k.chassis k.home) in
-    let moved : AreExactly (TableFlow (basis_at m one.zones h.chassis)) two.flows = subst (λ (b : Basis). AreExactly (TableFlow b) two.flows) (λ i. basis_at (sym states i) (sym zones i) (sym home i)) theirs in
-    let walked : IsWalkOf two.flows (Vif p) h.packet k.steps k.ends = subst (λ x. IsWalkOf two.flows (Vif p) x k.steps k.ends) (sym packet) k.walked in
-    let path =
-    one_walk m one.zones one.flows h.chassis now.valid now.keys exact now.bound two.flows moved p (start (Vif p) h.packet ∷ []) (record { in_range = start_in_range p; is_mac = h.whole.dst }, tt) h.steps k.steps h.ends k.ends h.walked walked in
-    h.walks_are ∙ (λ i. record { chassis = home i; start = Port p; steps = path.0 i } ∷ []) ∙ sym k.walks_are
-
-pub same_walks : (one two : Seen) (event : Event) (effects others : List NetEffect) (walks more : List Walk) → IsSound one → IsSound two → one.state ≡ two.state → one.zones ≡ two.zones
-    → HasWalks one.state one.flows event effects walks → HasWalks two.state two.flows event others more → walks ≡ more
-same_walks one two (event_of.Edit ops) effects others walks more sound also states zones h k = h ∙ sym k
-same_walks one two (event_of.Bind p chassis) effects others walks more sound also states zones h k = h ∙ sym k
-same_walks one two (event_of.AddChassis chassis) effects others walks more sound also states zones h k = h ∙ sym k
-same_walks one two (event_of.Packet p frame) effects others walks more sound also states zones h k = same_sent one two p frame effects others walks more sound also states zones h k
-same_walks one two (event_of.Unread fault) effects others walks more sound also states zones h k = absurd h
-same_walks one two event_of.NotBuilt effects others walks more sound also states zones h k = absurd h
+pub one : OneWalkLaw
+one m zones c flows more valid keys bound exact also entry packet steps others effects last walk again =
+    let s : Setting = record { m = m; zones = zones; chassis = c; flows = flows; now = record { valid = valid; keys = keys; bound = bound }; exact = exact } in
+    one_walk s more also entry (start entry packet ∷ []) steps effects others last walk again

@@ -26,7 +26,7 @@ use Rattle.world_core.proofs.Found.{some_of}
 use Rattle.world_core.proofs.KeyLaws.{no_datapath_key, no_port_key}
 use Rattle.world_core.proofs.Owning.{name_in, birth_in, place_in, not_port, the_one}
 
-map_length : {X Y : Type 0} (f : X → Y) (xs : List X) → length (map f xs) ≡ length xs
+pub map_length : {X Y : Type 0} (f : X → Y) (xs : List X) → length (map f xs) ≡ length xs
 map_length f [] = refl
 map_length f (x ∷ xs) = ap suc (map_length f xs)
 

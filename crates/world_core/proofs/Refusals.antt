@@ -1,5 +1,5 @@
 -- What holds where an event isn't refused.
-use Rattle.std.specs.Prelude.{◌≡◌, ℕ, Bool, true, false, List, [], ◌∷◌, Some, None, Option, is_some, cond, refl}
+use Rattle.std.specs.Prelude.{◌≡◌, ◌<◌, ℕ, Bool, true, false, List, [], ◌∷◌, length, nat_le, Some, None, Option, is_some, cond, refl}
 use Rattle.std.proofs.Common.{sym, subst}
 use Rattle.std.specs.Prelude.{◌||◌}
 use Rattle.std.specs.List.{list_any}
@@ -12,14 +12,16 @@ use Rattle.nb_records.specs.Network.{Network}
 use Rattle.nb_records.specs.declared.record.Record.TheVariants as record_of
 use Rattle.nb_records.specs.declared.record.SwitchPort.{SwitchPort}
 use Rattle.edit_reader.specs.declared.event.Event.TheVariants as event_of
+use Rattle.chassis_sim.specs.State.{numbered}
 use Rattle.event_lines.specs.declared.refusal.Refusal.{Refusal}
+use Rattle.event_lines.specs.declared.refusal.Refusal.TheVariants as why
+use Rattle.std.proofs.lemmas.Bool.{leb-false}
 use Rattle.world_core.specs.Admitted.{IsAdmittedRecord}
 use Rattle.world_core.specs.New.{AreNew}
-use Rattle.world_core.specs.Refusing.{refusal, refusal_of_record, is_chassis}
-use Rattle.world_core.specs.State.{State}
+use Rattle.world_core.specs.Refusing.{refusal, refusal_of_entry, refusal_of_record, too_many_wait}
+use Rattle.world_core.specs.State.{State, is_chassis}
 use Rattle.world_core.specs.Unbuilt.{is_unbuilt_port}
-use Rattle.world_core.proofs.Kept.{new_entry}
-use Rattle.world_core.proofs.Unheld.{built, IsBuilt, all_of_stations}
+use Rattle.world_core.proofs.Unheld.{built, IsBuilt, all_of_stations, macs_once}
 
 both : (a b : Bool) (x y : Refusal) → cond a (cond b None (Some x)) (Some y) ≡ None → b ≡ true
 both true true x y h = refl
@@ -31,8 +33,38 @@ none_first true x rest h = cc
 none_first false x rest h = refl
 
 -- a packet's port is bound
-pub is_bound : (m : State) (p : Name) (frame : List ℕ) → refusal m (event_of.Packet p frame) ≡ None → is_some (at m.bindings p) ≡ true
-is_bound m p frame h = both (is_some (at m.net.ports p)) (is_some (at m.bindings p)) _ _ h
+pub is_bound : (m : State) (p : Name) → refusal_of_entry m p ≡ None → is_some (at m.bindings p) ≡ true
+is_bound m p h = by (is_some (at m.net.ports p)) (is_some (at m.bindings p)) (too_many_wait m) h
+  where
+    by : (a b c : Bool) → cond a (cond b (cond c (Some why.TooManyFrames) None) (Some why.NotBuilt)) (Some (why.NoSuch p)) ≡ None → b ≡ true
+    by true true c h = refl
+    by true false c h = cc
+    by false b c h = cc
+
+-- a frame that is taken waits
+pub waits_so : (m : State) (n : ℕ) → refusal m (event_of.Deliver n) ≡ None → is_some (numbered m.waiting n) ≡ true
+waits_so m n h = by (is_some (numbered m.waiting n)) h
+  where
+    by : (a : Bool) → cond a None (Some (why.NoFrame n)) ≡ None → a ≡ true
+    by true h = refl
+    by false h = cc
+
+-- so does one that is repeated
+pub repeated_so : (m : State) (n : ℕ) → refusal m (event_of.Repeat n) ≡ None → refusal m (event_of.Deliver n) ≡ None
+repeated_so m n h = by (is_some (numbered m.waiting n)) (too_many_wait m) h
+  where
+    by : (a b : Bool) → cond a (cond b (Some why.TooManyFrames) None) (Some (why.NoFrame n)) ≡ None → cond a None (Some (why.NoFrame n)) ≡ None
+    by true b h = refl
+    by false b h = h
+
+-- a chassis that comes is new, and there is room for it
+pub chassis_new : (m : State) (c : Name) → refusal m (event_of.AddChassis c) ≡ None → (is_chassis m c ≡ false) × (length m.chassis < 64)
+chassis_new m c h = by (is_chassis m c) (nat_le 64 (length m.chassis)) refl h
+  where
+    by : (a b : Bool) → nat_le 64 (length m.chassis) ≡ b → cond a (Some (why.DuplicateName c)) (cond b (Some why.LimitChassis) None) ≡ None → (a ≡ false) × (length m.chassis < 64)
+    by true b is h = cc
+    by false true is h = cc
+    by false false is h = (refl, leb-false 64 (length m.chassis) is)
 
 -- the chassis of a binding is there
 pub is_known : (m : State) (p chassis : Name) → refusal m (event_of.Bind p chassis) ≡ None → is_chassis m chassis ≡ true
@@ -53,4 +85,4 @@ is_built net port h = built net port (none_first (is_unbuilt_port net port) _ _ 
 pub is_new : (net : Network) (port : SwitchPort) → refusal_of_record net (record_of.SwitchPort port) ≡ None → IsAdmittedRecord (record_of.SwitchPort port) → AreNew net port
 is_new net port h admitted =
     let is = is_built net port h in
-    new_entry net port admitted.0 admitted.1 admitted.2 (all_of_stations port.addresses is.entries) is.apart is.ips_apart
+    record { macs = admitted; stations = all_of_stations port.addresses is.entries; once = macs_once port.addresses is.entries; apart = is.apart; ips_apart = is.ips_apart }

@@ -1,36 +1,42 @@
 -- What follows for a port that isn't refused.
 use Rattle.std.specs.Prelude.{◌≡◌, ◌<◌, ◌||◌, ◌&&◌, Bool, true, false, List, [], ◌∷◌, Option, Some, None, is_some, nat_le, length, refl}
-use mathlib.Core.Path.{sym, ap, ◌∙◌}
-use mathlib.Core.Logic.{inl, inr}
+use Rattle.std.specs.List.{cons_option}
+use mathlib.Core.Path.{sym, ap, subst, ◌∙◌}
 use Rattle.std.proofs.Math.Dec.{eqb as nat_eq}
-use Rattle.std.proofs.lemmas.Bool.{cases_Bool, false≢true, or_parts, or_right, leb-false}
+use Rattle.std.proofs.lemmas.Bool.{false≢true, or_parts, or_right, leb-false}
 use Rattle.std.proofs.lemmas.Bool.Decides.{Decides-eqb}
-use Rattle.ovn_base.specs.Among.{Among}
+use Rattle.std.proofs.lemmas.Option.{same_Some, none-some}
+use Rattle.ovn_base.specs.Among.{Among, here, there}
+use Rattle.ovn_base.specs.Once.{EachOnce}
 use Rattle.ovn_base.specs.Address.{is_multicast_mac}
 use Rattle.ovn_base.specs.ByName.{at}
 use Rattle.ovn_base.specs.SameName.{bytes_decides, same_name}
 use Rattle.ovn_base.specs.declared.address.Ip4.{Ip4}
 use Rattle.ovn_base.specs.declared.address.Mac.{Mac}
 use Rattle.ovn_base.specs.declared.name.Name.{Name}
-use Rattle.ovn_base.proofs.AmongLaws.{among_any}
+use Rattle.ovn_base.proofs.AmongLaws.{among_any, among_none, filter_map_among}
 use Rattle.nb_records.specs.Network.{Network}
 use Rattle.ovn_base.proofs.Puts.{at_among}
 use Rattle.nb_records.specs.declared.record.PortAddress.{PortAddress}
-use Rattle.nb_records.specs.declared.record.PortAddress.TheVariants.{Ether}
+use Rattle.nb_records.specs.declared.record.PortAddress.TheVariants.{Ether, Unknown}
 use Rattle.nb_records.specs.declared.record.SwitchPort.{SwitchPort}
-use Rattle.world_core.specs.Addresses.{mac_of, ips_of, HasMac, HasIp, IsOfStation}
+use Rattle.world_core.specs.Addresses.{mac_in, macs_in, ips_of, HasMac, HasIp, IsOfStation}
 use Rattle.world_core.specs.Unbuilt.{same_mac, is_zero_mac, is_among, repeats, is_no_entry, clash, clashes, share, has_common, has_no_entry, is_held, is_unbuilt_port}
 
 -- entries with one Ethernet address clash
-one_mac : (a b : PortAddress) → mac_of a ≡ mac_of b → clash a b ≡ true
-one_mac (Ether mac ips) (Ether other others) same = ap (λ (t : Bool). t || has_common ips others) ((bytes_decides mac.0 other.0).1 (ap (λ (m : Mac). m.0) same))
+one_mac : (a b : PortAddress) (mac : Mac) → mac_in a ≡ Some mac → mac_in b ≡ Some mac → clash a b ≡ true
+one_mac (Ether mac ips) (Ether other others) one is also =
+    let same : mac ≡ other = same_Some mac one is ∙ sym (same_Some other one also) in
+    ap (λ (t : Bool). t || has_common ips others) ((bytes_decides mac.0 other.0).1 (ap (λ (m : Mac). m.0) same))
+one_mac (Ether mac ips) Unknown one is also = absurd (none-some one also)
+one_mac Unknown theirs one is also = absurd (none-some one is)
 
 -- where no port of the switch has one of the addresses, none has one of the Ethernet addresses
 pub not_held : (net : Network) (port : SwitchPort) → is_held net port ≡ false → (q : Name) (other : SwitchPort) → at net.ports q ≡ Some other → other.switch ≡ port.switch
     → (mac : Mac) → HasMac other.addresses mac → ¬ HasMac port.addresses mac
 unfolding is_held
 not_held net port free q other found on mac theirs ours =
-    let entries : clash theirs.entry ours.entry ≡ true = one_mac theirs.entry ours.entry (theirs.has ∙ sym ours.has) in
+    let entries : clash theirs.entry ours.entry ≡ true = one_mac theirs.entry ours.entry mac theirs.has ours.has in
     let one : clashes theirs.entry port.addresses ≡ true = among_any (λ entry. clash theirs.entry entry) ours.entry port.addresses ours.among entries in
     let some : share other.addresses port.addresses ≡ true = among_any (λ entry. clashes entry port.addresses) theirs.entry other.addresses theirs.among one in
     let same : same_name other.switch port.switch ≡ true = (bytes_decides other.switch port.switch).1 on in
@@ -42,8 +48,10 @@ not_held net port free q other found on mac theirs ours =
 -- entries with one IP clash
 one_ip : (a b : PortAddress) (ip : Ip4) → Among ip (ips_of a) → Among ip (ips_of b) → clash a b ≡ true
 one_ip (Ether mac ips) (Ether other others) ip ours theirs =
-    let here : is_among others ip ≡ true = among_any (λ (other : Ip4). nat_eq other.0 ip.0) ip others theirs ((Decides-eqb ip.0 ip.0).1 refl) in
-    or_right (same_mac mac other) (has_common ips others) (among_any (λ one. is_among others one) ip ips ours here)
+    let found : is_among others ip ≡ true = among_any (λ (other : Ip4). nat_eq other.0 ip.0) ip others theirs ((Decides-eqb ip.0 ip.0).1 refl) in
+    or_right (same_mac mac other) (has_common ips others) (among_any (λ one. is_among others one) ip ips ours found)
+one_ip (Ether mac ips) Unknown ip ours theirs = absurd (among_none ip theirs)
+one_ip Unknown theirs ip ours also = absurd (among_none ip ours)
 
 -- nor one of the IPs
 pub ip_not_held : (net : Network) (port : SwitchPort) → is_held net port ≡ false → (q : Name) (other : SwitchPort) → at net.ports q ≡ Some other → other.switch ≡ port.switch
@@ -60,21 +68,39 @@ ip_not_held net port free q other found on ip theirs ours =
     false≢true (sym free ∙ held)
 
 -- an entry that a port can have has the address of a station
-of_station : (entry : PortAddress) → is_no_entry entry ≡ false → IsOfStation (mac_of entry)
-of_station (Ether mac ips) h =
-    let parts = or_parts (is_zero_mac mac || is_multicast_mac mac) (repeats ips) h in
-    let addresses = or_parts (is_zero_mac mac) (is_multicast_mac mac) parts.0 in
-    record {
+of_station : (entry : PortAddress) (mac : Mac) → is_no_entry entry ≡ false → mac_in entry ≡ Some mac → IsOfStation mac
+of_station (Ether own ips) mac h is =
+    let parts = or_parts (is_zero_mac own || is_multicast_mac own) (repeats ips) h in
+    let addresses = or_parts (is_zero_mac own) (is_multicast_mac own) parts.0 in
+    subst IsOfStation (same_Some own mac is) (record {
       no_group = addresses.1;
-      not_zero = λ zero. false≢true (sym addresses.0 ∙ (bytes_decides mac.0 (0 ∷ 0 ∷ 0 ∷ 0 ∷ 0 ∷ 0 ∷ [])).1 zero);
-    }
+      not_zero = λ zero. false≢true (sym addresses.0 ∙ (bytes_decides own.0 (0 ∷ 0 ∷ 0 ∷ 0 ∷ 0 ∷ 0 ∷ [])).1 zero);
+    })
+of_station Unknown mac h is = absurd (none-some mac is)
 
 -- so have all
-pub all_of_stations : (addresses : List PortAddress) → has_no_entry addresses ≡ false → (entry : PortAddress) → Among entry addresses → IsOfStation (mac_of entry)
-all_of_stations addresses h entry m = elim (cases_Bool (is_no_entry entry)) [
-  | inl none ↦ absurd (false≢true (sym h ∙ among_any (λ address. is_no_entry address) entry addresses m none))
-  | inr some ↦ of_station entry some
-]
+pub all_of_stations : (addresses : List PortAddress) → has_no_entry addresses ≡ false → (mac : Mac) → HasMac addresses mac → IsOfStation mac
+all_of_stations addresses h mac m = by addresses h m.entry m.among m.has
+  where
+    by : (addresses : List PortAddress) → has_no_entry addresses ≡ false → (entry : PortAddress) → Among entry addresses → mac_in entry ≡ Some mac → IsOfStation mac
+    by [] h entry m is = absurd (among_none entry m)
+    by (address ∷ addresses) h _ here is = of_station address mac (or_parts (is_no_entry address) (clashes address addresses) (or_parts (is_no_entry address || clashes address addresses) (has_no_entry addresses) h).0).0 is
+    by (address ∷ addresses) h entry (there m) is = by addresses (or_parts (is_no_entry address || clashes address addresses) (has_no_entry addresses) h).1 entry m is
+
+-- no entry has the Ethernet address of a later one
+apart_macs : (address : PortAddress) (mac : Mac) (addresses : List PortAddress) → mac_in address ≡ Some mac → clashes address addresses ≡ false → ¬ Among mac (macs_in addresses)
+apart_macs address mac addresses is free m =
+    let found = filter_map_among mac_in mac addresses m in
+    false≢true (sym free ∙ among_any (λ other. clash address other) found.0 addresses found.1 (one_mac address found.0 mac is found.2))
+
+pub macs_once : (addresses : List PortAddress) → has_no_entry addresses ≡ false → EachOnce (macs_in addresses)
+macs_once [] h = tt
+macs_once (address ∷ addresses) h =
+    by (mac_in address) refl (macs_once addresses (or_parts (is_no_entry address || clashes address addresses) (has_no_entry addresses) h).1)
+  where
+    by : (o : Option Mac) → mac_in address ≡ o → EachOnce (macs_in addresses) → EachOnce (cons_option o (macs_in addresses))
+    by None is rest = rest
+    by (Some mac) is rest = (apart_macs address mac addresses is (or_parts (is_no_entry address) (clashes address addresses) (or_parts (is_no_entry address || clashes address addresses) (has_no_entry addresses) h).0).1, rest)
 
 -- a name that a look-up doesn't find
 pub not_there : {X : Type 0} (o : Option X) → is_some o ≡ false → o ≡ None

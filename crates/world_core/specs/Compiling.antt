@@ -6,6 +6,7 @@ use Rattle.world_core.specs.Stages.{Basis}
 abbrev pub basis_of : maps.Maps → Basis
 basis_of m = record {
   chassis = m.chassis;
+  all = m.all.now;
   net = m.records.now;
   bindings = m.bindings.now.entries;
   keys = m.keys.now;

@@ -4,7 +4,7 @@ use Rattle.std.specs.Ordering.{nat_cmp, match_ordering}
 use Rattle.std.specs.Cmp.Lexicographic.{slice_cmp}
 use Rattle.ovn_base.specs.declared.address.Birth.{Birth}
 use Rattle.ovn_base.specs.declared.name.Name.{Name}
-use Rattle.ovn_base.specs.ByName.{in_order, IsByName}
+use Rattle.ovn_base.specs.ByName.{in_order}
 use Rattle.nb_records.specs.Network.{Network, with_record}
 use Rattle.nb_records.specs.declared.record.Op.{Op}
 use Rattle.nb_records.specs.declared.record.Op.TheVariants.{Add}
@@ -13,7 +13,7 @@ use Rattle.nb_records.specs.declared.record.Record.TheVariants.{Switch, SwitchPo
 use Rattle.switch_engine.specs.declared.effect.NetEffect.{NetEffect}
 use Rattle.switch_engine.specs.declared.effect.NetEffect.TheVariants.{DatapathKey, PortKey}
 use Rattle.tunnel_keys.specs.Edits.{GivesKeys}
-use Rattle.tunnel_keys.specs.Keys.{Keys}
+use Rattle.tunnel_keys.specs.Keys.{Keys, IsKeys}
 use Rattle.tunnel_keys.specs.Owners.{datapaths_in, ports_in}
 use Rattle.tunnel_keys.specs.declared.owner.KeyOwner.{KeyOwner}
 use Rattle.tunnel_keys.specs.declared.owner.KeyOwner.TheVariants.{Datapath, Port}
@@ -55,19 +55,14 @@ added_ports owners keys = flat_map (λ d. in_order (ports_in d.0 owners)) keys.d
 abbrev pub key_effects : List KeyOwner → Keys → List NetEffect
 key_effects owners keys = map (datapath_effect keys) (in_order (datapaths_in owners)) ++ map (port_effect keys) (added_ports owners keys)
 
--- the state, with one event more that was accepted
-abbrev pub counted : State → State
-counted m = record m { accepted = m.accepted + 1 }
-
 -- an accepted edit: the records come, keys are given, legal ones, and its effects name them
 pub record Edits (m : State) (ops : List Op) (effects : List NetEffect) (after : State) : Type 0 where
   pub keys : Keys
-  -- they stand in order of name
-  pub datapaths_in_order : IsByName keys.datapaths
-  pub ports_in_order : IsByName keys.ports
+  -- they are in range and in order of name, and nobody has another's
+  pub hold : IsKeys keys
   pub given : GivesKeys m.keys (owners_of ops (events_of m + 1)) [] keys
   pub effects_are : effects ≡ key_effects (owners_of ops (events_of m + 1)) keys
-  pub state : after ≡ record (counted m) { net = accepted m.net ops (events_of m + 1); keys = keys }
+  pub state : after ≡ record m { net = accepted m.net ops (events_of m + 1); keys = keys }
 
 -- the names with one more, in order
 abbrev pub with_name : List Name → Name → List Name

@@ -1,16 +1,18 @@
--- The names of numbers: an effect of the tables, said in names.
+-- The ends of packets in numbers: what the tables do with a packet, and what becomes of it in the network.
 use Rattle.std.specs.Prelude.{◌≡◌, ℕ, Some}
+use Rattle.ovn_base.specs.ByName.{at}
 use Rattle.ovn_base.specs.declared.name.Name.{Name}
+use Rattle.inet_packet.specs.Frame.{frame_of}
 use Rattle.inet_packet.specs.declared.packet.Packet.{Packet}
 use Rattle.flow_table.specs.declared.flow.Cause.{Cause}
-use Rattle.ovn_base.specs.ByName.{at}
 use Rattle.switch_engine.specs.declared.effect.Effect.{Effect}
 use Rattle.switch_engine.specs.declared.effect.Effect.TheVariants as effect
-use Rattle.switch_engine.specs.declared.effect.NetEffect.{NetEffect}
-use Rattle.switch_engine.specs.declared.effect.NetEffect.TheVariants as net
 use Rattle.tunnel_keys.specs.Keys.{Keys}
 use Rattle.tunnel_keys.specs.declared.owner.DatapathKey.{DatapathKey}
 use Rattle.tunnel_keys.specs.declared.owner.PortKey.{PortKey}
+use Rattle.world_core.specs.declared.crossing.Crossing.{Crossing}
+use Rattle.world_core.specs.Effects.{datapath_key, port_key, aim_key}
+use Rattle.world_core.specs.Visit.{End, leaves, is_dropped, crosses, is_lost}
 
 -- the datapath of this name has the key
 pub record HasDatapathKey (keys : Keys) (a : Name) (key : ℕ) : Type 0 where
@@ -25,7 +27,10 @@ pub record HasPortKey (keys : Keys) (a q : Name) (key : ℕ) : Type 0 where
   pub on : live.datapath ≡ a
   pub number : live.key ≡ key
 
--- the effect in names is that of the tables: its names have the numbers; a frame and a loss have no names
-pub data IsNamed (keys : Keys) : Effect → NetEffect → Type 0 where
-  out : {port : Name} {packet : Packet} → IsNamed keys (effect.Out port packet) (net.Out port packet)
-  drop : {vni key : ℕ} {cause : Cause} {a q : Name} → HasDatapathKey keys a vni → HasPortKey keys a q key → IsNamed keys (effect.Drop vni key cause) (net.Drop a q cause)
+-- the effect of the tables is that end: its numbers are the keys of whom it names
+pub data IsNumbered (keys : Keys) : End → Effect → Type 0 where
+  out : {q : Name} {packet : Packet} → IsNumbered keys (leaves q packet) (effect.Out q packet)
+  drop : {a q : Name} {cause : Cause} {vni key : ℕ} → HasDatapathKey keys a vni → HasPortKey keys a q key → IsNumbered keys (is_dropped a q cause) (effect.Drop vni key cause)
+  frame : {x : Crossing} {packet : Packet} → frame_of packet ≡ x.frame
+      → IsNumbered keys (crosses x) (effect.Frame x.home (datapath_key keys x.datapath) (port_key keys x.in_port) (aim_key keys x.aim) packet)
+  lost : {n : ℕ} → IsNumbered keys (is_lost n) effect.Lost

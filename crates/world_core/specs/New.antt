@@ -1,6 +1,5 @@
 -- The addresses of a port that comes.
-use Rattle.std.specs.Prelude.{◌≡◌, Some, map}
-use Rattle.ovn_base.specs.Among.{Among}
+use Rattle.std.specs.Prelude.{◌≡◌, Some}
 use Rattle.ovn_base.specs.Address.{IsMac}
 use Rattle.ovn_base.specs.declared.address.Ip4.{Ip4}
 use Rattle.ovn_base.specs.declared.address.Mac.{Mac}
@@ -8,14 +7,13 @@ use Rattle.ovn_base.specs.declared.name.Name.{Name}
 use Rattle.ovn_base.specs.Once.{EachOnce}
 use Rattle.ovn_base.specs.ByName.{at}
 use Rattle.nb_records.specs.Network.{Network}
-use Rattle.nb_records.specs.declared.record.PortAddress.{PortAddress}
 use Rattle.nb_records.specs.declared.record.SwitchPort.{SwitchPort}
-use Rattle.world_core.specs.Addresses.{mac_of, HasMac, HasIp, IsOfStation}
+use Rattle.world_core.specs.Addresses.{macs_in, HasMac, HasIp, IsOfStation}
 
 -- its addresses are Ethernet addresses of stations, each of one entry, and no port of its switch has one of them, or one of its IPs
 pub record AreNew (net : Network) (port : SwitchPort) : Type 0 where
-  pub macs : (entry : PortAddress) → Among entry port.addresses → IsMac (mac_of entry)
-  pub stations : (entry : PortAddress) → Among entry port.addresses → IsOfStation (mac_of entry)
-  pub once : EachOnce (map (λ entry. mac_of entry) port.addresses)
+  pub macs : (mac : Mac) → HasMac port.addresses mac → IsMac mac
+  pub stations : (mac : Mac) → HasMac port.addresses mac → IsOfStation mac
+  pub once : EachOnce (macs_in port.addresses)
   pub apart : (q : Name) (other : SwitchPort) → at net.ports q ≡ Some other → other.switch ≡ port.switch → (mac : Mac) → HasMac other.addresses mac → ¬ HasMac port.addresses mac
   pub ips_apart : (q : Name) (other : SwitchPort) → at net.ports q ≡ Some other → other.switch ≡ port.switch → (ip : Ip4) → HasIp other.addresses ip → ¬ HasIp port.addresses ip

@@ -1,19 +1,18 @@
 -- When an event is refused, and why: the first cause that holds.
-use Rattle.std.specs.Prelude.{◌||◌, Bool, List, [], ◌∷◌, Some, None, Option, if◌then◌else◌, is_some, nat_le, nat_lt, length}
-use Rattle.std.specs.List.{list_any}
+use Rattle.std.specs.Prelude.{◌||◌, Bool, List, [], ◌∷◌, Some, None, Option, if◌then◌else◌, is_some, nat_le, length}
 use Rattle.ovn_base.specs.declared.name.Name.{Name}
 use Rattle.ovn_base.specs.ByName.{at}
-use Rattle.ovn_base.specs.SameName.{same_name}
 use Rattle.nb_records.specs.Network.{Network}
 use Rattle.nb_records.specs.declared.record.Op.{Op}
 use Rattle.nb_records.specs.declared.record.Op.TheVariants.{Add}
 use Rattle.nb_records.specs.declared.record.Record.{Record}
 use Rattle.nb_records.specs.declared.record.Record.TheVariants as record_of
 use Rattle.edit_reader.specs.declared.event.Event.{Event}
-use Rattle.edit_reader.specs.declared.event.Event.TheVariants.{Edit, Bind, AddChassis, Packet, Unread, NotBuilt}
+use Rattle.edit_reader.specs.declared.event.Event.TheVariants.{Edit, Bind, AddChassis, Inject, Deliver, Lose, Repeat, Drain, Packet, Unread, NotBuilt}
 use Rattle.event_lines.specs.declared.refusal.Refusal.{Refusal}
 use Rattle.event_lines.specs.declared.refusal.Refusal.TheVariants as why
-use Rattle.world_core.specs.State.{State}
+use Rattle.chassis_sim.specs.State.{numbered}
+use Rattle.world_core.specs.State.{State, is_chassis}
 use Rattle.world_core.specs.Unbuilt.{is_unbuilt_port}
 
 -- why an added record is refused
@@ -31,17 +30,26 @@ refusal_of_edit net [] = Some why.NotBuilt
 refusal_of_edit net (op ∷ []) = refusal_of_op net op
 refusal_of_edit net (op ∷ next ∷ ops) = Some why.NotBuilt
 
--- the chassis is there
-abbrev pub is_chassis : State → Name → Bool
-is_chassis m chassis = list_any (λ c. same_name c chassis) m.chassis
+-- so many frames wait that no event may add to them
+abbrev pub too_many_wait : State → Bool
+too_many_wait m = nat_le 65536 (length m.waiting)
+
+-- why a packet that would enter at the port is refused: the port isn't there, or isn't bound, or too many frames wait
+abbrev pub refusal_of_entry : State → Name → Option Refusal
+refusal_of_entry m port =
+    if is_some (at m.net.ports port) then (if is_some (at m.bindings port) then (if too_many_wait m then Some why.TooManyFrames else None) else Some why.NotBuilt) else Some (why.NoSuch port)
 
 -- why the event is refused, if it is: the port comes before the chassis, and a port that isn't there before one that isn't bound
 abbrev pub refusal : State → Event → Option Refusal
 refusal m (Edit ops) = refusal_of_edit m.net ops
 refusal m (Bind port chassis) =
     if is_some (at m.net.ports port) then (if is_chassis m chassis then None else Some (why.NoSuch chassis)) else Some (why.NoSuch port)
-refusal m (AddChassis chassis) = if nat_lt 0 (length m.chassis) then Some why.NotBuilt else None
-refusal m (Packet port frame) =
-    if is_some (at m.net.ports port) then (if is_some (at m.bindings port) then None else Some why.NotBuilt) else Some (why.NoSuch port)
+refusal m (AddChassis chassis) = if is_chassis m chassis then Some (why.DuplicateName chassis) else (if nat_le 64 (length m.chassis) then Some why.LimitChassis else None)
+refusal m (Inject port frame) = refusal_of_entry m port
+refusal m (Deliver n) = if is_some (numbered m.waiting n) then None else Some (why.NoFrame n)
+refusal m (Lose n) = if is_some (numbered m.waiting n) then None else Some (why.NoFrame n)
+refusal m (Repeat n) = if is_some (numbered m.waiting n) then (if too_many_wait m then Some why.TooManyFrames else None) else Some (why.NoFrame n)
+refusal m Drain = None
+refusal m (Packet port frame) = refusal_of_entry m port
 refusal m (Unread fault) = Some (why.Read fault)
 refusal m NotBuilt = Some why.NotBuilt

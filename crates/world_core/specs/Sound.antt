@@ -1,5 +1,9 @@
 -- What holds of the state of a world after every event, and of the flows that its chassis holds.
-use Rattle.std.specs.Prelude.{◌≡◌, ◌≤◌, ◌<◌, ◌↔◌, ◌^◌, ℕ, List, [], Some, IsSome, length, map}
+use Rattle.std.specs.Prelude.{◌≡◌, ◌≢◌, ◌≤◌, ◌<◌, ◌↔◌, ◌+◌, ◌*◌, ◌^◌, ℕ, IsTrue, List, [], Some, IsSome, length}
+use Rattle.std.specs.Cmp.Lexicographic.{slice_cmp}
+use Rattle.std.specs.List.Sorted.{IsStrictlySortedBy}
+use Rattle.std.specs.Map.{keys_of}
+use Rattle.std.specs.Ordering.{nat_cmp}
 use Rattle.ovn_base.specs.Among.{Among}
 use Rattle.ovn_base.specs.Address.{IsMac}
 use Rattle.ovn_base.specs.declared.address.Ip4.{Ip4}
@@ -7,9 +11,11 @@ use Rattle.ovn_base.specs.declared.address.Mac.{Mac}
 use Rattle.ovn_base.specs.declared.name.Name.{Name}
 use Rattle.ovn_base.specs.Once.{EachOnce}
 use Rattle.ovn_base.specs.ByName.{at, IsByName}
+use Rattle.inet_packet.specs.Frame.{frame_of}
+use Rattle.inet_packet.specs.Whole.{IsWhole}
+use Rattle.inet_packet.specs.declared.packet.Packet.{Packet}
 use Rattle.flow_table.specs.declared.flow.Flow.{Flow}
 use Rattle.nb_records.specs.Network.{Network, empty_network}
-use Rattle.nb_records.specs.declared.record.PortAddress.{PortAddress}
 use Rattle.nb_records.specs.declared.record.Switch.{Switch}
 use Rattle.nb_records.specs.declared.record.SwitchPort.{SwitchPort}
 use Rattle.tunnel_keys.specs.Keys.{Keys, IsKeys, held_datapaths, held_ports}
@@ -17,7 +23,12 @@ use Rattle.tunnel_keys.specs.declared.owner.DatapathKey.{DatapathKey}
 use Rattle.tunnel_keys.specs.declared.owner.PortKey.{PortKey}
 use Rattle.tunnel_keys.specs.declared.owner.HeldDatapath.{HeldDatapath}
 use Rattle.tunnel_keys.specs.declared.owner.HeldPort.{HeldPort}
-use Rattle.world_core.specs.Addresses.{mac_of, HasMac, HasIp, IsOfStation}
+use Rattle.tunnel_keys.specs.declared.owner.Identity.{Identity}
+use Rattle.world_core.specs.Addresses.{macs_in, HasMac, HasIp, IsOfStation}
+use Rattle.world_core.specs.declared.crossing.Crossing.{Crossing}
+use Rattle.world_core.specs.declared.crossing.Aim.{Aim}
+use Rattle.world_core.specs.declared.crossing.Aim.TheVariants.{ToPort, ToGroup}
+use Rattle.world_core.specs.Visit.{is_switch}
 use Rattle.world_core.specs.State.{State, events_of}
 use Rattle.world_core.specs.Stages.{Basis}
 use Rattle.world_core.specs.Tables.{TableFlow}
@@ -29,10 +40,10 @@ pub record IsValid (net : Network) : Type 0 where
   pub switch_names : (a : Name) (switch : Switch) → at net.switches a ≡ Some switch → switch.name ≡ a
   pub port_names : (q : Name) (port : SwitchPort) → at net.ports q ≡ Some port → port.name ≡ q
   pub on_switch : (q : Name) (port : SwitchPort) → at net.ports q ≡ Some port → IsSome (at net.switches port.switch)
-  -- each entry has the Ethernet address of a station, and no other entry of the port has it
-  pub macs : (q : Name) (port : SwitchPort) (entry : PortAddress) → at net.ports q ≡ Some port → Among entry port.addresses → IsMac (mac_of entry)
-  pub stations : (q : Name) (port : SwitchPort) (entry : PortAddress) → at net.ports q ≡ Some port → Among entry port.addresses → IsOfStation (mac_of entry)
-  pub once : (q : Name) (port : SwitchPort) → at net.ports q ≡ Some port → EachOnce (map (λ entry. mac_of entry) port.addresses)
+  -- each Ethernet address is a station's, and of one entry of the port
+  pub macs : (q : Name) (port : SwitchPort) (mac : Mac) → at net.ports q ≡ Some port → HasMac port.addresses mac → IsMac mac
+  pub stations : (q : Name) (port : SwitchPort) (mac : Mac) → at net.ports q ≡ Some port → HasMac port.addresses mac → IsOfStation mac
+  pub once : (q : Name) (port : SwitchPort) → at net.ports q ≡ Some port → EachOnce (macs_in port.addresses)
   -- no two ports of a switch have one Ethernet address, or one IP
   pub apart : (p q : Name) (ours theirs : SwitchPort) (mac : Mac) → at net.ports p ≡ Some ours → at net.ports q ≡ Some theirs → ours.switch ≡ theirs.switch
       → HasMac ours.addresses mac → HasMac theirs.addresses mac → p ≡ q
@@ -56,19 +67,23 @@ pub record HaveKeys (net : Network) (keys : Keys) : Type 0 where
   -- no event changes the ranges
   pub datapath_range : keys.datapath_range ≡ 16777215
   pub port_range : keys.port_range ≡ 32767
-  -- no frame waits, so that no key is retired
+  -- no record goes yet, so that no key is retired
   pub no_retired_datapaths : keys.retired_datapaths ≡ []
   pub no_retired_ports : keys.retired_ports ≡ []
 
--- each binding joins a port and a chassis that are there, and each bound port has a zone of its own on its chassis
+-- each binding joins a port and a chassis that are there; there are at most 64 chassis; and each bound port has a zone number, which no
+-- other port has on its chassis
 pub record AreBound (m : State) (zones : List (Name × ℕ)) : Type 0 where
+  pub bindings_sorted : IsByName m.bindings
   pub port_there : (q c : Name) → at m.bindings q ≡ Some c → IsSome (at m.net.ports q)
   pub chassis_there : (q c : Name) → at m.bindings q ≡ Some c → Among c m.chassis
-  pub one_chassis : length m.chassis ≤ 1
+  pub chassis_sorted : IsStrictlySortedBy (slice_cmp nat_cmp) m.chassis
+  pub few_chassis : length m.chassis ≤ 64
+  pub zones_sorted : IsByName zones
   pub has_zone : (q c : Name) → at m.bindings q ≡ Some c → IsSome (at zones q)
   pub zone_of : (q : Name) (z : ℕ) → at zones q ≡ Some z → IsSome (at m.bindings q)
   pub zone_fits : (q : Name) (z : ℕ) → at zones q ≡ Some z → (1 ≤ z) × (z < 2 ^ 16)
-  pub zones_apart : (p q : Name) (z : ℕ) → at zones p ≡ Some z → at zones q ≡ Some z → p ≡ q
+  pub zones_apart : (p q c : Name) (z : ℕ) → at m.bindings p ≡ Some c → at m.bindings q ≡ Some c → at zones p ≡ Some z → at zones q ≡ Some z → p ≡ q
 
 -- no record, and no owner of a key, is younger than the last event, and where no event was accepted there is no record
 pub record AreBorn (m : State) : Type 0 where
@@ -78,6 +93,44 @@ pub record AreBorn (m : State) : Type 0 where
   pub port_keys : (a : HeldPort) → Among a (held_ports m.keys) → a.owner.birth.0 ≤ events_of m
   pub none : m.accepted ≡ 0 → m.net ≡ empty_network
 
+-- who an aim names has or had a key
+abbrev pub HasAimKey : Keys → Aim → Type 0
+HasAimKey keys (ToPort id) = (h : HeldPort) × Among h (held_ports keys) × (h.owner ≡ id)
+HasAimKey keys (ToGroup g) = Unit {0}
+
+-- Where the datapath's key is live, that datapath is a switch, and the port's key is one of that datapath.
+abbrev pub IsOnLive : State → Identity → Identity → Type 0
+IsOnLive m datapath port = IsTrue (is_switch m.net datapath) → (h : HeldPort) → Among h (held_ports m.keys) → h.owner ≡ port → h.datapath ≡ datapath
+
+abbrev pub IsAimOnLive : State → Identity → Aim → Type 0
+IsAimOnLive m datapath (ToPort id) = IsOnLive m datapath id
+IsAimOnLive m datapath (ToGroup g) = Unit {0}
+
+-- a crossing may wait: its frame is that of a whole packet, who it names has or had keys, and it doesn't go back to its port of entry
+pub record MayWait (m : State) (x : Crossing) : Type 0 where
+  pub packet : Packet
+  pub whole : IsWhole packet
+  pub frame_is : frame_of packet ≡ x.frame
+  pub datapath_key : (h : HeldDatapath) × Among h (held_datapaths m.keys) × (h.owner ≡ x.datapath)
+  pub in_key : (h : HeldPort) × Among h (held_ports m.keys) × (h.owner ≡ x.in_port)
+  pub aim_key : HasAimKey m.keys x.aim
+  pub in_live : IsOnLive m x.datapath x.in_port
+  pub aim_live : IsAimOnLive m x.datapath x.aim
+  pub no_return : x.aim ≢ ToPort x.in_port
+
+-- the crossings that wait have numbers below the next one, each of its own
+pub record AreCrossings (m : State) : Type 0 where
+  pub in_order : IsStrictlySortedBy nat_cmp (keys_of m.waiting)
+  pub below : (n : ℕ) (x : Crossing) → Among (n, x) m.waiting → (1 ≤ n) × (n < m.next)
+  pub may : (n : ℕ) (x : Crossing) → Among (n, x) m.waiting → MayWait m x
+  pub first : 1 ≤ m.next
+
+-- between events: there weren't many, and where no event was accepted, none waits
+pub record AreOnTheWay (m : State) : Type 0 where
+  pub crossings : AreCrossings m
+  pub few : m.next ≤ 1 + 2 ^ 64 * events_of m
+  pub none : m.accepted ≡ 0 → m.waiting ≡ []
+
 -- the flows are exactly those of the set, each once
 pub record AreExactly (Wanted : Flow → Type 0) (held : List Flow) : Type 0 where
   pub same : (f : Flow) → Among f held ↔ Wanted f
@@ -85,8 +138,8 @@ pub record AreExactly (Wanted : Flow → Type 0) (held : List Flow) : Type 0 whe
 
 -- what the flows of a chassis follow from, in this state
 abbrev pub basis_at : State → List (Name × ℕ) → Name → Basis
-basis_at m zones chassis = record { chassis = chassis; net = m.net; bindings = m.bindings; keys = m.keys; zones = zones }
+basis_at m zones chassis = record { chassis = chassis; all = m.chassis; net = m.net; bindings = m.bindings; keys = m.keys; zones = zones }
 
--- each chassis holds exactly its flows
-pub record AreCompiled (m : State) (zones : List (Name × ℕ)) (flows : List Flow) : Type 0 where
-  pub exact : (chassis : Name) → Among chassis m.chassis → AreExactly (TableFlow (basis_at m zones chassis)) flows
+-- the flows of a chassis in this state
+abbrev pub AreFlowsOf : State → List (Name × ℕ) → Name → List Flow → Type 0
+AreFlowsOf m zones chassis flows = AreExactly (TableFlow (basis_at m zones chassis)) flows

@@ -1,22 +1,28 @@
 -- The rows of each stage, as sets: a constructor for each kind of row.
-use Rattle.std.specs.Prelude.{◌≡◌, ℕ, List, Some}
-use Rattle.ovn_base.specs.Among.{Among}
+use Rattle.std.specs.Prelude.{◌≡◌, ◌≢◌, ℕ, Bool, List, length, map, nat_lt, Some, unwrap_or}
 use Rattle.ovn_base.specs.declared.name.Name.{Name}
 use Rattle.flow_table.specs.declared.flow.Flow.{Flow}
 use Rattle.ovn_base.specs.ByName.{at}
 use Rattle.nb_records.specs.Network.{Network}
-use Rattle.nb_records.specs.declared.record.PortAddress.{PortAddress}
+use Rattle.ovn_base.specs.declared.address.Mac.{Mac}
+use Rattle.flow_table.specs.declared.flow.Member.{Member}
 use Rattle.nb_records.specs.declared.record.Switch.{Switch}
 use Rattle.nb_records.specs.declared.record.SwitchPort.{SwitchPort}
 use Rattle.tunnel_keys.specs.Keys.{Keys}
 use Rattle.tunnel_keys.specs.declared.owner.DatapathKey.{DatapathKey}
 use Rattle.tunnel_keys.specs.declared.owner.PortKey.{PortKey}
-use Rattle.world_core.specs.Addresses.{mac_of}
-use Rattle.world_core.specs.Rows.{entry_row, pass_row, address_row, unknown_row, stay_row, home_row, return_row, leave_row, output_row}
+use Rattle.world_core.specs.Addresses.{HasMac}
+use Rattle.world_core.specs.declared.crossing.Group.{Group}
+use Rattle.world_core.specs.declared.crossing.Group.TheVariants.{Unknown}
+use Rattle.world_core.specs.Homes.{members, members_at, other_homes}
+use Rattle.world_core.specs.Numbers.{port_number}
+use Rattle.world_core.specs.Rows.{entry_row, arrival_row, pass_row, bad_source_row, vlan_row, flood_row, address_row, unknown_row, remote_row, spread_row, stay_row, home_row, copies_row, return_row, leave_row, output_row}
 
--- what the flows of a chassis follow from: its name, the records, the chassis of each bound port, the keys, and the numbers of the zones
+-- what the flows of a chassis follow from: its name, all chassis, the records, the chassis of each bound port, the keys, and the
+-- numbers of the zones
 pub record Basis : Type 0 where
   pub chassis : Name
+  pub all : List Name
   pub net : Network
   pub bindings : List (Name × Name)
   pub keys : Keys
@@ -43,12 +49,30 @@ pub record IsHere (b : Basis) (q : Name) (zone : ℕ) : Type 0 where
   pub bound : at b.bindings q ≡ Some b.chassis
   pub zoned : at b.zones q ≡ Some zone
 
+-- the members of a group that are at home on this chassis, each with its key and its zone, in order of name
+abbrev pub member_of : Basis → Name → Member
+member_of b q = record { key = unwrap_or (port_number b.keys q) 0; zone = unwrap_or (at b.zones q) 0 }
+
+abbrev pub members_here : Basis → Name → Group → List Member
+members_here b a group = map (λ q. member_of b q) (members_at b.net b.bindings a group b.chassis)
+
+-- the other chassis that have a member of the group
+abbrev pub homes_of : Basis → Name → Group → List Name
+homes_of b a group = other_homes b.net b.bindings b.all a group b.chassis
+
+-- some port of the switch takes packets for unknown addresses
+abbrev pub has_unknown : Basis → Name → Bool
+has_unknown b a = nat_lt 0 (length (members b.net a Unknown))
+
 -- table 0: entry
 pub data EntryRow (b : Basis) (f : Flow) : Type 0 where
   entry : (q : Name) (port : SwitchPort) (dp key zone : ℕ) → IsPort b q port dp key → IsHere b q zone → f ≡ entry_row q dp key zone → EntryRow b f
+  arrival : f ≡ arrival_row → EntryRow b f
 
 -- table 8: s_admit
 pub data AdmitRow (b : Basis) (f : Flow) : Type 0 where
+  bad_source : (a : Name) (dp : ℕ) → IsDatapath b a dp → f ≡ bad_source_row dp → AdmitRow b f
+  vlan : (a : Name) (dp : ℕ) → IsDatapath b a dp → f ≡ vlan_row dp → AdmitRow b f
   s_admit_base : (a : Name) (dp : ℕ) → IsDatapath b a dp → f ≡ pass_row dp 8 9 → AdmitRow b f
 
 -- table 9: s_port_sec
@@ -73,16 +97,20 @@ pub data ArpRow (b : Basis) (f : Flow) : Type 0 where
 
 -- table 14: s_lookup
 pub data LookupRow (b : Basis) (f : Flow) : Type 0 where
-  address : (q : Name) (port : SwitchPort) (dp key : ℕ) (entry : PortAddress) → IsPort b q port dp key → Among entry port.addresses → f ≡ address_row dp (mac_of entry) key → LookupRow b f
-  unknown : (a : Name) (dp : ℕ) → IsDatapath b a dp → f ≡ unknown_row dp → LookupRow b f
+  flood_to : (a : Name) (dp : ℕ) → IsDatapath b a dp → f ≡ flood_row dp → LookupRow b f
+  address : (q : Name) (port : SwitchPort) (dp key : ℕ) (mac : Mac) → IsPort b q port dp key → HasMac port.addresses mac → f ≡ address_row dp mac key → LookupRow b f
+  unknown_to : (a : Name) (dp : ℕ) → IsDatapath b a dp → f ≡ unknown_row dp (has_unknown b a) → LookupRow b f
 
 -- table 32: other chassis
 pub data RemoteRow (b : Basis) (f : Flow) : Type 0 where
+  remote : (q : Name) (port : SwitchPort) (dp key : ℕ) (home : Name) → IsPort b q port dp key → at b.bindings q ≡ Some home → home ≢ b.chassis → f ≡ remote_row dp key home → RemoteRow b f
+  spread : (a : Name) (dp : ℕ) (group : Group) → IsDatapath b a dp → f ≡ spread_row dp group (homes_of b a group) → RemoteRow b f
   stay : f ≡ stay_row → RemoteRow b f
 
 -- table 33: home
 pub data HomeRow (b : Basis) (f : Flow) : Type 0 where
   home : (q : Name) (port : SwitchPort) (dp key zone : ℕ) → IsPort b q port dp key → IsHere b q zone → f ≡ home_row dp key zone → HomeRow b f
+  copies : (a : Name) (dp : ℕ) (group : Group) (arrived : Bool) → IsDatapath b a dp → f ≡ copies_row dp group arrived (members_here b a group) → HomeRow b f
 
 -- table 34: no way back
 pub data ReturnRow (b : Basis) (f : Flow) : Type 0 where

@@ -10,7 +10,7 @@ use Rattle.ovn_base.specs.ByName.{at}
 use Rattle.ovn_base.specs.SameName.{same_name}
 use Rattle.nb_records.specs.Network.{Network}
 use Rattle.nb_records.specs.declared.record.PortAddress.{PortAddress}
-use Rattle.nb_records.specs.declared.record.PortAddress.TheVariants.{Ether}
+use Rattle.nb_records.specs.declared.record.PortAddress.TheVariants.{Ether, Unknown}
 use Rattle.nb_records.specs.declared.record.SwitchPort.{SwitchPort}
 
 abbrev pub same_mac : Mac → Mac → Bool
@@ -31,6 +31,8 @@ has_common ips others = list_any (λ ip. is_among others ip) ips
 -- the two entries have an Ethernet address or an IP in common
 abbrev pub clash : PortAddress → PortAddress → Bool
 clash (Ether mac ips) (Ether other others) = same_mac mac other || has_common ips others
+clash (Ether mac ips) Unknown = false
+clash Unknown theirs = false
 
 -- the entry clashes with one of the list
 abbrev pub clashes : PortAddress → List PortAddress → Bool
@@ -48,9 +50,12 @@ repeats (ip ∷ ips) = is_among ips ip || repeats ips
 -- no port can have the entry: its Ethernet address is zero or one of a group, or it has an IP twice
 abbrev pub is_no_entry : PortAddress → Bool
 is_no_entry (Ether mac ips) = is_zero_mac mac || is_multicast_mac mac || repeats ips
+is_no_entry Unknown = false
 
+-- nor entries that have an address in common
 abbrev pub has_no_entry : List PortAddress → Bool
-has_no_entry addresses = list_any (λ address. is_no_entry address) addresses
+has_no_entry [] = false
+has_no_entry (address ∷ addresses) = is_no_entry address || clashes address addresses || has_no_entry addresses
 
 -- another port of the switch has one of the addresses
 unfoldable pub is_held : Network → SwitchPort → Bool

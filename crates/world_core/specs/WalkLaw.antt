@@ -1,31 +1,81 @@
 -- What the tables of a chassis do with a packet is what the logical network says.
 use Rattle.std.specs.Prelude.{◌≡◌, ℕ, List, Some}
 use Rattle.std.specs.List.{AllZip}
-use Rattle.ovn_base.specs.Address.{IsMac}
+use Rattle.ovn_base.specs.Among.{Among}
+use Rattle.ovn_base.specs.ByName.{at}
 use Rattle.ovn_base.specs.declared.name.Name.{Name}
+use Rattle.inet_packet.specs.Frame.{frame_of}
+use Rattle.inet_packet.specs.Whole.{IsWhole}
 use Rattle.inet_packet.specs.declared.packet.Packet.{Packet}
 use Rattle.flow_table.specs.declared.flow.Flow.{Flow}
-use Rattle.switch_engine.specs.declared.effect.Effect.{Effect}
-use Rattle.switch_engine.specs.declared.effect.Entry.TheVariants.{Vif}
-use Rattle.switch_engine.specs.declared.effect.NetEffect.{NetEffect}
-use Rattle.switch_engine.specs.declared.walk.Step.{Step}
 use Rattle.switch_engine.specs.Walk.{IsWalkOf}
-use Rattle.ovn_base.specs.ByName.{at}
-use Rattle.world_core.specs.Naming.{IsNamed}
+use Rattle.switch_engine.specs.declared.effect.Effect.{Effect}
+use Rattle.switch_engine.specs.declared.effect.Entry.{Entry}
+use Rattle.switch_engine.specs.declared.effect.Entry.TheVariants.{Vif, Tunnel}
+use Rattle.switch_engine.specs.declared.walk.Step.{Step}
+use Rattle.tunnel_keys.specs.Keys.{Keys}
+use Rattle.world_core.specs.declared.crossing.Crossing.{Crossing}
+use Rattle.world_core.specs.Effects.{datapath_key, port_key, aim_key}
+use Rattle.world_core.specs.Naming.{IsNumbered}
+use Rattle.world_core.specs.Sound.{IsValid, HaveKeys, AreBound, AreFlowsOf, MayWait}
 use Rattle.world_core.specs.State.{State}
-use Rattle.world_core.specs.Sound.{IsValid, HaveKeys, AreBound, AreExactly, basis_at}
-use Rattle.world_core.specs.Tables.{TableFlow}
-use Rattle.world_core.specs.Visit.{Visit}
+use Rattle.world_core.specs.Visit.{End, Visit, arrival}
 
--- the effects have names, and whatever names have their numbers, they are those of a visit of the logical network
-pub record AreVisit (m : State) (p : Name) (packet : Packet) (ends : List Effect) : Type 0 where
-  pub names : List NetEffect
-  pub named : AllZip (IsNamed m.keys) ends names
-  pub visit : (effects : List NetEffect) → AllZip (IsNamed m.keys) ends effects → Visit m p packet effects
+-- the effects of the tables are those of a visit
+pub record AreVisit (m : State) (p : Name) (packet : Packet) (chassis : Name) (effects : List Effect) : Type 0 where
+  pub ends : List End
+  pub visit : Visit m p packet chassis ends
+  pub numbered : AllZip (IsNumbered m.keys) ends effects
 
--- whatever walk a packet takes from a port that is bound to a chassis through exactly the flows of that chassis, its effects are a visit
-abbrev pub WalkLaw : Type 0
-WalkLaw =
-    (m : State) (zones : List (Name × ℕ)) (flows : List Flow) (c : Name) → IsValid m.net → HaveKeys m.net m.keys → AreBound m zones → AreExactly (TableFlow (basis_at m zones c)) flows
-    → (p : Name) → at m.bindings p ≡ Some c → (packet : Packet) → IsMac packet.dst → (steps : List Step) (ends : List Effect) → IsWalkOf flows (Vif p) packet steps ends
-    → AreVisit m p packet ends
+-- whatever walk a packet takes from a port that is at home on a chassis, through exactly the flows of that chassis, its effects are a visit
+abbrev pub EntryLaw : Type 0
+EntryLaw =
+    (m : State) (zones : List (Name × ℕ)) (c : Name) (flows : List Flow)
+    → IsValid m.net
+    → HaveKeys m.net m.keys
+    → AreBound m zones
+    → AreFlowsOf m zones c flows
+    → (p : Name)
+    → at m.bindings p ≡ Some c
+    → (packet : Packet)
+    → IsWhole packet
+    → (steps : List Step) (effects : List Effect)
+    → IsWalkOf flows (Vif p) packet steps effects
+    → AreVisit m p packet c effects
+
+-- how the frame of a crossing comes in
+abbrev pub entry_of : Keys → Crossing → Entry
+entry_of keys x = Tunnel (datapath_key keys x.datapath) (port_key keys x.in_port) (aim_key keys x.aim)
+
+-- whatever walk the packet of a crossing takes from its frame, through exactly the flows of the chassis to which it goes, its effects
+-- are those of the crossing's arrival
+abbrev pub ArrivalLaw : Type 0
+ArrivalLaw =
+    (m : State) (zones : List (Name × ℕ)) (n : ℕ) (x : Crossing) (flows : List Flow)
+    → IsValid m.net
+    → HaveKeys m.net m.keys
+    → AreBound m zones
+    → MayWait m x
+    → Among x.home m.chassis
+    → AreFlowsOf m zones x.home flows
+    → (packet : Packet)
+    → IsWhole packet
+    → frame_of packet ≡ x.frame
+    → (steps : List Step) (effects : List Effect)
+    → IsWalkOf flows (entry_of m.keys x) packet steps effects
+    → AllZip (IsNumbered m.keys) (arrival m n x packet) effects
+
+-- through whatever lists of exactly the flows of one chassis, a packet takes one walk
+abbrev pub OneWalkLaw : Type 0
+OneWalkLaw =
+    (m : State) (zones : List (Name × ℕ)) (c : Name) (flows more : List Flow)
+    → IsValid m.net
+    → HaveKeys m.net m.keys
+    → AreBound m zones
+    → AreFlowsOf m zones c flows
+    → AreFlowsOf m zones c more
+    → (entry : Entry) (packet : Packet)
+    → (steps others : List Step) (effects last : List Effect)
+    → IsWalkOf flows entry packet steps effects
+    → IsWalkOf more entry packet others last
+    → (steps ≡ others) × (effects ≡ last)

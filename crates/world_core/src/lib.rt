@@ -1,9 +1,9 @@
-//! The network as a whole: its events taken through records, keys and tables, and its packets through the tables.
+//! The network as a whole: its events taken through records, keys and tables, and its packets through the simulated chassis.
 #![tactic(auto)]
 
 mod compile;
+pub mod crossing;
 pub mod laws;
-mod naming;
 pub mod one_run;
 mod refusing;
 mod rows;

@@ -1,12 +1,13 @@
 //! Events and picks have one run.
 ghost use Rattle.std.specs.Prelude.{◌≡◌, List};
 ghost use Rattle.std.specs.List.{AllByRecursion};
+ghost use Rattle.chassis_sim.specs.State as sim;
+ghost use Rattle.chassis_sim.specs.declared.out.SimOut.{SimOut};
 ghost use Rattle.edit_reader.specs.declared.event.Event.{Event};
 ghost use Rattle.event_lines.specs.Picks.{Pick, picks_of};
 ghost use Rattle.switch_engine.specs.declared.effect.NetEffect.{NetEffect};
-ghost use Rattle.switch_engine.specs.declared.walk.Walk.{Walk};
 ghost use Rattle.world_core.specs.Admitted.{IsAdmitted};
-ghost use Rattle.world_core.specs.Outcome.{HasWalks};
+ghost use Rattle.world_core.specs.Passing.{Passes};
 ghost use Rattle.world_core.specs.Picks.{Fate, Run};
 ghost use Rattle.world_core.specs.Seen.{IsSound, Seen};
 ghost use Rattle.world_core.specs.Sound.{IsValid};
@@ -23,7 +24,7 @@ pub fn one_run()
     ensures run { (m : State) (events : List Event) (picks : List Pick) (fates others : List Fate) (last end : State)
         → IsValid m.net → AllByRecursion IsAdmitted events
         → Run m events picks fates last → Run m events picks others end → (fates ≡ others) × (last ≡ end) }
-    ensures walks { (one two : Seen) (event : Event) (effects others : List NetEffect) (walks more : List Walk)
+    ensures walks { (one two : Seen) (event : Event) (out more : SimOut) (new other : sim.State)
         → IsSound one → IsSound two → one.state ≡ two.state → one.zones ≡ two.zones
-        → HasWalks one.state one.flows event effects walks → HasWalks two.state two.flows event others more → walks ≡ more }
+        → Passes one.sim event out new → Passes two.sim event more other → out.walks ≡ more.walks }
 {}

@@ -17,12 +17,16 @@ fn is_among(ips: &[Ip4], ip: Ip4) -> bool
 fn clash(a: &PortAddress, b: &PortAddress) -> bool
     ensures { result ≡ clash a.now b.now }
 {
-    let PortAddress::Ether { mac, ips } = a;
-    let PortAddress::Ether {
-        mac: other,
-        ips: others,
-    } = b;
-    *mac == *other || has_common(ips.as_slice(), others.as_slice())
+    match (a, b) {
+        (
+            PortAddress::Ether { mac, ips },
+            PortAddress::Ether {
+                mac: other,
+                ips: others,
+            },
+        ) => *mac == *other || has_common(ips.as_slice(), others.as_slice()),
+        _ => false,
+    }
 }
 
 // Some IP of the first list stands in the second.
@@ -61,8 +65,12 @@ fn repeats(ips: &[Ip4]) -> bool
 fn is_no_entry(address: &PortAddress) -> bool
     ensures { result ≡ is_no_entry address.now }
 {
-    let PortAddress::Ether { mac, ips } = address;
-    mac.is_zero() || mac.is_multicast() || repeats(ips.as_slice())
+    match address {
+        PortAddress::Ether { mac, ips } => mac.is_zero()
+            || mac.is_multicast()
+            || repeats(ips.as_slice()),
+        PortAddress::Unknown => false,
+    }
 }
 
 // Another port of the switch has one of the addresses.
@@ -91,9 +99,15 @@ pub fn is_unbuilt_port(records: &Records, port: &SwitchPort) -> bool
         || is_held(records, port)
 }
 
-// One of the entries is none that a port can have.
+// One of the entries is none that a port can have, or two have an address in common.
 fn has_no_entry(addresses: &[PortAddress]) -> bool
     ensures { result ≡ has_no_entry addresses.now }
 {
-    addresses.iter().any(is_no_entry)
+    'entries: for index in 0..addresses.len() {
+        let address = &addresses[index];
+        if is_no_entry(address) || clashes(address, &addresses[index + 1..]) {
+            return true;
+        }
+    }
+    false
 }

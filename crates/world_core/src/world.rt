@@ -1,31 +1,25 @@
 //! The state of the network and of its chassis, and its steps.
-ghost use Rattle.std.specs.Prelude.{◌-◌, min, ◌++◌, ◌↔◌, IsTrue, OnErr, slice_get, ◌≡◌, ◌+◌, ◌<◌, ◌^◌, [], ◌∷◌, None, Some, false, IfOk, OnOk, length};
-ghost use Rattle.ovn_base.specs.declared.name.Name.{Name};
-ghost use Rattle.ovn_base.specs.Once.{EachOnce};
-ghost use Rattle.ovn_base.specs.ByName.{at, put};
-ghost use Rattle.nb_records.specs.declared.record.Op.TheVariants.{Add};
-ghost use Rattle.nb_records.specs.declared.record.Record.TheVariants as record_of;
-ghost use Rattle.world_core.specs.Editing.{Edits, counted, with_name};
-ghost use Rattle.world_core.specs.Seen.{IsConsistent, IsSound};
-ghost use Rattle.world_core.specs.Sound.{IsValid, HaveKeys, AreCompiled};
-ghost use Rattle.world_core.specs.State.{events_of};
+ghost use Rattle.std.specs.Prelude.{◌-◌, ◌≡◌, ◌+◌, ◌<◌, ◌^◌, ◌++◌, ◌↔◌, [], ◌∷◌, Some, false, min, length, slice_get, IsTrue, IfOk, OnOk, OnErr, List};
 ghost use Rattle.std.specs.Option.{option_copied};
+ghost use Rattle.ovn_base.specs.Once.{EachOnce};
+ghost use Rattle.chassis_sim.specs.State.{flow_at, named};
+ghost use Rattle.flow_table.specs.declared.flow.Flow.{Flow};
 ghost use Rattle.event_lines.specs.Lines.{refused_line};
 ghost use Rattle.event_lines.specs.Text.{StartsWith};
 ghost use Rattle.world_core.specs.Admitted.{IsAdmitted};
 ghost use Rattle.world_core.specs.Outcome.{Outcome};
-ghost use Rattle.world_core.specs.Parts.{IsRecompiled, IsTaken, Leaves, flow_at, new_world};
+ghost use Rattle.world_core.specs.Parts.{IsTaken, Leaves, new_world};
+ghost use Rattle.world_core.specs.Seen.{IsSound};
+ghost use Rattle.world_core.specs.State.{events_of, finished};
 
-use crate::compile::Maps;
+use crate::crossing::Crossing;
+use chassis_sim::sim::Sim;
 use edit_reader::event::Event;
 use event_lines::lines::{accepted, refused};
 use event_lines::refusal::{Refusal, StepFault};
 use flow_table::flow::Flow;
-use flow_table::lookup::Lookup;
 use flow_table::tables::Tables;
-use nb_records::record::{Record, Switch, SwitchPort};
 use nb_records::records::Records;
-use ovn_base::address::Birth;
 use ovn_base::list::List;
 use ovn_base::memory::NoMemory;
 use ovn_base::name::Name;
@@ -40,30 +34,34 @@ use tunnel_keys::store::KeyStore;
 mod edits;
 mod homes;
 mod packets;
+mod recompiling;
 mod steps;
 
-/// The network, its chassis, and the flows that they hold.
+/// The network and its simulated chassis.
 #[derive(Drop)]
 pub struct World {
     records: Records,
-    chassis: Option<Name>,
+    // In order of name.
+    chassis: List<Name>,
     bindings: BTreeMap<Name, Name>,
     keys: KeyStore,
     zones: BTreeMap<Name, u16>,
-    tables: Tables,
+    sim: Sim<Tables>,
+    // What each frame that waits is on its way for.
+    crossings: BTreeMap<u128, Crossing>,
     walks: List<Walk>,
     accepted: u64,
     refused: u64,
     whole: bool,
 }
 
-// What an accepted event did: its effects in names, and the walks of its packet.
+// What an accepted event did: its effects in names, and the walks of its packets.
 #[derive(Drop)]
 struct Done {
     effects: List<NetEffect>,
     walks: List<Walk>,
     // How many flows were matched in all.
-    matched: usize,
+    matched: u128,
 }
 
 impl Model for World {
@@ -86,11 +84,12 @@ impl World {
     {
         Ok(World {
             records: Records::new(alloc)?,
-            chassis: None,
+            chassis: List::new(alloc),
             bindings: BTreeMap::new(alloc),
             keys: KeyStore::with_ranges(alloc, 16_777_215, 32_767)?,
             zones: BTreeMap::new(alloc),
-            tables: Tables::new(alloc)?,
+            sim: Sim::new(alloc)?,
+            crossings: BTreeMap::new(alloc),
             walks: List::new(alloc),
             accepted: 0,
             refused: 0,
@@ -105,26 +104,6 @@ impl World {
         self.accepted.saturating_add(self.refused)
     }
 
-    // Compiles the flows anew.
-    fn recompile(&mut self, alloc: Global) -> Result<(), NoMemory>
-        requires valid { IsValid self.old.state.net }
-        requires keys { HaveKeys self.old.state.net self.old.state.keys }
-        requires taken { self.old.whole ≡ false }
-        ensures { OnOk result (IsRecompiled self.old self.new) }
-    {
-        if let Some(chassis) = self.chassis {
-            let maps = Maps {
-                chassis,
-                records: &self.records,
-                bindings: &self.bindings,
-                keys: &self.keys,
-                zones: &self.zones,
-            };
-            self.tables = maps.tables(alloc)?;
-        }
-        Ok(())
-    }
-
     /// Whether the world may take events: no event was left half done for want of memory.
     pub fn is_sound(&self) -> bool
         ensures { IsTrue result ↔ IsSound self.now }
@@ -132,41 +111,46 @@ impl World {
         self.whole
     }
 
-    /// How many frames wait: none, until frames go between chassis.
+    /// How many frames wait.
     pub fn waiting(&self) -> usize
-        ensures { result ≡ 0 }
+        ensures { result ≡ length self.now.state.waiting }
     {
-        0
+        self.crossings.len()
     }
 
     /// The chassis of this index, in order of name; `None` past the last.
     pub fn chassis(&self, index: usize) -> Option<&Name>
         ensures { option_copied result ≡ slice_get self.now.state.chassis index }
     {
-        if index == 0 {
-            return self.chassis.as_ref();
-        }
-        None
+        self.chassis.as_slice().get(index)
     }
 
     /// Each flow that the chassis holds at exactly one index below their number; `None` past the last, and where no such
     /// chassis is there.
     pub fn chassis_flow(&self, chassis: &Name, index: usize) -> Option<&Flow>
-        ensures flow { option_copied result ≡ flow_at self.now chassis.now index }
-        ensures once { EachOnce self.now.flows }
+        ensures flow { option_copied result ≡ flow_at self.now.sim chassis.now index }
+        ensures once { (flows : List Flow) → named self.now.sim.chassis chassis.now ≡ Some flows → EachOnce flows }
     {
-        let flow = self.tables.flow(index);
-        match self.chassis {
-            Some(there) if there == *chassis => flow,
-            _ => None,
-        }
+        self.sim.flow(chassis, index)
     }
 
-    /// The flows that the packet of the last event matched; none where it was refused.
+    /// The flows that the packets of the last event matched; none where it was refused.
     pub fn walks(&self) -> &[Walk]
         ensures { result.now ≡ self.now.walks }
     {
         self.walks.as_slice()
+    }
+
+    // Counts an event that is done. Where no frame waits, no key is retired.
+    fn finish(&mut self)
+        requires taken { self.old.whole ≡ false }
+        requires room { events_of self.old.state < 2 ^ 42 }
+        ensures { self.new ≡ record self.old { state = finished self.old.state } }
+    {
+        self.accepted += 1;
+        if self.crossings.is_empty() {
+            self.keys.settle();
+        }
     }
 
     // Refuses an event, which counts.

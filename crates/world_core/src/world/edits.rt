@@ -6,16 +6,20 @@ ghost use Rattle.nb_records.specs.declared.record.Record.TheVariants as record_o
 ghost use Rattle.tunnel_keys.specs.Causes.{HasKeys};
 ghost use Rattle.tunnel_keys.specs.Edits.{GivesKeys, IsEdit};
 ghost use Rattle.tunnel_keys.specs.Keys.{IsKeys};
+ghost use Rattle.tunnel_keys.specs.declared.owner.DatapathKey.{DatapathKey};
+ghost use Rattle.tunnel_keys.specs.declared.owner.PortKey.{PortKey};
 ghost use Rattle.world_core.specs.Editing.{Edits};
 ghost use Rattle.world_core.specs.New.{AreNew};
-ghost use Rattle.world_core.specs.Seen.{IsConsistent};
-ghost use Rattle.world_core.specs.State.{events_of};
+ghost use Rattle.world_core.specs.Consistent.{IsConsistent};
+ghost use Rattle.world_core.specs.State.{events_of, finished};
 
 use crate::world::World;
 use nb_records::record::{Record, Switch, SwitchPort};
 use ovn_base::address::Birth;
 use ovn_base::list::List;
 use ovn_base::memory::NoMemory;
+use ovn_base::name::Name;
+use std::alloc::Global;
 use switch_engine::effect::NetEffect;
 use tunnel_keys::fault::KeyFault;
 use tunnel_keys::owner::KeyOwner;
@@ -46,7 +50,7 @@ impl World {
         requires absent { at self.old.state.net.switches switch.now.name ≡ None }
         requires few { length self.old.state.net.switches < 1024 }
         ensures edits { IfOk result (λ effects. Edits self.old.state (Add (record_of.Switch switch.now) ∷ []) effects self.new.state) }
-        ensures consistent { OnOk result (IsConsistent self.new.state self.new.zones) }
+        ensures consistent { OnOk result (IsConsistent (finished self.new.state) self.new.zones) }
         ensures rest { OnOk result (self.new ≡ record self.old { state = self.new.state }) }
     {
         let birth = Birth(self.accepted + self.refused + 1);
@@ -57,7 +61,6 @@ impl World {
         effects.push(NetEffect::DatapathKey { name, key })?;
         self.records.put(Record::Switch(Switch { name, birth }))?;
         self.keys.apply(plan);
-        self.accepted += 1;
         Ok(effects)
     }
 
@@ -71,7 +74,7 @@ impl World {
         requires on_switch { IsSome (at self.old.state.net.switches port.now.switch) }
         requires new { AreNew self.old.state.net port.now }
         ensures edits { IfOk result (λ effects. Edits self.old.state (Add (record_of.SwitchPort port.now) ∷ []) effects self.new.state) }
-        ensures consistent { OnOk result (IsConsistent self.new.state self.new.zones) }
+        ensures consistent { OnOk result (IsConsistent (finished self.new.state) self.new.zones) }
         ensures rest { OnOk result (self.new ≡ record self.old { state = self.new.state }) }
     {
         let birth = Birth(self.accepted + self.refused + 1);
@@ -94,7 +97,40 @@ impl World {
             addresses,
         }))?;
         self.keys.apply(plan);
-        self.accepted += 1;
         Ok(effects)
+    }
+
+    // The name of the switch's key.
+    pub(super) fn switch_names(
+        &self,
+        alloc: Global,
+        switch: &Name,
+    ) -> Result<List<(u32, u16, Name)>, NoMemory>
+        ensures { IfOk result (λ names. (k : DatapathKey) → at self.now.state.keys.datapaths switch.now ≡ Some k → names ≡ (k.key, 0, switch.now) ∷ []) }
+    {
+        let mut names = List::new(alloc);
+        if let Some(key) = self.keys.datapath(switch) {
+            names.push((key, 0, *switch))?;
+        }
+        Ok(names)
+    }
+
+    // The name of the port's key, on the switch.
+    pub(super) fn port_names(
+        &self,
+        alloc: Global,
+        switch: &Name,
+        port: &Name,
+    ) -> Result<List<(u32, u16, Name)>, NoMemory>
+        ensures { IfOk result (λ names. (k : DatapathKey) (p : PortKey) → at self.now.state.keys.datapaths switch.now ≡ Some k → at self.now.state.keys.ports port.now ≡ Some p
+            → names ≡ (k.key, p.key, port.now) ∷ []) }
+    {
+        let mut names = List::new(alloc);
+        if let Some(datapath) = self.keys.datapath(switch)
+            && let Some(key) = self.keys.port(port)
+        {
+            names.push((datapath, key, *port))?;
+        }
+        Ok(names)
     }
 }

@@ -1,48 +1,128 @@
-//! Where ports are bound.
-ghost use Rattle.std.specs.Prelude.{◌≡◌, ◌<◌, ◌^◌, [], false, OnOk, IsSome};
+//! Chassis that come, and where ports are bound.
+ghost use Rattle.std.specs.Prelude.{◌≡◌, ◌<◌, ◌^◌, [], ◌∷◌, Some, false, IfOk, OnOk, IsSome, length};
 ghost use Rattle.ovn_base.specs.Among.{Among};
 ghost use Rattle.ovn_base.specs.ByName.{at, put};
-ghost use Rattle.world_core.specs.Editing.{counted, with_name};
-ghost use Rattle.world_core.specs.Seen.{IsConsistent};
-ghost use Rattle.world_core.specs.State.{events_of};
-ghost use Rattle.world_core.specs.Zones.{zone_for};
+ghost use Rattle.world_core.specs.Consistent.{IsConsistent};
+ghost use Rattle.world_core.specs.Editing.{with_name};
+ghost use Rattle.world_core.specs.Homes.{is_at};
+ghost use Rattle.world_core.specs.State.{events_of, finished};
+ghost use Rattle.world_core.specs.Zones.{zone_for, zones_on, least_free};
 
 use crate::world::World;
+use ovn_base::list::List;
 use ovn_base::memory::NoMemory;
 use ovn_base::name::Name;
+use std::alloc::Global;
+use std::cmp::Ordering;
+use std::collections::BTreeMap;
+
+// The names with one more, in order.
+fn names_with(alloc: Global, names: &[Name], name: Name) -> Result<List<Name>, NoMemory>
+    ensures { IfOk result (λ longer. longer ≡ with_name names.now name) }
+{
+    let mut longer = List::new(alloc);
+    'names: for index in 0..names.len() {
+        let other = names[index];
+        match name.cmp(&other) {
+            Ordering::Less => {
+                longer.push(name)?;
+                longer.extend_from_slice(&names[index..])?;
+                return Ok(longer);
+            }
+            Ordering::Equal => {
+                longer.extend_from_slice(&names[index..])?;
+                return Ok(longer);
+            }
+            Ordering::Greater => longer.push(other)?,
+        }
+    }
+    longer.push(name)?;
+    Ok(longer)
+}
+
+// The least number from 1 on that isn't among these.
+fn least_free_of(taken: &[u16]) -> u16
+    requires few { length taken.now < 2 ^ 15 }
+    ensures { result ≡ least_free taken.now }
+{
+    let mut number = 1;
+    'taken: while taken.contains(&number) {
+        number += 1;
+    }
+    number
+}
+
+// Whether the port is bound to the chassis.
+fn is_at(bindings: &BTreeMap<Name, Name>, port: &Name, chassis: &Name) -> bool
+    ensures { result ≡ is_at bindings.now.entries port.now chassis.now }
+{
+    match bindings.get(port) {
+        Some(home) => *home == *chassis,
+        None => false,
+    }
+}
+
+// The numbers of the zones on the chassis.
+fn zones_on(
+    alloc: Global,
+    bindings: &BTreeMap<Name, Name>,
+    zones: &BTreeMap<Name, u16>,
+    chassis: &Name,
+) -> Result<List<u16>, NoMemory>
+    ensures { IfOk result (λ taken. taken ≡ zones_on bindings.now.entries zones.now.entries chassis.now) }
+{
+    let mut taken = List::new(alloc);
+    'zones: for (port, zone) in zones {
+        if is_at(bindings, port, chassis) {
+            taken.push(*zone)?;
+        }
+    }
+    Ok(taken)
+}
 
 impl World {
     // The chassis comes.
-    pub(super) fn add_chassis(&mut self, chassis: Name)
+    pub(super) fn add_chassis(&mut self, chassis: Name) -> Result<(), NoMemory>
         requires consistent { IsConsistent self.old.state self.old.zones }
         requires taken { self.old.whole ≡ false }
         requires room { events_of self.old.state < 2 ^ 42 }
-        requires none { self.old.state.chassis ≡ [] }
-        ensures state { self.new.state ≡ record (counted self.old.state) { chassis = with_name self.old.state.chassis chassis } }
-        ensures consistent { IsConsistent self.new.state self.new.zones }
-        ensures rest { self.new ≡ record self.old { state = self.new.state } }
+        requires new { ¬ Among chassis self.old.state.chassis }
+        requires few { length self.old.state.chassis < 64 }
+        ensures state { OnOk result (self.new ≡ record self.old { state = record self.old.state { chassis = with_name self.old.state.chassis chassis } }) }
+        ensures consistent { OnOk result (IsConsistent (finished self.new.state) self.new.zones) }
     {
-        self.chassis = Some(chassis);
-        self.accepted += 1;
+        let alloc = self.walks.allocator();
+        self.chassis = names_with(alloc, self.chassis.as_slice(), chassis)?;
+        Ok(())
     }
 
-    // A port is bound to a chassis, and keeps its zone or takes the next.
-    pub(super) fn bind(&mut self, port: Name, chassis: Name) -> Result<(), NoMemory>
+    // The number of the zone of a port that is bound to the chassis: the one that it has there, or the least that is free.
+    fn zone_at(&self, alloc: Global, port: &Name, chassis: &Name) -> Result<u16, NoMemory>
+        requires consistent { IsConsistent self.now.state self.now.zones }
+        ensures { IfOk result (λ zone. zone ≡ zone_for self.now.state.bindings self.now.zones port.now chassis.now) }
+    {
+        if is_at(&self.bindings, port, chassis) {
+            return Ok(self.zones.get(port).copied().unwrap_or(0));
+        }
+        let taken = zones_on(alloc, &self.bindings, &self.zones, chassis)?;
+        Ok(least_free_of(taken.as_slice()))
+    }
+
+    // A port is bound to a chassis, where it keeps its zone or takes the least number that is free.
+    pub(super) fn bind(&mut self, alloc: Global, port: Name, chassis: Name) -> Result<(), NoMemory>
         requires consistent { IsConsistent self.old.state self.old.zones }
         requires taken { self.old.whole ≡ false }
         requires room { events_of self.old.state < 2 ^ 42 }
         requires there { IsSome (at self.old.state.net.ports port) }
         requires known { Among chassis self.old.state.chassis }
-        ensures state { OnOk result (self.new.state ≡ record (counted self.old.state) { bindings = put self.old.state.bindings port chassis }) }
-        ensures consistent { OnOk result (IsConsistent self.new.state self.new.zones) }
-        ensures zones { OnOk result (self.new.zones ≡ put self.old.zones port (zone_for self.old.zones port)) }
+        ensures state { OnOk result (self.new.state ≡ record self.old.state { bindings = put self.old.state.bindings port chassis }) }
+        ensures zones { OnOk result (self.new.zones ≡ put self.old.zones port (zone_for self.old.state.bindings self.old.zones port chassis)) }
         ensures rest { OnOk result (self.new ≡ record self.old { state = self.new.state; zones = self.new.zones }) }
+        ensures consistent { OnOk result (IsConsistent (finished self.new.state) self.new.zones) }
     {
-        let next = self.zones.len() as u16 + 1;
-        let zone = self.zones.get(&port).copied().unwrap_or(next);
+        let zone = self.zone_at(alloc, &port, &chassis)?;
         self.zones.insert(port, zone)?;
         self.bindings.insert(port, chassis)?;
-        self.accepted += 1;
         Ok(())
     }
 }

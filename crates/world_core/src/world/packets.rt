@@ -1,15 +1,26 @@
-//! Packets that go through the tables of a world.
-ghost use Rattle.std.specs.Prelude.{◌≡◌, ◌<◌, ◌^◌, List, IfOk, IsSome};
+//! Packets that go through the simulated chassis of a world.
+ghost use Rattle.std.specs.Prelude.{◌≡◌, ◌≤◌, ◌<◌, ◌+◌, ◌*◌, ◌^◌, ◌++◌, ℕ, List, false, IfOk, OnOk, IsSome, Some};
+ghost use Rattle.std.specs.BTreeMap.{insert_entry};
+ghost use Rattle.std.specs.Ordering.{nat_cmp};
 ghost use Rattle.ovn_base.specs.ByName.{at};
+ghost use Rattle.chassis_sim.specs.Passing.{arrived};
+ghost use Rattle.chassis_sim.specs.State.{numbered};
 ghost use Rattle.inet_packet.specs.Frame.{frame_of};
 ghost use Rattle.inet_packet.specs.Whole.{IsWhole};
 ghost use Rattle.edit_reader.specs.Reads.{IsPlainFrame};
-ghost use Rattle.switch_engine.specs.Proper.{IsProper};
-ghost use Rattle.world_core.specs.Outcome.{matched};
-ghost use Rattle.world_core.specs.Parts.{IsShown};
+ghost use Rattle.world_core.specs.Step.{most_arrivals, with_kept};
+ghost use Rattle.world_core.specs.Refinement.{IsAmidst};
+ghost use Rattle.world_core.specs.Seen.{AreHeld};
+ghost use Rattle.world_core.specs.State.{events_of};
+ghost use Rattle.world_core.specs.Packets.{AreGone, CanBeKept, HasArrived, HasEntered, IsNumberOf, IsSentFrom, most_sent, port_of_key};
+ghost use Rattle.world_core.specs.Sound.{HaveKeys};
+ghost use Rattle.world_core.specs.declared.crossing.Aim.{Aim};
+ghost use Rattle.world_core.specs.declared.crossing.Crossing.{Crossing};
 
-use crate::naming::Numbers;
-use crate::world::{Done, World};
+use crate::crossing::{Aim, Crossing, Group};
+use crate::world::World;
+use chassis_sim::out::{SimFault, SimOut};
+use geneve_frames::read;
 use inet_packet::decode::decode;
 use inet_packet::frame::FrameFault;
 use inet_packet::packet::Packet;
@@ -17,10 +28,16 @@ use ovn_base::list::List;
 use ovn_base::memory::NoMemory;
 use ovn_base::name::Name;
 use std::alloc::Global;
-use switch_engine::effect::Entry;
-use switch_engine::engine::run;
-use switch_engine::walk::{RunOut, Start, Walk};
-use switch_engine::zones::Zones;
+use switch_engine::effect::NetEffect;
+use tunnel_keys::owner::Identity;
+
+// The numbers of the groups of a switch.
+const FLOOD: u16 = 32_768;
+
+const UNKNOWN: u16 = 32_769;
+
+// How many frames may arrive in one event.
+const MOST_ARRIVALS: usize = 65_536;
 
 // The packet of a frame that is built.
 fn packet_of(alloc: Global, frame: &[u8]) -> Result<Packet, NoMemory>
@@ -37,50 +54,204 @@ fn packet_of(alloc: Global, frame: &[u8]) -> Result<Packet, NoMemory>
     }
 }
 
+// The first of the ports that has the key.
+fn port_of_key(ports: &[(Name, u16)], key: u16) -> Option<Name>
+    ensures { result ≡ port_of_key ports.now key }
+{
+    'ports: for (name, own) in ports {
+        if *own == key {
+            return Some(*name);
+        }
+    }
+    None
+}
+
 impl World {
-    // Takes the packet of a frame from its port through the tables of the chassis.
-    pub(super) fn send(&self, alloc: Global, port: Name, frame: &[u8]) -> Result<Done, NoMemory>
-        requires proper { IsProper self.now.flows }
-        requires home { IsSome (at self.now.state.bindings port) }
-        requires frame { IsPlainFrame frame.now }
-        ensures sent { IfOk result (λ done. IsShown self.now.state self.now.flows port frame.now done.effects done.walks) }
-        ensures counted { IfOk result (λ done. done.matched ≡ matched done.walks) }
+    // To whom a packet from a port of the switch goes, by the key of the port or group.
+    fn aim(&self, switch: &Name, key: u16) -> Option<Aim>
+        requires keys { HaveKeys self.now.state.net self.now.state.keys }
+        ensures { (aim : Aim) → IsNumberOf self.now.state switch.now key aim → result ≡ Some aim }
     {
-        let Some(chassis) = self.bindings.get(&port) else {
+        if key == FLOOD {
+            return Some(Aim::ToGroup(Group::Flood));
+        }
+        if key == UNKNOWN {
+            return Some(Aim::ToGroup(Group::Unknown));
+        }
+        let Some(ports) = self.keys.ports(switch) else {
+            return None;
+        };
+        let Some(name) = port_of_key(ports.list.as_slice(), key) else {
+            return None;
+        };
+        let Some(port) = self.records.switch_port(&name) else {
+            return None;
+        };
+        Some(Aim::ToPort(Identity {
+            name,
+            birth: port.birth,
+        }))
+    }
+
+    // The crossing of a frame that was sent for a packet from the port.
+    fn crossing(
+        &self,
+        alloc: Global,
+        port: &Name,
+        to: &Name,
+        bytes: &[u8],
+    ) -> Result<Crossing, NoMemory>
+        requires keys { HaveKeys self.now.state.net self.now.state.keys }
+        requires sent { (x : Crossing) × IsSentFrom self.now.state port.now to.now bytes.now x }
+        ensures { IfOk result (λ found. (x : Crossing) → IsSentFrom self.now.state port.now to.now bytes.now x → found ≡ x) }
+    {
+        let Some(own) = self.records.switch_port(port) else {
             unreachable!()
         };
-        let packet = packet_of(alloc, frame)?;
-        let mut zones = Zones::new();
-        let mut out = RunOut {
-            effects: List::new(alloc),
-            walk: List::new(alloc),
+        let Some(switch) = self.records.switch(&own.switch) else {
+            unreachable!()
         };
-        run(
-            alloc,
-            &self.tables,
-            &mut zones,
-            &Entry::Vif(port),
-            packet,
-            0,
-            &mut out,
-        )?;
-        let RunOut { effects, walk } = out;
-        let matched = walk.len();
-        let numbers = Numbers {
-            records: &self.records,
-            keys: &self.keys,
+        let Ok(view) = read(bytes) else {
+            unreachable!()
         };
-        let effects = numbers.all_named(alloc, effects)?;
-        let mut walks = List::new(alloc);
-        walks.push(Walk {
-            chassis: *chassis,
-            start: Start::Port(port),
-            steps: walk,
-        })?;
-        Ok(Done {
-            effects,
-            walks,
-            matched,
+        let Some(aim) = self.aim(&own.switch, view.out_key) else {
+            unreachable!()
+        };
+        Ok(Crossing {
+            datapath: Identity {
+                name: own.switch,
+                birth: switch.birth,
+            },
+            in_port: Identity {
+                name: *port,
+                birth: own.birth,
+            },
+            aim,
+            home: *to,
+            frame: List::from_slice(alloc, view.inner)?,
         })
+    }
+
+    // Keeps a crossing under the number of its frame.
+    fn keep(&mut self, frame: u128, crossing: Crossing) -> Result<(), NoMemory>
+        requires taken { self.old.whole ≡ false }
+        ensures { OnOk result (self.new ≡ record self.old { state = record self.old.state { waiting = insert_entry nat_cmp self.old.state.waiting frame crossing } }) }
+    {
+        self.crossings.insert(frame, crossing)?;
+        Ok(())
+    }
+
+    // Keeps the crossings of the frames among the effects of a packet from the port.
+    fn keep_crossings(
+        &mut self,
+        alloc: Global,
+        port: &Name,
+        effects: &[NetEffect],
+    ) -> Result<(), NoMemory>
+        requires taken { self.old.whole ≡ false }
+        requires keys { HaveKeys self.old.state.net self.old.state.keys }
+        requires sent { (ws : List (ℕ × Crossing)) × CanBeKept self.old.state port.now effects.now ws }
+        ensures { OnOk result ((ws : List (ℕ × Crossing)) → CanBeKept self.old.state port.now effects.now ws
+            → self.new ≡ record self.old { state = record self.old.state { waiting = self.old.state.waiting ++ ws } }) }
+    {
+        'effects: for effect in effects {
+            if let NetEffect::Tunnel {
+                frame,
+                to,
+                bytes,
+                ..
+            } = effect
+            {
+                let crossing = self.crossing(alloc, port, to, bytes.as_slice())?;
+                self.keep(*frame, crossing)?;
+            }
+        }
+        Ok(())
+    }
+
+    // Takes the packet of a frame from its port through the chassis.
+    pub(super) fn enter(
+        &mut self,
+        alloc: Global,
+        port: &Name,
+        frame: &[u8],
+        out: &mut SimOut,
+    ) -> Result<(), NoMemory>
+        requires amidst { IsAmidst self.old.state self.old.zones 0 }
+        requires held { AreHeld self.old.state self.old.zones self.old.sim }
+        requires taken { self.old.whole ≡ false }
+        requires bound { IsSome (at self.old.state.bindings port.now) }
+        requires frame { IsPlainFrame frame.now }
+        ensures { OnOk result (HasEntered self.old port.now frame.now out.old out.new self.new) }
+    {
+        let packet = packet_of(alloc, frame)?;
+        let before = out.effects.len();
+        match self.sim.inject(port, packet, 0, out) {
+            Ok(()) => {}
+            Err(SimFault::Memory) => return Err(NoMemory),
+            Err(SimFault::NotBound(_)) => unreachable!(),
+            Err(SimFault::NoFrame(_)) => unreachable!(),
+        }
+        self.keep_crossings(alloc, port, &out.effects.as_slice()[before..])?;
+        Ok(())
+    }
+
+    // Takes a frame that waits through the chassis to which it goes. It waits on where it is kept.
+    pub(super) fn arrive(
+        &mut self,
+        frame: u128,
+        keep: bool,
+        out: &mut SimOut,
+    ) -> Result<(), NoMemory>
+        requires amidst { IsAmidst self.old.state self.old.zones most_sent }
+        requires held { AreHeld self.old.state self.old.zones self.old.sim }
+        requires taken { self.old.whole ≡ false }
+        requires waits { IsSome (numbered self.old.state.waiting frame) }
+        ensures { OnOk result (HasArrived self.old frame keep out.old out.new self.new) }
+    {
+        match self.sim.arrive(frame, keep, 0, out) {
+            Ok(()) => {}
+            Err(SimFault::Memory) => return Err(NoMemory),
+            Err(SimFault::NotBound(_)) => unreachable!(),
+            Err(SimFault::NoFrame(_)) => unreachable!(),
+        }
+        if !keep {
+            self.crossings.remove(&frame);
+        }
+        Ok(())
+    }
+
+    // Takes a frame that waits away.
+    pub(super) fn lose(&mut self, frame: u128)
+        requires held { AreHeld self.old.state self.old.zones self.old.sim }
+        requires taken { self.old.whole ≡ false }
+        requires waits { IsSome (numbered self.old.state.waiting frame) }
+        ensures { self.new ≡ record self.old { state = with_kept false self.old.state frame; sim = arrived self.old.sim frame false } }
+    {
+        match self.sim.lose(frame) {
+            Ok(()) => {}
+            Err(SimFault::Memory) => unreachable!(),
+            Err(SimFault::NotBound(_)) => unreachable!(),
+            Err(SimFault::NoFrame(_)) => unreachable!(),
+        }
+        self.crossings.remove(&frame);
+    }
+
+    // The lowest frame arrives again and again, until none waits or 65,536 arrived.
+    pub(super) fn drain(&mut self, out: &mut SimOut) -> Result<(), NoMemory>
+        requires amidst { IsAmidst self.old.state self.old.zones most_sent }
+        requires held { AreHeld self.old.state self.old.zones self.old.sim }
+        requires taken { self.old.whole ≡ false }
+        ensures { OnOk result (AreGone most_arrivals self.old out.old out.new self.new) }
+    {
+        let mut left = MOST_ARRIVALS;
+        'arrivals: while left > 0 {
+            let Some((&frame, _)) = self.crossings.first_key_value() else {
+                return Ok(());
+            };
+            self.arrive(frame, false, out)?;
+            left -= 1;
+        }
+        Ok(())
     }
 }

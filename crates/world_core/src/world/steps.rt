@@ -1,24 +1,38 @@
 //! The steps of a world, one for each kind of event.
-ghost use Rattle.std.specs.Prelude.{◌≡◌, ◌++◌, ◌+◌, ◌<◌, ◌^◌, [], ◌∷◌, None, Some, false, IfOk, OnOk, OnErr};
+ghost use Rattle.std.specs.Prelude.{cond, ◌≡◌, ◌++◌, ◌+◌, ◌<◌, ◌^◌, [], ◌∷◌, None, Some, false, IfOk, OnOk, OnErr};
 ghost use Rattle.nb_records.specs.declared.record.Op.TheVariants.{Add};
 ghost use Rattle.nb_records.specs.declared.record.Record.TheVariants as record_of;
 ghost use Rattle.edit_reader.specs.declared.event.Event.TheVariants as event_of;
 ghost use Rattle.event_lines.specs.declared.refusal.Refusal.{Refusal};
 ghost use Rattle.world_core.specs.Admitted.{IsAdmitted, IsAdmittedRecord};
 ghost use Rattle.world_core.specs.Parts.{IsTaken, IsDone};
-ghost use Rattle.world_core.specs.Refusing.{refusal, refusal_of_record, refusal_of_edit};
-ghost use Rattle.world_core.specs.State.{events_of};
+ghost use Rattle.world_core.specs.Outcome.{matched};
+ghost use Rattle.world_core.specs.Refusing.{refusal, refusal_of_record, refusal_of_edit, refusal_of_entry, too_many_wait};
+ghost use Rattle.world_core.specs.State.{events_of, is_chassis};
 
 use crate::refusing::is_unbuilt_port;
 use crate::world::{Done, World};
+use chassis_sim::out::SimOut;
 use edit_reader::event::Event;
 use event_lines::refusal::Refusal;
 use nb_records::record::{Op, Record, Switch, SwitchPort};
-use ovn_base::list::List;
+use ovn_base::list::{Bytes, List};
 use ovn_base::memory::NoMemory;
 use ovn_base::name::Name;
 use std::alloc::Global;
 use switch_engine::effect::NetEffect;
+use switch_engine::walk::Walk;
+
+// How many flows were matched in all.
+fn matched_in(walks: &[Walk]) -> u128
+    ensures { result ≡ matched walks.now }
+{
+    let mut count: u128 = 0;
+    'walks: for walk in walks {
+        count += walk.steps.len() as u128;
+    }
+    count
+}
 
 // An event without a walk.
 fn done_with(alloc: Global, effects: List<NetEffect>) -> Done
@@ -30,6 +44,21 @@ fn done_with(alloc: Global, effects: List<NetEffect>) -> Done
         effects,
         walks: List::new(alloc),
         matched: 0,
+    }
+}
+
+// What came of packets.
+fn done_from(out: SimOut) -> Done
+    ensures effects { result.effects ≡ out.effects }
+    ensures walks { result.walks ≡ out.walks }
+    ensures matched { result.matched ≡ matched out.walks }
+{
+    let SimOut { effects, walks } = out;
+    let matched = matched_in(walks.as_slice());
+    Done {
+        effects,
+        walks,
+        matched,
     }
 }
 
@@ -76,24 +105,78 @@ impl World {
         if self.records.switch_port(port).is_none() {
             return Some(Refusal::NoSuch(*port));
         }
-        match self.chassis {
-            Some(there) if there == *chassis => None,
-            _ => Some(Refusal::NoSuch(*chassis)),
+        if !self.is_chassis(chassis) {
+            return Some(Refusal::NoSuch(*chassis));
         }
+        None
     }
 
-    // Why the packet is refused.
-    fn refusal_of_packet(&self, port: &Name, frame: &List<u8>) -> Option<Refusal>
-        ensures { result ≡ refusal self.now.state (event_of.Packet port.now frame.now) }
+    // Whether the chassis is there.
+    fn is_chassis(&self, chassis: &Name) -> bool
+        ensures { result ≡ is_chassis self.now.state chassis.now }
     {
-        let _frame = frame;
+        self.chassis
+            .as_slice()
+            .iter()
+            .any(|other| *other == *chassis)
+    }
+
+    // Why the chassis doesn't come.
+    fn refusal_of_chassis(&self, chassis: &Name) -> Option<Refusal>
+        ensures { result ≡ refusal self.now.state (event_of.AddChassis chassis.now) }
+    {
+        if self.is_chassis(chassis) {
+            return Some(Refusal::DuplicateName(*chassis));
+        }
+        if self.chassis.len() >= 64 {
+            return Some(Refusal::LimitChassis);
+        }
+        None
+    }
+
+    // Whether so many frames wait that no event may add to them.
+    fn too_many_wait(&self) -> bool
+        ensures { result ≡ too_many_wait self.now.state }
+    {
+        self.crossings.len() >= 65_536
+    }
+
+    // Why a packet may not enter at the port.
+    fn refusal_of_entry(&self, port: &Name) -> Option<Refusal>
+        ensures { result ≡ refusal_of_entry self.now.state port.now }
+    {
         if self.records.switch_port(port).is_none() {
             return Some(Refusal::NoSuch(*port));
         }
         if self.bindings.get(port).is_none() {
             return Some(Refusal::NotBuilt);
         }
+        if self.too_many_wait() {
+            return Some(Refusal::TooManyFrames);
+        }
         None
+    }
+
+    // Why no such frame can be taken.
+    fn refusal_of_frame(&self, frame: u64) -> Option<Refusal>
+        ensures { result ≡ refusal self.now.state (event_of.Deliver frame) }
+    {
+        let frame = u128::from(frame);
+        if self.crossings.get(&frame).is_none() {
+            return Some(Refusal::NoFrame(frame));
+        }
+        None
+    }
+
+    // Why the frame is not repeated.
+    fn refusal_of_repeat(&self, frame: u64) -> Option<Refusal>
+        ensures { result ≡ refusal self.now.state (event_of.Repeat frame) }
+    {
+        let why = self.refusal_of_frame(frame);
+        if why.is_none() && self.too_many_wait() {
+            return Some(Refusal::TooManyFrames);
+        }
+        why
     }
 
     /// Why the event is refused, if it is.
@@ -103,11 +186,13 @@ impl World {
         match event {
             Event::Edit(ops) => Ok(self.refusal_of_edit(ops.as_slice())),
             Event::Bind { port, chassis } => Ok(self.refusal_of_bind(port, chassis)),
-            Event::AddChassis(_) => match self.chassis {
-                Some(_) => Ok(Some(Refusal::NotBuilt)),
-                None => Ok(None),
-            },
-            Event::Packet { port, frame } => Ok(self.refusal_of_packet(port, frame)),
+            Event::AddChassis(chassis) => Ok(self.refusal_of_chassis(chassis)),
+            Event::Inject { port, .. } | Event::Packet { port, .. } => Ok(self.refusal_of_entry(
+                port,
+            )),
+            Event::Deliver { frame } | Event::Lose { frame } => Ok(self.refusal_of_frame(*frame)),
+            Event::Repeat { frame } => Ok(self.refusal_of_repeat(*frame)),
+            Event::Drain => Ok(None),
             Event::Unread(fault) => Ok(Some(Refusal::Read(fault.copy()?))),
             Event::NotBuilt => Ok(Some(Refusal::NotBuilt)),
         }
@@ -121,7 +206,9 @@ impl World {
         ensures { IfOk result (λ done. IsDone self.old (event_of.Edit (Add (record_of.Switch switch.now) ∷ [])) done.effects done.walks done.matched self.new) }
     {
         let effects = self.add_switch(switch)?;
-        self.recompile(alloc)?;
+        self.finish();
+        let names = self.switch_names(alloc, &switch.name)?;
+        self.recompile(alloc, List::new(alloc), names)?;
         Ok(done_with(alloc, effects))
     }
 
@@ -134,7 +221,9 @@ impl World {
         ensures { IfOk result (λ done. IsDone self.old (event_of.Edit (Add (record_of.SwitchPort port.now) ∷ [])) done.effects done.walks done.matched self.new) }
     {
         let effects = self.add_port(port)?;
-        self.recompile(alloc)?;
+        self.finish();
+        let names = self.port_names(alloc, &port.switch, &port.name)?;
+        self.recompile(alloc, List::new(alloc), names)?;
         Ok(done_with(alloc, effects))
     }
 
@@ -166,8 +255,9 @@ impl World {
         requires admitted { refusal self.old.state (event_of.AddChassis chassis) ≡ None }
         ensures { IfOk result (λ done. IsDone self.old (event_of.AddChassis chassis) done.effects done.walks done.matched self.new) }
     {
-        self.add_chassis(chassis);
-        self.recompile(alloc)?;
+        self.add_chassis(chassis)?;
+        self.finish();
+        self.recompile(alloc, List::new(alloc), List::new(alloc))?;
         Ok(done_with(alloc, List::new(alloc)))
     }
 
@@ -178,22 +268,78 @@ impl World {
         requires admitted { refusal self.old.state (event_of.Bind port chassis) ≡ None }
         ensures { IfOk result (λ done. IsDone self.old (event_of.Bind port chassis) done.effects done.walks done.matched self.new) }
     {
-        self.bind(port, chassis)?;
-        self.recompile(alloc)?;
+        self.bind(alloc, port, chassis)?;
+        self.finish();
+        let mut bound = List::new(alloc);
+        bound.push((port, Some(chassis)))?;
+        self.recompile(alloc, bound, List::new(alloc))?;
         Ok(done_with(alloc, List::new(alloc)))
     }
 
-    // A packet.
-    fn take_packet(&mut self, alloc: Global, port: Name, frame: &[u8]) -> Result<Done, NoMemory>
+    // A packet that enters, whose frames wait.
+    fn take_entry(&mut self, alloc: Global, port: &Name, frame: &Bytes) -> Result<Done, NoMemory>
         requires taken { IsTaken self.old }
         requires room { events_of self.old.state < 2 ^ 42 }
-        requires refused { refusal self.old.state (event_of.Packet port frame.now) ≡ None }
-        requires admitted { IsAdmitted (event_of.Packet port frame.now) }
-        ensures { IfOk result (λ done. IsDone self.old (event_of.Packet port frame.now) done.effects done.walks done.matched self.new) }
+        requires refused { refusal self.old.state (event_of.Inject port.now frame.now) ≡ None }
+        requires admitted { IsAdmitted (event_of.Inject port.now frame.now) }
+        ensures { IfOk result (λ done. IsDone self.old (event_of.Inject port.now frame.now) done.effects done.walks done.matched self.new) }
     {
-        let done = self.send(alloc, port, frame)?;
-        self.accepted += 1;
-        Ok(done)
+        let mut out = SimOut::new(alloc);
+        self.enter(alloc, port, frame.as_slice(), &mut out)?;
+        self.finish();
+        Ok(done_from(out))
+    }
+
+    // A packet that enters, and then all frames that wait arrive.
+    fn take_packet(&mut self, alloc: Global, port: &Name, frame: &Bytes) -> Result<Done, NoMemory>
+        requires taken { IsTaken self.old }
+        requires room { events_of self.old.state < 2 ^ 42 }
+        requires refused { refusal self.old.state (event_of.Packet port.now frame.now) ≡ None }
+        requires admitted { IsAdmitted (event_of.Packet port.now frame.now) }
+        ensures { IfOk result (λ done. IsDone self.old (event_of.Packet port.now frame.now) done.effects done.walks done.matched self.new) }
+    {
+        let mut out = SimOut::new(alloc);
+        self.enter(alloc, port, frame.as_slice(), &mut out)?;
+        self.drain(&mut out)?;
+        self.finish();
+        Ok(done_from(out))
+    }
+
+    // A frame that arrives, and waits on where it is repeated.
+    fn take_arrival(&mut self, alloc: Global, frame: u64, keep: bool) -> Result<Done, NoMemory>
+        requires taken { IsTaken self.old }
+        requires room { events_of self.old.state < 2 ^ 42 }
+        requires refused { refusal self.old.state (event_of.Deliver frame) ≡ None }
+        ensures { IfOk result (λ done. IsDone self.old (cond keep (event_of.Repeat frame) (event_of.Deliver frame)) done.effects done.walks done.matched self.new) }
+    {
+        let mut out = SimOut::new(alloc);
+        self.arrive(u128::from(frame), keep, &mut out)?;
+        self.finish();
+        Ok(done_from(out))
+    }
+
+    // A frame that is lost.
+    fn take_loss(&mut self, alloc: Global, frame: u64) -> Done
+        requires taken { IsTaken self.old }
+        requires room { events_of self.old.state < 2 ^ 42 }
+        requires refused { refusal self.old.state (event_of.Lose frame) ≡ None }
+        ensures { IsDone self.old (event_of.Lose frame) result.effects result.walks result.matched self.new }
+    {
+        self.lose(u128::from(frame));
+        self.finish();
+        done_with(alloc, List::new(alloc))
+    }
+
+    // All frames that wait arrive.
+    fn take_drain(&mut self, alloc: Global) -> Result<Done, NoMemory>
+        requires taken { IsTaken self.old }
+        requires room { events_of self.old.state < 2 ^ 42 }
+        ensures { IfOk result (λ done. IsDone self.old event_of.Drain done.effects done.walks done.matched self.new) }
+    {
+        let mut out = SimOut::new(alloc);
+        self.drain(&mut out)?;
+        self.finish();
+        Ok(done_from(out))
     }
 
     /// Does what an event asks for that is not refused.
@@ -205,22 +351,15 @@ impl World {
         ensures { IfOk result (λ done. IsDone self.old event.now done.effects done.walks done.matched self.new) }
     {
         match event {
-            Event::Edit(ops) => {
-                let done = self.take_edit(alloc, ops.as_slice())?;
-                Ok(done)
-            }
-            Event::Bind { port, chassis } => {
-                let done = self.take_binding(alloc, *port, *chassis)?;
-                Ok(done)
-            }
-            Event::AddChassis(chassis) => {
-                let done = self.take_chassis(alloc, *chassis)?;
-                Ok(done)
-            }
-            Event::Packet { port, frame } => {
-                let done = self.take_packet(alloc, *port, frame.as_slice())?;
-                Ok(done)
-            }
+            Event::Edit(ops) => self.take_edit(alloc, ops.as_slice()),
+            Event::Bind { port, chassis } => self.take_binding(alloc, *port, *chassis),
+            Event::AddChassis(chassis) => self.take_chassis(alloc, *chassis),
+            Event::Inject { port, frame } => self.take_entry(alloc, port, frame),
+            Event::Deliver { frame } => self.take_arrival(alloc, *frame, false),
+            Event::Lose { frame } => Ok(self.take_loss(alloc, *frame)),
+            Event::Repeat { frame } => self.take_arrival(alloc, *frame, true),
+            Event::Drain => self.take_drain(alloc),
+            Event::Packet { port, frame } => self.take_packet(alloc, port, frame),
             Event::Unread(_) | Event::NotBuilt => unreachable!(),
         }
     }

@@ -27,7 +27,7 @@ pub returns-in_err-event-clause-read_fault : goal.returns-in_err-event-clause-re
 returns-in_err-event-clause-read_fault g c = λ e.
     let same : c.next_event.result ≡ Err ReadFault = passed_on _ c.from_residual.result c.in_err-event.field-0.0 _ c.in_err-event.was c.from_residual.ensures.1 e in
     let stopped = c.next_event.ensures.stopped same in
-    at_read _ _ _ _ _ _ _ _ stopped.0 c.lines.invariant.ran stopped.1
+    at_read _ _ _ _ _ _ _ _ stopped.1 stopped.0 c.lines.invariant.ran stopped.2
 
 pub returns-in_err-event-clause-too_long : goal.returns-in_err-event-clause-too_long
 returns-in_err-event-clause-too_long g c = λ e.

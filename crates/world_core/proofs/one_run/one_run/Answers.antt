@@ -1,5 +1,5 @@
 use Rattle.world_core.proofs.OneStep.{same_run, same_step}
-use Rattle.world_core.proofs.OneWalk.{same_walks}
+use Rattle.world_core.proofs.OnePass.{same_walks}
 use Rattle.world_core.proofs.one_run.one_run.Goals as goal
 
 pub returns-clause-step : goal.returns-clause-step

@@ -7,11 +7,11 @@ use Rattle.switch_engine.specs.declared.effect.NetEffect.TheVariants as effect
 use Rattle.tunnel_keys.specs.Edits.{GivesKeys, IsEdit}
 use Rattle.tunnel_keys.specs.Keys.{Keys}
 use Rattle.tunnel_keys.specs.declared.owner.KeyOwner.TheVariants.{Port}
-use Rattle.world_core.specs.Editing.{Edits, counted, port_effect}
+use Rattle.world_core.specs.Consistent.{IsConsistent}
+use Rattle.world_core.specs.Editing.{Edits, port_effect}
 use Rattle.world_core.specs.Inside.{seen_of}
 use Rattle.world_core.specs.New.{AreNew}
 use Rattle.world_core.specs.Numbers.{port_number}
-use Rattle.world_core.specs.Seen.{IsConsistent}
 use Rattle.world_core.specs.State.{State, events_of}
 use Rattle.world_core.proofs.Adding.{edits_port, consistent_port}
 use Rattle.world_core.proofs.Planning.{port_fits, key_for_port}
@@ -54,20 +54,20 @@ returns-clause-edits c =
     let m = (seen_of c.self.inside).state in
     let p = c.args.port.now in
     let plan = c.in_ok-plan.plan in
-    let n : State = record (counted m) { net = c.put.new.self; keys = c.apply.new.self } in
+    let n : State = record m { net = c.put.new.self; keys = c.apply.new.self } in
     let net : c.put.new.self ≡ record m.net { ports = put m.net.ports p.name (record p { birth = record { 0 = events_of m + 1 } }) } =
     c.in_ok-put.ensures.ok ∙ (λ i. record m.net { ports = put m.net.ports p.name (record p { birth = record { 0 = events_of m + 1 }; addresses = c.in_ok-addresses.ensures i }) }) in
     let key : c.unwrap_or-key.result ≡ unwrap_or (port_number plan p.name) 0 = c.unwrap_or-key.ensures ∙ ap (λ o. unwrap_or o 0) (c.port.ensures ∙ ap (λ (k : Keys). port_number k p.name) c.after.ensures) in
     let named : c.push.new.self ≡ port_effect plan (p.name, record { 0 = events_of m + 1 }) ∷ [] =
     c.in_ok-push.ensures.ok ∙ ap (λ l. l ++ effect.PortKey p.name c.unwrap_or-key.result ∷ []) c.new-effects.ensures ∙ ap (λ k. effect.PortKey p.name k ∷ []) key in
     subst (λ v. Edits v.state (Add (record_of.SwitchPort p) ∷ []) c.push.new.self n) c.self.view_is
-    (edits_port m n plan c.in_ok-plan.ensures.hold p c.in_ok-plan.ensures.gives (λ i. record (counted m) { net = net i; keys = c.apply.ensures i }) c.push.new.self named)
+    (edits_port m n plan c.in_ok-plan.ensures.hold p c.in_ok-plan.ensures.gives (λ i. record m { net = net i; keys = c.apply.ensures i }) c.push.new.self named)
 
 pub returns-clause-consistent : goal.returns-clause-consistent
 returns-clause-consistent c =
     let m = (seen_of c.self.inside).state in
     let p = c.args.port.now in
-    let n : State = record (counted m) { net = c.put.new.self; keys = c.apply.new.self } in
+    let n : State = record m { net = c.put.new.self; keys = c.apply.new.self } in
     let net : c.put.new.self ≡ record m.net { ports = put m.net.ports p.name (record p { birth = record { 0 = events_of m + 1 } }) } =
     c.in_ok-put.ensures.ok ∙ (λ i. record m.net { ports = put m.net.ports p.name (record p { birth = record { 0 = events_of m + 1 }; addresses = c.in_ok-addresses.ensures i }) }) in
     let old : IsConsistent m (seen_of c.self.inside).zones = subst (λ v. IsConsistent v.state v.zones) (sym c.self.view_is) c.requires.consistent in
@@ -76,4 +76,4 @@ returns-clause-consistent c =
     let on : IsSome (at m.net.switches p.switch) = subst (λ v. IsSome (at v.state.net.switches p.switch)) (sym c.self.view_is) c.requires.on_switch in
     let new : AreNew m.net p = subst (λ v. AreNew v.state.net p) (sym c.self.view_is) c.requires.new in
     let room : events_of m < 2 ^ 42 = subst (λ v. events_of v.state < 2 ^ 42) (sym c.self.view_is) c.requires.room in
-    consistent_port m n c.in_ok-plan.plan c.in_ok-plan.ensures.hold p c.in_ok-plan.ensures.gives (λ i. record (counted m) { net = net i; keys = c.apply.ensures i }) c.self.inside.zones.entries old absent few on new room
+    consistent_port m n c.in_ok-plan.plan c.in_ok-plan.ensures.hold p c.in_ok-plan.ensures.gives (λ i. record m { net = net i; keys = c.apply.ensures i }) c.self.inside.zones.entries old absent few on new room

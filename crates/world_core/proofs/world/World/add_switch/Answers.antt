@@ -7,10 +7,10 @@ use Rattle.switch_engine.specs.declared.effect.NetEffect.TheVariants as effect
 use Rattle.tunnel_keys.specs.Edits.{GivesKeys, IsEdit}
 use Rattle.tunnel_keys.specs.Keys.{Keys}
 use Rattle.tunnel_keys.specs.declared.owner.KeyOwner.TheVariants.{Datapath}
-use Rattle.world_core.specs.Editing.{Edits, counted, datapath_effect}
+use Rattle.world_core.specs.Consistent.{IsConsistent}
+use Rattle.world_core.specs.Editing.{Edits, datapath_effect}
 use Rattle.world_core.specs.Inside.{seen_of}
 use Rattle.world_core.specs.Numbers.{datapath_number}
-use Rattle.world_core.specs.Seen.{IsConsistent}
 use Rattle.world_core.specs.State.{State, events_of}
 use Rattle.world_core.proofs.Adding.{edits_switch, consistent_switch}
 use Rattle.world_core.proofs.Planning.{switch_fits, key_for_switch}
@@ -49,20 +49,20 @@ returns-clause-edits c =
     let m = (seen_of c.self.inside).state in
     let s = c.args.switch.now in
     let plan = c.in_ok-plan.plan in
-    let n : State = record (counted m) { net = c.put.new.self; keys = c.apply.new.self } in
+    let n : State = record m { net = c.put.new.self; keys = c.apply.new.self } in
     let key : c.unwrap_or-key.result ≡ unwrap_or (datapath_number plan s.name) 0 = c.unwrap_or-key.ensures ∙ ap (λ o. unwrap_or o 0) (c.datapath.ensures ∙ ap (λ (k : Keys). datapath_number k s.name) c.after.ensures) in
     let named : c.push.new.self ≡ datapath_effect plan (s.name, record { 0 = events_of m + 1 }) ∷ [] =
     c.in_ok-push.ensures.ok ∙ ap (λ l. l ++ effect.DatapathKey s.name c.unwrap_or-key.result ∷ []) c.new-effects.ensures ∙ ap (λ k. effect.DatapathKey s.name k ∷ []) key in
     subst (λ v. Edits v.state (Add (record_of.Switch s) ∷ []) c.push.new.self n) c.self.view_is
-    (edits_switch m n plan c.in_ok-plan.ensures.hold s c.in_ok-plan.ensures.gives (λ i. record (counted m) { net = c.in_ok-put.ensures.ok i; keys = c.apply.ensures i }) c.push.new.self named)
+    (edits_switch m n plan c.in_ok-plan.ensures.hold s c.in_ok-plan.ensures.gives (λ i. record m { net = c.in_ok-put.ensures.ok i; keys = c.apply.ensures i }) c.push.new.self named)
 
 pub returns-clause-consistent : goal.returns-clause-consistent
 returns-clause-consistent c =
     let m = (seen_of c.self.inside).state in
     let s = c.args.switch.now in
-    let n : State = record (counted m) { net = c.put.new.self; keys = c.apply.new.self } in
+    let n : State = record m { net = c.put.new.self; keys = c.apply.new.self } in
     let old : IsConsistent m (seen_of c.self.inside).zones = subst (λ v. IsConsistent v.state v.zones) (sym c.self.view_is) c.requires.consistent in
     let absent : at m.net.switches s.name ≡ None = subst (λ v. at v.state.net.switches s.name ≡ None) (sym c.self.view_is) c.requires.absent in
     let few : length m.net.switches < 1024 = subst (λ v. length v.state.net.switches < 1024) (sym c.self.view_is) c.requires.few in
     let room : events_of m < 2 ^ 42 = subst (λ v. events_of v.state < 2 ^ 42) (sym c.self.view_is) c.requires.room in
-    consistent_switch m n c.in_ok-plan.plan c.in_ok-plan.ensures.hold s c.in_ok-plan.ensures.gives (λ i. record (counted m) { net = c.in_ok-put.ensures.ok i; keys = c.apply.ensures i }) c.self.inside.zones.entries old absent few room
+    consistent_switch m n c.in_ok-plan.plan c.in_ok-plan.ensures.hold s c.in_ok-plan.ensures.gives (λ i. record m { net = c.in_ok-put.ensures.ok i; keys = c.apply.ensures i }) c.self.inside.zones.entries old absent few room

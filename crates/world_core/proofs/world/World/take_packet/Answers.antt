@@ -1,20 +1,23 @@
-use Rattle.std.proofs.Common.{◌≡◌, ◌+◌, subst, refl}
-use Rattle.ovn_base.specs.ByName.{at}
-use Rattle.world_core.specs.Editing.{counted}
-use Rattle.world_core.specs.Inside.{seen_of}
-use Rattle.world_core.proofs.Finishing.{proper_flows, packet_done}
-use Rattle.world_core.proofs.Found.{some_of}
-use Rattle.world_core.proofs.Refusals.{is_bound}
+use Rattle.std.specs.Prelude.{◌<◌, ◌^◌}
+use Rattle.std.proofs.Common.{sym, subst, ◌∙◌}
+use Rattle.edit_reader.specs.declared.event.Event.TheVariants as event_of
+use Rattle.world_core.specs.Parts.{IsDone}
+use Rattle.world_core.specs.Step.{most_arrivals}
+use Rattle.world_core.proofs.PacketsDone.{packet_done, drains_events, enters_events, handed_on}
 use Rattle.world_core.proofs.world.World.take_packet.Goals as goal
 
-pub send-requires-clause-proper : goal.send-requires-clause-proper
-send-requires-clause-proper c =
-    let w = c.args.self.now in
-    let home = some_of (at w.state.bindings c.args.port) (is_bound w.state c.args.port c.args.frame.now c.requires.refused) in
-    proper_flows w c.args.port home.0 c.requires.taken home.1
+pub finish-requires-clause-room : goal.finish-requires-clause-room
+finish-requires-clause-room c =
+    let entered = c.in_ok-enter.ensures in
+    let gone = c.in_ok-drain.ensures in
+    let same = drains_events most_arrivals c.enter.new.self.state gone.effects c.drain.new.self.state gone.happens ∙ enters_events c.args.self.now.state c.args.port.now c.as_slice.result.now entered.effects c.enter.new.self.state entered.happens in
+    subst (λ n. n < 2 ^ 42) (sym same) c.requires.room
 
 pub returns : goal.returns
 returns c =
-    let after = record c.self.inside { accepted = c.self.inside.accepted + 1 } in
-    packet_done c.args.self.now (seen_of after) c.args.port c.args.frame.now c.in_ok-done.done.effects c.in_ok-done.done.walks c.requires.taken c.requires.room c.in_ok-done.ensures.sent c.in_ok-done.done.matched c.in_ok-done.ensures.counted
-    (subst (λ w. seen_of after ≡ record w { state = counted w.state }) c.self.view_is refl)
+    let frame = c.as_slice.result.now in
+    let done = c.done_from.result in
+    subst (λ f. IsDone c.args.self.now (event_of.Packet c.args.port.now f) done.effects done.walks done.matched c.finish.new.self) c.as_slice.ensures
+    (handed_on c.args.self.now c.finish.new.self (event_of.Packet c.args.port.now frame) c.drain.new.out done.effects done.walks done.matched c.done_from.ensures.effects c.done_from.ensures.walks
+    (packet_done c.args.self.now c.args.port.now frame c.new-out.result c.enter.new.out c.drain.new.out c.enter.new.self c.drain.new.self c.finish.new.self done.matched c.requires.taken c.requires.room
+    (record { effects = c.new-out.ensures.effects; walks = c.new-out.ensures.walks }) c.in_ok-enter.ensures c.in_ok-drain.ensures c.finish.ensures c.done_from.ensures.matched))

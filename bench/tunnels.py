@@ -1,0 +1,109 @@
+"""Times the program on random packets through many switches on four chassis, and the plain model on fewer of them.
+
+The packets are those of the generated workload: switches, ports, chassis and bindings have its names and addresses, and each
+packet is made from the next word of SplitMix64 of the seed 1. Each port is added by an edit of its own."""
+
+import json
+import os
+import subprocess
+import sys
+import tempfile
+import time
+
+top, model = sys.argv[1], sys.argv[2]
+chassis = 4
+most = (1 << 64) - 1
+
+
+def words(state):
+    """The words of SplitMix64 from the state."""
+    while True:
+        state = (state + 0x9E3779B97F4A7C15) & most
+        word = state
+        word = (word ^ word >> 30) * 0xBF58476D1CE4E5B9 & most
+        word = (word ^ word >> 27) * 0x94D049BB133111EB & most
+        yield word ^ word >> 31
+
+
+def mac(switch, port):
+    return f"0a000000{switch:02x}{port + 1:02x}"
+
+
+def network(switches, ports):
+    """The events that make the chassis, the switches and the ports, and bind them."""
+    for at in range(chassis):
+        yield {"chassis": {"add": f"c{at}"}}
+    for switch in range(switches):
+        yield {"edit": [{"add": "switch", "name": f"s{switch}"}]}
+        for port in range(ports):
+            address = ":".join(mac(switch, port)[at : at + 2] for at in range(0, 12, 2))
+            name, ip = f"s{switch}-p{port}", f"10.0.{switch}.{port + 1}"
+            yield {"edit": [{"add": "switch_port", "name": name, "switch": f"s{switch}", "addresses": [f"{address} {ip}"]}]}
+    for switch in range(switches):
+        for port in range(ports):
+            yield {"bind": {"port": f"s{switch}-p{port}", "chassis": f"c{(switch + port) % chassis}"}}
+
+
+def packets(switches, ports, count):
+    """A packet for each of the first words, from a port of a switch to a port of the same switch."""
+    source = words(1)
+    for _ in range(count):
+        word = next(source)
+        switch, port, other = word % switches, word // switches % ports, word // switches // ports % ports
+        frame = f"{mac(switch, other)}{mac(switch, port)}88b5{word:016x}"
+        yield {"packet": {"port": f"s{switch}-p{port}", "frame": frame}}
+
+
+def run(command, setup, traffic):
+    """The seconds that the set-up and the traffic take, by the times at which the last line of each comes, and the lines."""
+    with tempfile.TemporaryFile("w+") as events:
+        for event in [*setup, *traffic]:
+            events.write(json.dumps(event, separators=(",", ":")) + "\n")
+        events.flush()
+        events.seek(0)
+        start = time.monotonic()
+        child = subprocess.Popen(command, stdin=events, stdout=subprocess.PIPE)
+        mark, middle, lines = f"{len(setup)} ok ".encode(), start, []
+        for line in child.stdout:
+            if middle == start and line.startswith(mark):
+                middle = time.monotonic()
+            lines.append(line)
+        end = time.monotonic()
+        status = child.wait()
+    count = len(setup) + len(traffic)
+    last = lines.pop().decode().rstrip()
+    if status != 0 or last != f"end events={count} accepted={count} refused=0 waiting=0":
+        sys.exit(f"{command}: status {status}, last line {last!r}")
+    return middle - start, end - middle, lines
+
+
+def counts(lines, setup):
+    """How many packets went out, through how many tunnels, how many were dropped, and how many flows were matched."""
+    kinds, walks = {}, 0
+    for line in lines:
+        number, kind, rest = line.rstrip().split(b" ", 2)
+        kinds[kind] = kinds.get(kind, 0) + 1
+        matched = rest.removeprefix(b"walks=")
+        if kind == b"ok" and int(number) > setup and matched.isdigit():
+            walks += int(matched)
+    out, tunnels, drops = (kinds.get(kind, 0) for kind in (b"out", b"tunnel", b"drop"))
+    flows = f", {walks} flows matched" if walks else ""
+    return f"{out} out, {tunnels} tunnels, {drops} drops{flows}"
+
+
+def measure(name, command, switches, ports, count, runs):
+    """The best of the runs over a network and packets through it."""
+    setup, traffic = list(network(switches, ports)), list(packets(switches, ports, count))
+    done = [run(command, setup, traffic) for _ in range(runs)]
+    before, seconds, lines = min(done, key=lambda one: one[1])
+    print(f"{name}, {switches} switches of {ports} ports: {len(setup)} events of set-up in {before:.3f} s,", end=" ")
+    print(f"{count} packets in {seconds:.3f} s, {count / seconds:.0f} a second, {seconds / count * 1e6:.1f} us each:", end=" ")
+    print(counts(lines, len(setup)), flush=True)
+
+
+program = [*os.environ.get("OVNSIM", os.path.join(top, "ovnsim")).split(), "replay"]
+subprocess.run(program, stdin=subprocess.DEVNULL, stdout=subprocess.DEVNULL, check=True)
+measure("ovnsim", program, 8, 16, 20_000, 3)
+measure("ovnsim", program, 32, 64, 20_000, 1)
+if os.path.exists(model):
+    measure("model", [sys.executable, "-u", model, "replay"], 8, 16, 2_000, 1)

@@ -1,0 +1,444 @@
+-- Names stay names: in the records, on the way, in effects and in refusals.
+use Rattle.std.specs.Prelude.{◌≡◌, ◌≤◌, ◌<◌, ◌+◌, ◌++◌, ◌^◌, ◌&&◌, ℕ, zero, suc, Bool, true, false, not, List, [], ◌∷◌, Some, None, Option, is_some, cond, map, filter, nat_le, length, unwrap_or, refl}
+use Rattle.std.specs.BTreeMap.{is_at}
+use Rattle.std.specs.Cmp.Lexicographic.{slice_cmp}
+use Rattle.std.specs.List.{AllByRecursion}
+use Rattle.std.specs.Option.{option_map}
+use Rattle.std.specs.Ordering.{is_eq, match_ordering, nat_cmp}
+use Rattle.std.specs.declared.cmp.Ordering.{Ordering}
+use Rattle.std.specs.declared.cmp.Ordering.TheVariants.{Less, Equal, Greater}
+use Rattle.std.proofs.Common.{sym, ap, subst, arith, inl, inr}
+use Rattle.ovn_base.specs.Among.{Among, here, there}
+use Rattle.ovn_base.specs.ByName.{at, in_order, put}
+use Rattle.ovn_base.specs.NameText.{IsName}
+use Rattle.ovn_base.specs.SameName.{same_name}
+use Rattle.ovn_base.specs.declared.address.Birth.{Birth}
+use Rattle.ovn_base.specs.declared.address.Mac.{Mac}
+use Rattle.ovn_base.specs.declared.name.Name.{Name}
+use Rattle.ovn_base.proofs.AmongLaws.{among_all, filter_among, flat_map_among, map_among}
+use Rattle.ovn_base.proofs.Puts.{at_among}
+use Rattle.ovn_base.proofs.Puts as puts
+use Rattle.chassis_sim.proofs.Waiting.{all_found, all_left}
+use Rattle.inet_packet.specs.declared.packet.Packet as inet
+use Rattle.flow_table.specs.declared.flow.Cause.TheVariants.{Loopback}
+use Rattle.nb_records.specs.Network.{Network, with_record}
+use Rattle.nb_records.specs.declared.record.Op.{Op}
+use Rattle.nb_records.specs.declared.record.Op.TheVariants.{Add}
+use Rattle.nb_records.specs.declared.record.Record.{Record}
+use Rattle.nb_records.specs.declared.record.Record.TheVariants as record_of
+use Rattle.nb_records.specs.declared.record.SwitchPort.{SwitchPort}
+use Rattle.edit_reader.specs.declared.event.Event.{Event}
+use Rattle.edit_reader.specs.declared.event.Event.TheVariants.{Edit, Bind, AddChassis, Inject, Deliver, Lose, Repeat, Drain, Packet, Unread, NotBuilt}
+use Rattle.event_lines.specs.declared.refusal.Refusal.{Refusal}
+use Rattle.event_lines.specs.declared.refusal.Refusal.TheVariants as why
+use Rattle.event_lines.specs.Picks.{IsNamedEffect, AreNamed, IsNamedRefusal}
+use Rattle.switch_engine.specs.declared.effect.NetEffect.{NetEffect}
+use Rattle.tunnel_keys.specs.Edits.{GivesKeysAfter}
+use Rattle.tunnel_keys.specs.Keys.{Keys, retire}
+use Rattle.tunnel_keys.specs.Owners.{datapaths_in, ports_in}
+use Rattle.tunnel_keys.specs.declared.owner.DatapathKey.{DatapathKey}
+use Rattle.tunnel_keys.specs.declared.owner.KeyOwner.{KeyOwner}
+use Rattle.tunnel_keys.specs.declared.owner.KeyOwner.TheVariants.{Datapath, Port}
+use Rattle.tunnel_keys.specs.declared.owner.PortKey.{PortKey}
+use Rattle.tunnel_keys.proofs.Lists.{in_order_among}
+use Rattle.tunnel_keys.proofs.OwnerLaws.{in_datapaths, in_ports}
+use Rattle.world_core.specs.Crossing.{numbered_from}
+use Rattle.world_core.specs.Editing.{owner_of, owners_of, datapath_effect, port_effect, added_ports, key_effects, accepted, born, with_name}
+use Rattle.world_core.specs.Effects.{effects_of, crossings_in}
+use Rattle.world_core.specs.Homes.{is_at as is_bound_to, is_in, members, members_at, other_homes}
+use Rattle.world_core.specs.Numbers.{datapath_number, port_number}
+use Rattle.world_core.specs.Refusing.{refusal, refusal_of_entry, refusal_of_record, too_many_wait}
+use Rattle.world_core.specs.State.{State, empty, events_of, finished, is_chassis, settled_where_none_waits}
+use Rattle.world_core.specs.Step.{Step, Does, Enters, Arrives, Drains, sent_on, with_kept, most_arrivals}
+use Rattle.world_core.specs.Unbuilt.{is_unbuilt_port}
+use Rattle.world_core.specs.Visit.{End, leaves, is_dropped, crosses, is_lost, Target, HasTarget, Origin, crossing_to, sent_home, sent_to, Goes, Visit, arrival, is_gone, is_same_port, reached}
+use Rattle.world_core.specs.declared.crossing.Aim.{Aim}
+use Rattle.world_core.specs.declared.crossing.Aim.TheVariants.{ToPort, ToGroup}
+use Rattle.world_core.specs.declared.crossing.Crossing.{Crossing}
+use Rattle.world_core.specs.declared.crossing.Group.{Group}
+use Rattle.world_core.specs.declared.crossing.Group.TheVariants.{Flood, Unknown}
+
+-- ---- what is named
+
+-- the names in a record and in an event are names
+abbrev pub IsNamedRecord : Record → Type 0
+IsNamedRecord (record_of.Switch switch) = IsName switch.name
+IsNamedRecord (record_of.SwitchPort port) = IsName port.name × IsName port.switch
+
+abbrev pub IsNamedOp : Op → Type 0
+IsNamedOp (Add row) = IsNamedRecord row
+
+abbrev pub IsNamedEvent : Event → Type 0
+IsNamedEvent (Edit ops) = AllByRecursion IsNamedOp ops
+IsNamedEvent (Bind port chassis) = IsName port × IsName chassis
+IsNamedEvent (AddChassis chassis) = IsName chassis
+IsNamedEvent (Inject port frame) = IsName port
+IsNamedEvent (Deliver n) = Unit {0}
+IsNamedEvent (Lose n) = Unit {0}
+IsNamedEvent (Repeat n) = Unit {0}
+IsNamedEvent Drain = Unit {0}
+IsNamedEvent (Packet port frame) = IsName port
+IsNamedEvent (Unread fault) = Unit {0}
+IsNamedEvent NotBuilt = Unit {0}
+
+abbrev pub IsNamedPort : Name × SwitchPort → Type 0
+IsNamedPort e = IsName e.0 × IsName e.1.switch
+
+-- the chassis of a bound port
+abbrev pub HasNamedHome : Name × Name → Type 0
+HasNamedHome e = IsName e.1
+
+-- a crossing goes to a chassis, and maybe to one port
+abbrev pub IsNamedAim : Aim → Type 0
+IsNamedAim (ToPort id) = IsName id.name
+IsNamedAim (ToGroup g) = Unit {0}
+
+abbrev pub IsNamedCrossing : ℕ × Crossing → Type 0
+IsNamedCrossing w = IsName w.1.home × IsNamedAim w.1.aim
+
+abbrev IsNamedEnd : End → Type 0
+IsNamedEnd (leaves q packet) = IsName q
+IsNamedEnd (is_dropped a q cause) = IsName a × IsName q
+IsNamedEnd (crosses x) = IsNamedCrossing (0, x)
+IsNamedEnd (is_lost n) = Unit {0}
+
+abbrev AreNamedEnds : List End → Type 0
+AreNamedEnds ends = AllByRecursion IsNamedEnd ends
+
+-- the ranges of the keys are numbers of 64 bits
+pub record AreRanged (keys : Keys) : Type 0 where
+  pub datapaths : keys.datapath_range < 2 ^ 64
+  pub ports : keys.port_range < 2 ^ 64
+
+-- what stays so of a state: names are names, and the ranges of keys numbers of 64 bits
+pub record IsNamedState (m : State) : Type 0 where
+  pub ports : AllByRecursion IsNamedPort m.net.ports
+  pub chassis : AllByRecursion IsName m.chassis
+  pub bindings : AllByRecursion HasNamedHome m.bindings
+  pub waiting : AllByRecursion IsNamedCrossing m.waiting
+  pub keys : AreRanged m.keys
+
+-- ---- lists
+
+module _ {X : Type 0} (P : X → Type 0) where
+  all_joined : (xs ys : List X) → AllByRecursion P xs → AllByRecursion P ys → AllByRecursion P (xs ++ ys)
+  all_joined [] ys h k = k
+  all_joined (x ∷ xs) ys h k = (h.0, all_joined xs ys h.1 k)
+
+module _ {X Y : Type 0} (P : Y → Type 0) (f : X → Y) where
+  all_images : (xs : List X) → ((x : X) → Among x xs → P (f x)) → AllByRecursion P (map f xs)
+  all_images [] h = tt
+  all_images (x ∷ xs) h = (h x here, all_images xs (λ y m. h y (there m)))
+
+module _ {X : Type 0} (P : Name × X → Type 0) where
+  all_put : (es : List (Name × X)) (k : Name) (v : X) → AllByRecursion P es → P (k, v) → AllByRecursion P (put es k v)
+  all_put [] k v h p = (p, tt)
+  all_put (e ∷ es) k v h p = by (slice_cmp nat_cmp k e.0) refl (all_put es k v h.1 p)
+    where
+      by : (o : Ordering) → slice_cmp nat_cmp k e.0 ≡ o → AllByRecursion P (put es k v) → AllByRecursion P (match_ordering o ((k, v) ∷ e ∷ es) ((e.0, v) ∷ es) (e ∷ put es k v))
+      by Less is rest = (p, h)
+      by Equal is rest = (subst (λ n. P (n, v)) (puts.same_name k e.0 (ap is_eq is)) p, h.1)
+      by Greater is rest = (h.0, rest)
+
+module _ (P : Name → Type 0) where
+  all_with : (names : List Name) (name : Name) → AllByRecursion P names → P name → AllByRecursion P (with_name names name)
+  all_with [] name h p = (p, tt)
+  all_with (first ∷ names) name h p = by (slice_cmp nat_cmp name first) (all_with names name h.1 p)
+    where
+      by : (o : Ordering) → AllByRecursion P (with_name names name) → AllByRecursion P (match_ordering o (name ∷ first ∷ names) (first ∷ names) (first ∷ with_name names name))
+      by Less rest = (p, h)
+      by Equal rest = h
+      by Greater rest = (h.0, rest)
+
+-- ---- edits
+
+abbrev IsNamedOwner : KeyOwner → Type 0
+IsNamedOwner (Datapath name birth) = IsName name
+IsNamedOwner (Port datapath name birth) = IsName name
+
+owner_named : (row : Record) (n : ℕ) → IsNamedRecord row → IsNamedOwner (owner_of row n)
+owner_named (record_of.Switch switch) n named = named
+owner_named (record_of.SwitchPort port) n named = named.0
+
+owners_named : (ops : List Op) (n : ℕ) → AllByRecursion IsNamedOp ops → AllByRecursion IsNamedOwner (owners_of ops n)
+owners_named [] n named = tt
+owners_named (Add row ∷ ops) n named = (owner_named row n named.0, owners_named ops n named.1)
+
+module _ (between after : Keys) (owners : List KeyOwner) (ranged : AreRanged between) (named : AllByRecursion IsNamedOwner owners) (gives : GivesKeysAfter between owners after) where
+  datapath_line : (o : Name × Birth) → Among o (in_order (datapaths_in owners)) → IsNamedEffect (datapath_effect after o)
+  datapath_line o among =
+      let owner : Among (Datapath o.0 o.1) owners = in_datapaths owners o.0 o.1 (in_order_among (datapaths_in owners) o.0 o.1 among) in
+      let given = gives.datapath_given o.0 o.1 owner in
+      let number : unwrap_or (datapath_number after o.0) 0 ≡ given.0 = ap (λ (k : Option DatapathKey). unwrap_or (option_map (λ d. d.key) k) 0) given.1 in
+      let high : given.0 ≤ between.datapath_range = given.2.high in
+      let range : between.datapath_range < 2 ^ 64 = ranged.datapaths in
+      (among_all IsNamedOwner (Datapath o.0 o.1) owners named owner, omega (arith, number, high, range))
+
+  port_line : (o : Name × Birth) → Among o (added_ports owners after) → IsNamedEffect (port_effect after o)
+  port_line o among =
+      let d = flat_map_among (λ (d : Name × DatapathKey). in_order (ports_in d.0 owners)) o after.datapaths among in
+      let owner : Among (Port d.0.0 o.0 o.1) owners = in_ports owners d.0.0 o.0 o.1 (in_order_among (ports_in d.0.0 owners) o.0 o.1 d.2) in
+      let given = gives.port_given d.0.0 o.0 o.1 owner in
+      let number : unwrap_or (port_number after o.0) 0 ≡ given.0 = ap (λ (k : Option PortKey). unwrap_or (option_map (λ p. p.key) k) 0) given.2 in
+      let high : given.0 ≤ between.port_range = given.4.high in
+      let range : between.port_range < 2 ^ 64 = ranged.ports in
+      (among_all IsNamedOwner (Port d.0.0 o.0 o.1) owners named owner, omega (arith, number, high, range))
+
+  keys_named : AreNamed (key_effects owners after)
+  keys_named =
+      all_joined IsNamedEffect (map (datapath_effect after) (in_order (datapaths_in owners))) (map (port_effect after) (added_ports owners after))
+      (all_images IsNamedEffect (datapath_effect after) (in_order (datapaths_in owners)) datapath_line) (all_images IsNamedEffect (port_effect after) (added_ports owners after) port_line)
+
+  still_ranged : AreRanged after
+  still_ranged = record {
+    datapaths = subst (λ n. n < 2 ^ 64) (sym gives.datapath_range) ranged.datapaths;
+    ports = subst (λ n. n < 2 ^ 64) (sym gives.port_range) ranged.ports;
+  }
+
+with_named : (net : Network) (row : Record) (n : ℕ) → AllByRecursion IsNamedPort net.ports → IsNamedRecord row → AllByRecursion IsNamedPort (with_record net (born n row)).ports
+with_named net (record_of.Switch switch) n named fine = named
+with_named net (record_of.SwitchPort port) n named fine = all_put IsNamedPort net.ports port.name (record port { birth = record { 0 = n } }) named fine
+
+accepted_named : (net : Network) (ops : List Op) (n : ℕ) → AllByRecursion IsNamedPort net.ports → AllByRecursion IsNamedOp ops → AllByRecursion IsNamedPort (accepted net ops n).ports
+accepted_named net [] n named fine = named
+accepted_named net (Add row ∷ ops) n named fine = accepted_named (with_record net (born n row)) ops n (with_named net row n named fine.0) fine.1
+
+-- ---- packets
+
+port_named : (m : State) (q : Name) (port : SwitchPort) → IsNamedState m → at m.net.ports q ≡ Some port → IsNamedPort (q, port)
+port_named m q port named there' = among_all IsNamedPort (q, port) m.net.ports named.ports (at_among m.net.ports q port there')
+
+home_named : (m : State) (q chassis : Name) → IsNamedState m → at m.bindings q ≡ Some chassis → IsName chassis
+home_named m q chassis named bound = among_all HasNamedHome (q, chassis) m.bindings named.bindings (at_among m.bindings q chassis bound)
+
+member_named : (m : State) (switch : Name) (group : Group) (chassis q : Name) → IsNamedState m → Among q (members_at m.net m.bindings switch group chassis) → IsName q
+member_named m switch group chassis q named among =
+    let test : Name × SwitchPort → Bool = λ e. same_name e.1.switch switch && is_in group e.1 in
+    let one = filter_among (λ n. is_bound_to m.bindings n chassis) q (members m.net switch group) among in
+    let entry = map_among (λ (e : Name × SwitchPort). e.0) q (filter test m.net.ports) one.0 in
+    let kept = filter_among test entry.0 m.net.ports entry.1 in
+    subst IsName (sym entry.2) (among_all IsNamedPort entry.0 m.net.ports named.ports kept.0).0
+
+module _ (m : State) (named : IsNamedState m) (from : Origin) (switch : IsName from.switch.name) (port : IsName from.port.name) (packet : inet.Packet) where
+  one_named : (q : Name) (entry : SwitchPort) (home : Option Name) → at m.bindings q ≡ home → IsName q → AreNamedEnds (sent_home from packet q entry home)
+  one_named q entry None e is = ((switch, is), tt)
+  one_named q entry (Some home) e is = by (same_name home from.chassis) (same_name q from.port.name)
+    where
+      by : (at_home back : Bool) → AreNamedEnds (cond at_home (cond back (is_dropped from.switch.name q Loopback ∷ []) (leaves q packet ∷ [])) (crosses (crossing_to from packet (ToPort (record { name = q; birth = entry.birth })) home) ∷ []))
+      by true true = ((switch, is), tt)
+      by true false = (is, tt)
+      by false back = ((home_named m q home named e, is), tt)
+
+  group_named : (g : Group) → AreNamedEnds (sent_to m from packet (Target.group g))
+  group_named g =
+      let homes : List Name = other_homes m.net m.bindings m.chassis from.switch.name g from.chassis in
+      let others : Name → Bool = λ q. not (same_name q from.port.name) in
+      let here' : List Name = members_at m.net m.bindings from.switch.name g from.chassis in
+      let crossing : (home : Name) → Among home homes → IsNamedEnd (crosses (crossing_to from packet (ToGroup g) home)) =
+      λ home among. (among_all IsName home m.chassis named.chassis (filter_among _ home m.chassis among).0, tt) in
+      let leaving : (q : Name) → Among q (filter others here') → IsNamedEnd (leaves q packet) =
+      λ q among. member_named m from.switch.name g from.chassis q named (filter_among others q here' among).0 in
+      all_joined IsNamedEnd (map (λ home. crosses (crossing_to from packet (ToGroup g) home)) homes) (map (λ q. leaves q packet) (filter others here'))
+      (all_images IsNamedEnd (λ home. crosses (crossing_to from packet (ToGroup g) home)) homes crossing) (all_images IsNamedEnd (λ q. leaves q packet) (filter others here') leaving)
+
+  target_named : (mac : Mac) (target : Target) → HasTarget m.net from.switch.name mac target → AreNamedEnds (sent_to m from packet target)
+  target_named mac _ (HasTarget.many multi) = group_named Flood
+  target_named mac _ (HasTarget.known q entry single t) = one_named q entry (at m.bindings q) refl (port_named m q entry named t.there).0
+  target_named mac _ (HasTarget.unknown_to single none some) = group_named Unknown
+  target_named mac _ (HasTarget.nobody single none nobody) = ((switch, port), tt)
+
+  goes_named : (ends : List End) → Goes m from packet ends → AreNamedEnds ends
+  goes_named ends (Goes.bad_source multi e) = subst AreNamedEnds (sym e) ((switch, port), tt)
+  goes_named ends (Goes.tagged single tag e) = subst AreNamedEnds (sym e) ((switch, port), tt)
+  goes_named ends (Goes.sent single untagged target aimed e) = subst AreNamedEnds (sym e) (target_named packet.dst target aimed)
+
+visit_named : (m : State) (p : Name) (packet : inet.Packet) (chassis : Name) (ends : List End) → IsNamedState m → Visit m p packet chassis ends → AreNamedEnds ends
+visit_named m p packet chassis ends named v =
+    let own = port_named m p v.port named v.there in
+    goes_named m named (record { chassis = chassis; switch = record { name = v.port.switch; birth = v.switch.birth }; port = record { name = p; birth = v.port.birth } }) own.1 own.0 packet ends v.goes
+
+reached_named : (m : State) (x : Crossing) (packet : inet.Packet) (aim : Aim) → IsNamedState m → IsNamedAim aim → AreNamedEnds (reached m x packet aim)
+reached_named m x packet (ToPort id) named is = (is, tt)
+reached_named m x packet (ToGroup g) named is =
+    let others : Name → Bool = λ q. not (is_same_port m.net q x.in_port) in
+    let here' : List Name = members_at m.net m.bindings x.datapath.name g x.home in
+    all_images IsNamedEnd (λ q. leaves q packet) (filter others here') (λ q among. member_named m x.datapath.name g x.home q named (filter_among others q here' among).0)
+
+arrival_named : (m : State) (n : ℕ) (x : Crossing) (packet : inet.Packet) → IsNamedState m → IsNamedAim x.aim → AreNamedEnds (arrival m n x packet)
+arrival_named m n x packet named is = by (is_gone m x) (reached_named m x packet x.aim named is)
+  where
+    by : (gone : Bool) → AreNamedEnds (reached m x packet x.aim) → AreNamedEnds (cond gone (is_lost n ∷ []) (reached m x packet x.aim))
+    by true ends = (tt, tt)
+    by false ends = ends
+
+effects_named : (keys : Keys) (chassis : Name) (n : ℕ) (ends : List End) → IsName chassis → AreNamedEnds ends → AreNamed (effects_of keys chassis n ends)
+effects_named keys chassis n [] is named = tt
+effects_named keys chassis n (leaves q packet ∷ ends) is named = (named.0, effects_named keys chassis n ends is named.1)
+effects_named keys chassis n (is_dropped a q cause ∷ ends) is named = (named.0, effects_named keys chassis n ends is named.1)
+effects_named keys chassis n (crosses x ∷ ends) is named = ((is, named.0.0), effects_named keys chassis (n + 1) ends is named.1)
+effects_named keys chassis n (is_lost k ∷ ends) is named = (tt, effects_named keys chassis n ends is named.1)
+
+crossings_named : (n : ℕ) (ends : List End) → AreNamedEnds ends → AllByRecursion IsNamedCrossing (numbered_from n (crossings_in ends))
+crossings_named n [] named = tt
+crossings_named n (leaves q packet ∷ ends) named = crossings_named n ends named.1
+crossings_named n (is_dropped a q cause ∷ ends) named = crossings_named n ends named.1
+crossings_named n (crosses x ∷ ends) named = (named.0, crossings_named (n + 1) ends named.1)
+crossings_named n (is_lost k ∷ ends) named = crossings_named n ends named.1
+
+-- ---- steps
+
+-- effects in names, and a state in names
+record AreStepNamed (effects : List NetEffect) (after : State) : Type 0 where
+  effects_are : AreNamed effects
+  state : IsNamedState after
+
+nothing_else : (effects : List NetEffect) (after next : State) → effects ≡ [] → after ≡ next → IsNamedState next → AreStepNamed effects after
+nothing_else effects after next none is named = record { effects_are = subst AreNamed (sym none) tt; state = subst IsNamedState (sym is) named }
+
+both_named : (effects own more : List NetEffect) (mid after : State) → effects ≡ own ++ more → AreStepNamed own mid → AreStepNamed more after → AreStepNamed effects after
+both_named effects own more mid after all h k = record { effects_are = subst AreNamed (sym all) (all_joined IsNamedEffect own more h.effects_are k.effects_are); state = k.state }
+
+sent_named : (m : State) (ends : List End) → IsNamedState m → AreNamedEnds ends → IsNamedState (sent_on m ends)
+sent_named m ends named are = record {
+  ports = named.ports;
+  chassis = named.chassis;
+  bindings = named.bindings;
+  waiting = all_joined IsNamedCrossing m.waiting (numbered_from m.next (crossings_in ends)) named.waiting (crossings_named m.next ends are);
+  keys = named.keys;
+}
+
+kept_named : (keep : Bool) (m : State) (n : ℕ) → IsNamedState m → IsNamedState (with_kept keep m n)
+kept_named true m n named = named
+kept_named false m n named = record {
+  ports = named.ports;
+  chassis = named.chassis;
+  bindings = named.bindings;
+  waiting = all_left IsNamedCrossing (is_at (nat_cmp n)) m.waiting named.waiting;
+  keys = named.keys;
+}
+
+enters_named : (m : State) (p : Name) (frame : List ℕ) (effects : List NetEffect) (after : State) → IsNamedState m → Enters m p frame effects after → AreStepNamed effects after
+enters_named m p frame effects after named h =
+    let ends = visit_named m p h.packet h.chassis h.ends named h.visit in
+    record {
+      effects_are = subst AreNamed (sym h.effects_are) (effects_named m.keys h.chassis m.next h.ends (home_named m p h.chassis named h.visit.home) ends);
+      state = subst IsNamedState (sym h.state) (sent_named m h.ends named ends);
+    }
+
+arrives_named : (m : State) (n : ℕ) (keep : Bool) (effects : List NetEffect) (after : State) → IsNamedState m → Arrives m n keep effects after → AreStepNamed effects after
+arrives_named m n keep effects after named h =
+    let is = (all_found IsNamedCrossing (is_at (nat_cmp n)) m.waiting h.crossing named.waiting h.waits).1 in
+    let ends = arrival_named m n h.crossing h.packet named is.1 in
+    record {
+      effects_are = subst AreNamed (sym h.effects_are) (effects_named m.keys h.crossing.home m.next (arrival m n h.crossing h.packet) is.0 ends);
+      state = subst IsNamedState (sym h.state) (sent_named (with_kept keep m n) (arrival m n h.crossing h.packet) (kept_named keep m n named) ends);
+    }
+
+drains_named : (most : ℕ) (m : State) (effects : List NetEffect) (after : State) → IsNamedState m → Drains most m effects after → AreStepNamed effects after
+drains_named zero m effects after named h = nothing_else effects after m h.0 h.1 named
+drains_named (suc most) m effects after named (inl h) = nothing_else effects after m h.1 h.2 named
+drains_named (suc most) m effects after named (inr h) =
+    let first = arrives_named m h.n false h.own h.mid named h.arrives in
+    both_named effects h.own h.more h.mid after h.all first (drains_named most h.mid h.more after first.state h.others)
+
+does_named : (m : State) (event : Event) (effects : List NetEffect) (after : State) → IsNamedState m → IsNamedEvent event → Does m event effects after → AreStepNamed effects after
+does_named m (Edit ops) effects after named fine h =
+    let owners = owners_of ops (events_of m + 1) in
+    let between : AreRanged (retire m.keys []) = record { datapaths = named.keys.datapaths; ports = named.keys.ports } in
+    let have = owners_named ops (events_of m + 1) fine in
+    record {
+      effects_are = subst AreNamed (sym h.effects_are) (keys_named (retire m.keys []) h.keys owners between have h.given);
+      state = subst IsNamedState (sym h.state) (record {
+        ports = accepted_named m.net ops (events_of m + 1) named.ports fine;
+        chassis = named.chassis;
+        bindings = named.bindings;
+        waiting = named.waiting;
+        keys = still_ranged (retire m.keys []) h.keys owners between have h.given;
+      });
+    }
+does_named m (Bind p chassis) effects after named fine h = nothing_else effects after _ h.0 h.1 (record {
+  ports = named.ports;
+  chassis = named.chassis;
+  bindings = all_put HasNamedHome m.bindings p chassis named.bindings fine.1;
+  waiting = named.waiting;
+  keys = named.keys;
+})
+does_named m (AddChassis chassis) effects after named fine h = nothing_else effects after _ h.0 h.1 (record {
+  ports = named.ports;
+  chassis = all_with IsName m.chassis chassis named.chassis fine;
+  bindings = named.bindings;
+  waiting = named.waiting;
+  keys = named.keys;
+})
+does_named m (Inject p frame) effects after named fine h = enters_named m p frame effects after named h
+does_named m (Deliver n) effects after named fine h = arrives_named m n false effects after named h
+does_named m (Lose n) effects after named fine h = nothing_else effects after (with_kept false m n) h.0 h.1 (kept_named false m n named)
+does_named m (Repeat n) effects after named fine h = arrives_named m n true effects after named h
+does_named m Drain effects after named fine h = drains_named most_arrivals m effects after named h
+does_named m (Packet p frame) effects after named fine h =
+    let first = enters_named m p frame h.own h.mid named h.enters in
+    both_named effects h.own h.more h.mid after h.all first (drains_named most_arrivals h.mid h.more after first.state h.drains)
+does_named m (Unread fault) effects after named fine h = absurd h
+does_named m NotBuilt effects after named fine h = absurd h
+
+settled_ranged : (waiting : List (ℕ × Crossing)) (keys : Keys) → AreRanged keys → AreRanged (settled_where_none_waits waiting keys)
+settled_ranged [] keys ranged = record { datapaths = ranged.datapaths; ports = ranged.ports }
+settled_ranged (w ∷ waiting) keys ranged = ranged
+
+finished_named : (m : State) → IsNamedState m → IsNamedState (finished m)
+finished_named m named = record { ports = named.ports; chassis = named.chassis; bindings = named.bindings; waiting = named.waiting; keys = settled_ranged m.waiting m.keys named.keys }
+
+-- the effects of a step are in names, and the state after it too
+pub step_named : (m : State) (event : Event) (effects : List NetEffect) (after : State) → IsNamedState m → IsNamedEvent event → Step m event effects after → AreNamed effects × IsNamedState after
+step_named m event effects after named fine h =
+    let does = does_named m event effects h.mid named fine h.does in
+    (does.effects_are, subst IsNamedState (sym h.state) (finished_named h.mid does.state))
+
+-- ---- refusals
+
+abbrev IsNamedCause : Option Refusal → Type 0
+IsNamedCause None = Unit {0}
+IsNamedCause (Some cause) = IsNamedRefusal cause
+
+test_named : (t : Bool) (x y : Option Refusal) → IsNamedCause x → IsNamedCause y → IsNamedCause (cond t x y)
+test_named true x y h k = h
+test_named false x y h k = k
+
+record_cause_named : (net : Network) (row : Record) → IsNamedRecord row → IsNamedCause (refusal_of_record net row)
+record_cause_named net (record_of.Switch switch) named = test_named _ (Some why.NotBuilt) None tt tt
+record_cause_named net (record_of.SwitchPort port) named =
+    test_named (is_unbuilt_port net port) (Some why.NotBuilt) (cond (is_some (at net.switches port.switch)) None (Some (why.NoSuch port.switch))) tt
+    (test_named (is_some (at net.switches port.switch)) None (Some (why.NoSuch port.switch)) tt named.1)
+
+entry_cause_named : (m : State) (port : Name) → IsName port → IsNamedCause (refusal_of_entry m port)
+entry_cause_named m port named =
+    test_named (is_some (at m.net.ports port)) (cond (is_some (at m.bindings port)) (cond (too_many_wait m) (Some why.TooManyFrames) None) (Some why.NotBuilt)) (Some (why.NoSuch port))
+    (test_named (is_some (at m.bindings port)) (cond (too_many_wait m) (Some why.TooManyFrames) None) (Some why.NotBuilt) (test_named (too_many_wait m) (Some why.TooManyFrames) None tt tt) tt) named
+
+cause_named : (m : State) (event : Event) → IsNamedEvent event → IsNamedCause (refusal m event)
+cause_named m (Edit []) named = tt
+cause_named m (Edit (Add row ∷ [])) named = record_cause_named m.net row named.0
+cause_named m (Edit (op ∷ next ∷ ops)) named = tt
+cause_named m (Bind port chassis) named =
+    test_named (is_some (at m.net.ports port)) (cond (is_chassis m chassis) None (Some (why.NoSuch chassis))) (Some (why.NoSuch port))
+    (test_named (is_chassis m chassis) None (Some (why.NoSuch chassis)) tt named.1) named.0
+cause_named m (AddChassis chassis) named =
+    test_named (is_chassis m chassis) (Some (why.DuplicateName chassis)) (cond (nat_le 64 (length m.chassis)) (Some why.LimitChassis) None) named
+    (test_named (nat_le 64 (length m.chassis)) (Some why.LimitChassis) None tt tt)
+cause_named m (Inject port frame) named = entry_cause_named m port named
+cause_named m (Deliver n) named = test_named _ None (Some (why.NoFrame n)) tt tt
+cause_named m (Lose n) named = test_named _ None (Some (why.NoFrame n)) tt tt
+cause_named m (Repeat n) named =
+    test_named _ (cond (too_many_wait m) (Some why.TooManyFrames) None) (Some (why.NoFrame n)) (test_named (too_many_wait m) (Some why.TooManyFrames) None tt tt) tt
+cause_named m Drain named = tt
+cause_named m (Packet port frame) named = entry_cause_named m port named
+cause_named m (Unread fault) named = tt
+cause_named m NotBuilt named = tt
+
+-- the name in a refusal is that of the event
+pub refusal_named : (m : State) (event : Event) (cause : Refusal) → IsNamedEvent event → refusal m event ≡ Some cause → IsNamedRefusal cause
+refusal_named m event cause named e = subst IsNamedCause e (cause_named m event named)
+
+-- where nothing is there, no name is none
+pub none_named : IsNamedState empty
+none_named = record { ports = tt; chassis = tt; bindings = tt; waiting = tt; keys = record { datapaths = omega arith; ports = omega arith } }

@@ -1,0 +1,131 @@
+-- The empty world is sound.
+use Rattle.std.proofs.Common.{◌≡◌, ℕ, true, List, [], refl, arith}
+use Rattle.std.specs.List.Sorted.{IsStrictlySortedBy}
+use Rattle.std.proofs.lemmas.Option.{none-some}
+use Rattle.ovn_base.proofs.AmongLaws.{among_none}
+use Rattle.ovn_base.specs.declared.name.Name.{Name}
+use Rattle.chassis_sim.specs.State as sim
+use Rattle.chassis_sim.specs.State.{named, nothing_held}
+use Rattle.nb_records.specs.Network.{Network, empty_network}
+use Rattle.switch_engine.specs.declared.walk.Walk.{Walk}
+use Rattle.world_core.specs.declared.crossing.Crossing.{Crossing}
+use Rattle.tunnel_keys.specs.Keys.{Keys, IsKeys, no_keys}
+use Rattle.world_core.specs.Consistent.{IsConsistent}
+use Rattle.world_core.specs.Parts.{new_world}
+use Rattle.world_core.specs.Seen.{IsSound, AreHeld}
+use Rattle.world_core.specs.Sound.{IsValid, HaveKeys, AreBound, AreBorn, AreCrossings}
+use Rattle.world_core.specs.State.{empty}
+use Rattle.world_core.proofs.Found.{some_of}
+
+abbrev first_keys : Keys
+first_keys = no_keys 16777215 32767
+
+new_keys : IsKeys first_keys
+unfolding IsStrictlySortedBy
+new_keys = record {
+  datapath_ranges = (omega arith, omega arith);
+  port_ranges = (omega arith, omega arith);
+  datapaths_in_order = tt;
+  ports_in_order = tt;
+  on_datapath = λ e among. absurd (among_none e among);
+  on_held = λ a among. absurd (among_none a among);
+  datapath_keys = λ a among. absurd (among_none a among);
+  port_keys = λ a among. absurd (among_none a among);
+  datapaths_apart = λ a b among also same. absurd (among_none a among);
+  ports_apart = λ a b among also on same. absurd (among_none a among);
+  datapath_once = λ a b among also same. absurd (among_none a among);
+  port_once = λ a b among also same. absurd (among_none a among);
+  datapath_live = λ e a among also. absurd (among_none e among);
+  port_live = λ e a among also. absurd (among_none e among);
+}
+
+new_valid : IsValid empty.net
+unfolding IsStrictlySortedBy
+new_valid = record {
+  switches_sorted = tt;
+  ports_sorted = tt;
+  switch_names = λ a switch e. absurd (none-some switch e);
+  port_names = λ q port e. absurd (none-some port e);
+  on_switch = λ q port e. absurd (none-some port e);
+  macs = λ q port mac e has. absurd (none-some port e);
+  stations = λ q port mac e has. absurd (none-some port e);
+  once = λ q port e. absurd (none-some port e);
+  apart = λ p q ours theirs mac e f switch has also. absurd (none-some ours e);
+  ips_apart = λ p q ours theirs ip e f switch has also. absurd (none-some ours e);
+}
+
+new_have : HaveKeys empty.net first_keys
+new_have = record {
+  hold = new_keys;
+  datapath_has = λ a switch e. absurd (none-some switch e);
+  datapath_of = λ a k e. absurd (none-some k e);
+  port_has = λ q port e. absurd (none-some port e);
+  port_of = λ q k e. absurd (none-some k e);
+  datapath_range = refl;
+  port_range = refl;
+  no_retired_datapaths = refl;
+  no_retired_ports = refl;
+}
+
+new_bound : AreBound empty []
+unfolding IsStrictlySortedBy
+new_bound = record {
+  bindings_sorted = tt;
+  port_there = λ q c e. absurd (none-some c e);
+  chassis_there = λ q c e. absurd (none-some c e);
+  chassis_sorted = tt;
+  few_chassis = omega arith;
+  zones_sorted = tt;
+  has_zone = λ q c e. absurd (none-some c e);
+  zone_of = λ q z e. absurd (none-some z e);
+  zone_fits = λ q z e. absurd (none-some z e);
+  zones_apart = λ p q c z e f. absurd (none-some c e);
+}
+
+new_born : AreBorn empty
+new_born = record {
+  switches = λ a switch e. absurd (none-some switch e);
+  ports = λ q port e. absurd (none-some port e);
+  datapath_keys = λ a among. absurd (among_none a among);
+  port_keys = λ a among. absurd (among_none a among);
+  none = λ _. refl;
+}
+
+new_crossings : AreCrossings empty
+unfolding IsStrictlySortedBy
+new_crossings = record {
+  in_order = tt;
+  below = λ n x among. absurd (among_none (n, x) among);
+  may = λ n x among. absurd (among_none (n, x) among);
+  first = omega arith;
+}
+
+new_consistent : IsConsistent empty []
+new_consistent = record {
+  valid = new_valid;
+  within = record { switches = omega arith; ports = omega arith };
+  keys = new_have;
+  bound = new_bound;
+  born = new_born;
+  on_the_way = record { crossings = new_crossings; few = omega arith; none = λ _. refl };
+  few = omega arith;
+}
+
+new_held : AreHeld empty [] new_world.sim
+new_held = record {
+  bindings = λ q. refl;
+  names = record { datapaths = λ a k e. absurd (none-some k e); ports = λ q p k e f. absurd (none-some p e) };
+  held = λ c. (λ h. let s = some_of (named new_world.sim.chassis c) h in absurd (none-some s.0 s.1), λ h. absurd (among_none c h));
+  flows = λ c flows e. absurd (none-some flows e);
+  waiting = refl;
+  next = refl;
+}
+
+pub new_sound : IsSound new_world
+new_sound = record { whole = refl; consistent = new_consistent; held = new_held }
+
+-- and so is one that is made of empty parts
+pub starts_sound : (net : Network) (chassis : List Name) (bindings : List (Name × Name)) (keys : Keys) (zones : List (Name × ℕ)) (s : sim.State) (crossings : List (ℕ × Crossing)) (walks : List Walk)
+    → net ≡ empty_network → chassis ≡ [] → bindings ≡ [] → keys ≡ first_keys → zones ≡ [] → s ≡ nothing_held → crossings ≡ [] → walks ≡ []
+    → IsSound (record { state = record { net = net; chassis = chassis; bindings = bindings; keys = keys; waiting = crossings; next = s.next; accepted = 0; refused = 0 }; zones = zones; sim = s; walks = walks; whole = true })
+starts_sound net chassis bindings keys zones s crossings walks e f g h i j k l = rw (e, f, g, h, i, j, k, l) new_sound

@@ -1,0 +1,87 @@
+-- What packets that go through the chassis of a world leave.
+use Rattle.std.specs.Prelude.{◌≡◌, ◌++◌, ℕ, Bool, List, [], ◌∷◌, cond, map, Option, Some, None}
+use Rattle.std.proofs.Math.Dec.{eqb as nat_eq}
+use Rattle.std.specs.List.Sorted.{IsStrictlySortedBy}
+use Rattle.std.specs.Map.{keys_of}
+use Rattle.std.specs.Ordering.{nat_cmp}
+use Rattle.ovn_base.specs.Among.{Among}
+use Rattle.ovn_base.specs.ByName.{at}
+use Rattle.ovn_base.specs.declared.name.Name.{Name}
+use Rattle.chassis_sim.specs.InNames.{frames_sent}
+use Rattle.chassis_sim.specs.Passing as sim
+use Rattle.chassis_sim.specs.State as held
+use Rattle.chassis_sim.specs.declared.out.SimOut.{SimOut}
+use Rattle.nb_records.specs.declared.record.Switch.{Switch}
+use Rattle.nb_records.specs.declared.record.SwitchPort.{SwitchPort}
+use Rattle.switch_engine.specs.declared.effect.NetEffect.{NetEffect}
+use Rattle.world_core.specs.Crossing.{group_key}
+use Rattle.world_core.specs.Effects.{spelled}
+use Rattle.world_core.specs.Naming.{HasPortKey}
+use Rattle.world_core.specs.Passing.{AreDrained, GoesIn}
+use Rattle.world_core.specs.Refinement.{IsAmidst}
+use Rattle.world_core.specs.Seen.{Seen, AreHeld, frame_of_crossing}
+use Rattle.world_core.specs.Sound.{MayWait}
+use Rattle.world_core.specs.State.{State}
+use Rattle.world_core.specs.Step.{Enters, Arrives, Drains}
+use Rattle.world_core.specs.declared.crossing.Aim.{Aim}
+use Rattle.world_core.specs.declared.crossing.Aim.TheVariants.{ToPort, ToGroup}
+use Rattle.world_core.specs.declared.crossing.Crossing.{Crossing}
+
+-- how many frames an event may send, beside those for which its number of events leaves room
+abbrev pub most_sent : ℕ
+most_sent = 64
+
+-- The packets did this on the simulated chassis, and the effects are those of the network; the world holds the state that the network
+-- is in then, and nothing else of it changed.
+pub record HasPassed (old : Seen) (before after : SimOut) (new : Seen) (Passed : held.State → SimOut → SimOut → held.State → Type 0) (Happens : State → List NetEffect → State → Type 0) : Type 0 where
+  pub passed : Passed old.sim before after new.sim
+  pub effects : List NetEffect
+  pub all : after.effects ≡ before.effects ++ effects
+  pub happens : Happens old.state effects new.state
+  pub amidst : IsAmidst new.state new.zones most_sent
+  pub held : AreHeld new.state new.zones new.sim
+  pub rest : new ≡ record old { state = new.state; sim = new.sim }
+
+-- a packet went in at a port
+abbrev pub HasEntered : Seen → Name → List ℕ → SimOut → SimOut → Seen → Type 0
+HasEntered old p frame before after new = HasPassed old before after new (λ s b a t. GoesIn s p frame b a t) (λ m effects k. Enters m p frame effects k)
+
+-- a frame arrived
+abbrev pub HasArrived : Seen → ℕ → Bool → SimOut → SimOut → Seen → Type 0
+HasArrived old n keep before after new = HasPassed old before after new (λ s b a t. sim.Arrives s n keep b a t) (λ m effects k. Arrives m n keep effects k)
+
+-- the waiting frames arrived, up to so many
+abbrev pub AreGone : ℕ → Seen → SimOut → SimOut → Seen → Type 0
+AreGone most old before after new = HasPassed old before after new (λ s b a t. AreDrained most s b a t) (λ m effects k. Drains most m effects k)
+
+-- the crossing is one of a packet from the port, which its frame spells under the keys
+pub record IsSentFrom (m : State) (p to : Name) (bytes : List ℕ) (x : Crossing) : Type 0 where
+  pub port : SwitchPort
+  pub there : at m.net.ports p ≡ Some port
+  pub switch : Switch
+  pub on : at m.net.switches port.switch ≡ Some switch
+  pub datapath : x.datapath ≡ record { name = port.switch; birth = switch.birth }
+  pub in_port : x.in_port ≡ record { name = p; birth = port.birth }
+  pub may : MayWait m x
+  pub home : x.home ≡ to
+  pub spelled_so : bytes ≡ spelled m.keys x
+
+-- these crossings, each with its number, are those of the frames among the effects of a packet from the port
+pub record AreSentBy (m : State) (p : Name) (effects : List NetEffect) (crossings : List (ℕ × Crossing)) : Type 0 where
+  pub frames : frames_sent effects ≡ map (frame_of_crossing m.keys) crossings
+  pub from : (n : ℕ) (x : Crossing) → Among (n, x) crossings → IsSentFrom m p x.home (spelled m.keys x) x
+
+-- the number is that of whom a packet in the switch goes to
+abbrev pub IsNumberOf : State → Name → ℕ → Aim → Type 0
+IsNumberOf m switch key (ToGroup g) = key ≡ group_key g
+IsNumberOf m switch key (ToPort id) = HasPortKey m.keys switch id.name key × ((port : SwitchPort) × (at m.net.ports id.name ≡ Some port) × (port.birth ≡ id.birth))
+
+-- these crossings of a packet from the port can be put behind those that wait
+pub record CanBeKept (m : State) (p : Name) (effects : List NetEffect) (crossings : List (ℕ × Crossing)) : Type 0 where
+  pub sent : AreSentBy m p effects crossings
+  pub behind : IsStrictlySortedBy nat_cmp (keys_of (m.waiting ++ crossings))
+
+-- the first of the ports that has the key
+abbrev pub port_of_key : List (Name × ℕ) → ℕ → Option Name
+port_of_key [] key = None
+port_of_key (e ∷ es) key = cond (nat_eq e.1 key) (Some e.0) (port_of_key es key)

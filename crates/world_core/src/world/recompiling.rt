@@ -1,0 +1,74 @@
+//! The tables of all chassis, made anew.
+ghost use Rattle.std.specs.Prelude.{◌≡◌, false, IfOk, OnOk};
+ghost use Rattle.std.specs.List.{AllByRecursion};
+ghost use Rattle.std.specs.Map.{keys_of};
+ghost use Rattle.world_core.specs.Consistent.{IsConsistent};
+ghost use Rattle.world_core.specs.Parts.{IsRecompiled};
+ghost use Rattle.world_core.specs.Sound.{AreFlowsOf};
+
+use crate::compile::Maps;
+use crate::world::World;
+use chassis_sim::change::SimChange;
+use flow_table::tables::Tables;
+use ovn_base::list::List;
+use ovn_base::memory::NoMemory;
+use ovn_base::name::Name;
+use std::alloc::Global;
+
+impl World {
+    // Tables that hold the flows of the chassis.
+    fn tables_of(&self, alloc: Global, chassis: &Name) -> Result<Tables, NoMemory>
+        requires consistent { IsConsistent self.now.state self.now.zones }
+        ensures { IfOk result (λ tables. AreFlowsOf self.now.state self.now.zones chassis.now tables.flows) }
+    {
+        let maps = Maps {
+            chassis: *chassis,
+            all: &self.chassis,
+            records: &self.records,
+            bindings: &self.bindings,
+            keys: &self.keys,
+            zones: &self.zones,
+        };
+        let tables = maps.tables(alloc)?;
+        Ok(tables)
+    }
+
+    // Each chassis with its tables.
+    fn all_tables(&self, alloc: Global) -> Result<List<(Name, Tables)>, NoMemory>
+        requires consistent { IsConsistent self.now.state self.now.zones }
+        ensures chassis { IfOk result (λ added. keys_of added ≡ self.now.state.chassis) }
+        ensures flows { IfOk result (λ added. AllByRecursion (λ e. AreFlowsOf self.now.state self.now.zones e.0 e.1.flows) added) }
+    {
+        let mut added = List::new(alloc);
+        'chassis: for chassis in self.chassis.as_slice() {
+            let tables = self.tables_of(alloc, chassis)?;
+            added.push((*chassis, tables))?;
+        }
+        Ok(added)
+    }
+
+    // Compiles the flows of all chassis anew, binds ports, and names keys.
+    pub(super) fn recompile(
+        &mut self,
+        alloc: Global,
+        bound: List<(Name, Option<Name>)>,
+        names: List<(u32, u16, Name)>,
+    ) -> Result<(), NoMemory>
+        requires consistent { IsConsistent self.old.state self.old.zones }
+        requires taken { self.old.whole ≡ false }
+        ensures { OnOk result (IsRecompiled bound names self.old self.new) }
+    {
+        let added = self.all_tables(alloc)?;
+        let change = SimChange {
+            added,
+            removed: List::new(alloc),
+            tables: List::new(alloc),
+            emptied: List::new(alloc),
+            bound,
+            names,
+        };
+        self.sim.prepare(&change)?;
+        self.sim.apply(change);
+        Ok(())
+    }
+}
