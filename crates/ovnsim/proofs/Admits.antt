@@ -1,5 +1,5 @@
 -- An event that a line asks for is one that a world takes.
-use Rattle.std.proofs.Common.{◌≡◌, ◌<◌, ℕ, List, [], ◌∷◌, Option, Some, None, refl, arith, subst, sym, ap, ◌∙◌, inl, inr}
+use Rattle.std.proofs.Common.{◌≡◌, ◌<◌, ℕ, List, [], ◌∷◌, Option, Some, None, arith, subst, sym, ap, ◌∙◌, inl, inr}
 use Rattle.std.specs.List.{All, AllByRecursion, AllZip}
 use Rattle.std.proofs.lemmas.List.Elements.{All-cons, All-nil}
 use Rattle.std.proofs.lemmas.Option.{none-some, same_Some}
@@ -62,7 +62,7 @@ record_is d (kind.Switch switch) h = tt
 record_is d (kind.SwitchPort port) h = listed_are h.list port.addresses h.lists
 
 form_is : (d : Data) (event : Event) → IsForm d event → IsAdmitted event
-form_is d event (edits row h e) = subst IsAdmitted (sym e) (row, refl, record_is h.op row h.adds)
+form_is d event (edits row h e) = subst IsAdmitted (sym e) (record_is h.op row h.adds, tt)
 form_is d event (adds_chassis name h e) = subst IsAdmitted (sym e) tt
 form_is d event (binds port chassis h e) = subst IsAdmitted (sym e) tt
 form_is d event (sends port frame h e) = subst IsAdmitted (sym e) h.spells.plain

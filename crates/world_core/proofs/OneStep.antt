@@ -251,10 +251,9 @@ valid_with m (record_of.SwitchPort port) valid admitted allowed =
     (record { macs = new.macs; stations = new.stations; once = new.once; apart = new.apart; ips_apart = new.ips_apart })
 
 does_valid : (m : State) (event : Event) (effects : List NetEffect) (after : State) → IsValid m.net → IsAdmitted event → refusal m event ≡ None → Does m event effects after → IsValid after.net
-does_valid m (Edit ops) effects after valid admitted allowed h =
-    let row = admitted.0 in
-    let fine : refusal m (Edit (Add row ∷ [])) ≡ None = subst (λ os. refusal m (Edit os) ≡ None) admitted.1 allowed in
-    subst (λ (s : State). IsValid s.net) (sym h.state) (subst (λ os. IsValid (accepted m.net os (events_of m + 1))) (sym admitted.1) (valid_with m row valid admitted.2 fine))
+does_valid m (Edit []) effects after valid admitted allowed h = cc
+does_valid m (Edit (Add row ∷ [])) effects after valid admitted allowed h = subst (λ (s : State). IsValid s.net) (sym h.state) (valid_with m row valid admitted.0 allowed)
+does_valid m (Edit (op ∷ next ∷ ops)) effects after valid admitted allowed h = cc
 does_valid m (Bind p chassis) effects after valid admitted allowed h = subst (λ (s : State). IsValid s.net) (sym h.1) valid
 does_valid m (AddChassis chassis) effects after valid admitted allowed h = subst (λ (s : State). IsValid s.net) (sym h.1) valid
 does_valid m (Inject p frame) effects after valid admitted allowed h = subst IsValid (sym (enters_net m p frame effects after h)) valid

@@ -1,6 +1,7 @@
 -- Which events a world takes: those that a line can ask for.
-use Rattle.std.specs.Prelude.{◌≡◌, [], ◌∷◌}
+use Rattle.std.specs.List.{AllByRecursion}
 use Rattle.ovn_base.specs.Address.{IsMac}
+use Rattle.nb_records.specs.declared.record.Op.{Op}
 use Rattle.nb_records.specs.declared.record.Op.TheVariants.{Add}
 use Rattle.nb_records.specs.declared.record.Record.{Record}
 use Rattle.nb_records.specs.declared.record.Record.TheVariants.{Switch, SwitchPort}
@@ -15,9 +16,13 @@ abbrev pub IsAdmittedRecord : Record → Type 0
 IsAdmittedRecord (Switch switch) = Unit {0}
 IsAdmittedRecord (SwitchPort port) = (mac : Mac) → HasMac port.addresses mac → IsMac mac
 
--- an edit has one operation, and a packet a frame that is built
+-- the record of an operation
+abbrev pub IsAdmittedOp : Op → Type 0
+IsAdmittedOp (Add row) = IsAdmittedRecord row
+
+-- an edit may have any operations, and a packet has a frame that is built
 abbrev pub IsAdmitted : Event → Type 0
-IsAdmitted (Edit ops) = (row : Record) × (ops ≡ Add row ∷ []) × IsAdmittedRecord row
+IsAdmitted (Edit ops) = AllByRecursion IsAdmittedOp ops
 IsAdmitted (Bind port chassis) = Unit {0}
 IsAdmitted (AddChassis chassis) = Unit {0}
 IsAdmitted (Inject port frame) = IsPlainFrame frame
