@@ -15,31 +15,30 @@ use Rattle.world_core.specs.State.{events_of}
 use Rattle.ovnsim.specs.declared.next_event.Next.TheVariants.{Found, End}
 use Rattle.ovnsim.specs.Answers.{Answers, GainsEvents, GainsFront, GainsRead, GainsTexts, GainsToLimit, GainsWhole, end_of, end_within, lines_in, then_last}
 use Rattle.ovnsim.specs.Events.{AsksFor, GivesNext}
+use Rattle.ovnsim.specs.Next.{IsBelowLimit, StopsIn}
 use Rattle.ovnsim.specs.Runs.{RunsLines}
+use Rattle.ovnsim.specs.Stops.{CutsShort, Leaves}
 use Rattle.ovnsim.specs.Taking.{GainsCut, WasCut}
+use Rattle.ovnsim.specs.declared.run.Stop.{Stop}
+use Rattle.ovnsim.specs.declared.run.Stop.TheVariants.{ReadFault, WriteFault, Memory, InputTooLong}
 use Rattle.event_lines.specs.Picks.{picks_in, AreWholeLines}
 use Rattle.event_lines.proofs.Reading as read
 use Rattle.ovnsim.proofs.ReadOff.{run_whole}
 use Rattle.ovnsim.proofs.Running.{Ran, fresh, lines_more, lines_on}
 
--- how far the buffer went
-pub record IsWithin (m : Reading) : Type 0 where
-  pub limit : taken m ≤ 2 ^ 40
-  pub below : m.ended ≡ true → taken m < 2 ^ 40
-
 -- the bytes that are left of the limit
 abbrev left_of : Reading → ℕ
 left_of m = 2 ^ 40 - m.given
 
-left_is : (m : Reading) → IsWithin m → 2 ^ 40 ≡ left_of m + m.given
+left_is : (m : Reading) → IsBelowLimit m → 2 ^ 40 ≡ left_of m + m.given
 left_is m w = let l = w.limit in omega arith
 
-left_some : (m : Reading) → IsWithin m → m.ended ≡ true → 0 < left_of m
+left_some : (m : Reading) → IsBelowLimit m → m.ended ≡ true → 0 < left_of m
 left_some m w e = let l = w.below e in omega arith
 
 -- nothing was taken yet
 pub record IsStart (m : Reading) (world : Seen) : Type 0 where
-  pub within : IsWithin m
+  pub within : IsBelowLimit m
   pub unbroken : m.faulted ≡ false
   pub not_ended : m.ended ≡ true → ⊥
   pub events : events_of world.state ≤ m.given
@@ -66,7 +65,7 @@ nothing_done (Some x) before = record {
 }
 
 -- the texts so far stand
-pub at_memory : (X Y before sent now : Option (List ℕ)) (m : Reading) (world : Seen) → IsWithin m → WhereTold X Y (Ran m world before sent) → now ≡ sent → IfSome X (GainsEvents before now)
+at_memory : (X Y before sent now : Option (List ℕ)) (m : Reading) (world : Seen) → IsBelowLimit m → WhereTold X Y (Ran m world before sent) → now ≡ sent → IfSome X (GainsEvents before now)
 at_memory X Y before sent now m world w h same =
     told_some X Y (Ran m world before sent) (GainsEvents before now) h (λ x y p. record {
       done = p.done;
@@ -82,7 +81,7 @@ cut_text : (t piece front more z : List ℕ) → piece ≡ front ++ more → (t 
 cut_text t piece front more z e =
     append_assoc t piece z ∙ ap (λ x. t ++ (x ++ z)) e ∙ ap (λ x. t ++ x) (append_assoc front more z) ∙ sym (append_assoc t front (more ++ z))
 
-front_of : (m k : Reading) (world : Seen) (before sent now : Option (List ℕ)) (input ahead line after : List ℕ) (event : Event) → m.given < k.given → IsWithin k → Ran m world before sent input ahead
+front_of : (m k : Reading) (world : Seen) (before sent now : Option (List ℕ)) (input ahead line after : List ℕ) (event : Event) → m.given < k.given → IsBelowLimit k → Ran m world before sent input ahead
     → GivesLine line m k ahead after → AsksFor line event → GainsCut world event sent now → GainsFront before now input
 front_of m k world before sent now input ahead line after event more w h g a t =
     let rest = lines_within (left_of k) after in record {
@@ -99,7 +98,7 @@ front_of m k world before sent now input ahead line after event more w h g a t =
     }
 
 -- some first bytes of the text of an event
-pub at_give : (X Y Z before sent now : Option (List ℕ)) (m k : Reading) (world : Seen) (event : Event) → m.given < k.given → IsWithin k → WhereTold X Y (Ran m world before sent)
+at_give : (X Y Z before sent now : Option (List ℕ)) (m k : Reading) (world : Seen) (event : Event) → m.given < k.given → IsBelowLimit k → WhereTold X Y (Ran m world before sent)
     → WhereTold Y Z (GivesNext (Found event) m k) → GainsCut world event sent now → IfSome X (GainsFront before now)
 at_give X Y Z before sent now m k world event more w h g t =
     let R : List ℕ → List ℕ → Type 0 = λ x z. GainsFront before now x in
@@ -117,7 +116,7 @@ stop_lines m k world before sent input ahead left open' h s =
     h.lines r (taken k) first (λ e. cc (sym open' ∙ e)) ∙ ap (λ ls. h.done ++ ls) (s.none r (sym first)) ∙ append-nil h.done
 
 -- the source failed
-pub at_read : (X Y Z before sent : Option (List ℕ)) (m k : Reading) (world : Seen) → m.ended ≡ false → taken k < 2 ^ 40 → WhereTold X Y (Ran m world before sent) → WhereTold Y Z (Stops m k)
+at_read : (X Y Z before sent : Option (List ℕ)) (m k : Reading) (world : Seen) → m.ended ≡ false → taken k < 2 ^ 40 → WhereTold X Y (Ran m world before sent) → WhereTold Y Z (Stops m k)
     → WhereTold X Z (GainsRead before sent)
 at_read X Y Z before sent m k world open' few h s =
     told_then X Y Z (Ran m world before sent) (Stops m k) (GainsRead before sent) h s (λ x y z p q.
@@ -132,7 +131,7 @@ at_read X Y Z before sent m k world open' few h s =
     })
 
 -- the input has no end
-pub at_limit : (X Y Z before sent : Option (List ℕ)) (m k : Reading) (world : Seen) → m.ended ≡ false → taken k ≡ 2 ^ 40 → WhereTold X Y (Ran m world before sent) → WhereTold Y Z (Stops m k)
+at_limit : (X Y Z before sent : Option (List ℕ)) (m k : Reading) (world : Seen) → m.ended ≡ false → taken k ≡ 2 ^ 40 → WhereTold X Y (Ran m world before sent) → WhereTold Y Z (Stops m k)
     → WhereTold X Z (GainsToLimit before sent)
 at_limit X Y Z before sent m k world open' full h s =
     told_then X Y Z (Ran m world before sent) (Stops m k) (GainsToLimit before sent) h s (λ x y z p q.
@@ -145,13 +144,28 @@ at_limit X Y Z before sent m k world open' full h s =
       gone = p.gone;
     })
 
+-- where no next line was found
+pub next_leaves : (stop : Stop) (X Y Z before sent : Option (List ℕ)) (m k : Reading) (world : Seen) → IsBelowLimit m → WhereTold X Y (Ran m world before sent) → StopsIn stop m k Y Z → Leaves stop X Z before sent
+next_leaves ReadFault X Y Z before sent m k world w h s = at_read X Y Z before sent m k world s.1.not_ended s.0 h s.1.told
+next_leaves InputTooLong X Y Z before sent m k world w h s = at_limit X Y Z before sent m k world s.1.not_ended s.0 h s.1.told
+next_leaves Memory X Y Z before sent m k world w h s = at_memory X Y before sent sent m world w h refl
+next_leaves WriteFault X Y Z before sent m k world w h s = absurd s
+
+-- where the text of an event was not given
+pub give_leaves : (stop : Stop) (X Y Z left before sent now : Option (List ℕ)) (m k : Reading) (world : Seen) (event : Event) → m.given < k.given → IsBelowLimit m → IsBelowLimit k → WhereTold X Y (Ran m world before sent)
+    → WhereTold Y Z (GivesNext (Found event) m k) → CutsShort stop (GainsCut world event) sent now → Leaves stop X left before now
+give_leaves ReadFault X Y Z left before sent now m k world event more w v h g t = absurd t
+give_leaves InputTooLong X Y Z left before sent now m k world event more w v h g t = absurd t
+give_leaves Memory X Y Z left before sent now m k world event more w v h g t = at_memory X Y before sent now m world w h t
+give_leaves WriteFault X Y Z left before sent now m k world event more w v h g t = at_give X Y Z before sent now m k world event more v h g t
+
 -- with the end seen, nothing is left
 pub stays_at_end : (b c : Bool) (X Z : Option (List ℕ)) → (b ≡ true → IsAtEnd X) → (b ≡ true → Z ≡ X) → (b ≡ false → c ≡ true → IsAtEnd Z) → c ≡ true → IsAtEnd Z
 stays_at_end true c X Z was same seen e = subst IsAtEnd (sym (same refl)) (was refl)
 stays_at_end false c X Z was same seen e = seen refl e
 
 -- the input ended
-pub at_end : (X Y Z before sent : Option (List ℕ)) (m k : Reading) (world : Seen) → IsWithin m → WhereTold X Y (Ran m world before sent) → WhereTold Y Z (GivesNext End m k)
+pub at_end : (X Y Z before sent : Option (List ℕ)) (m k : Reading) (world : Seen) → IsBelowLimit m → WhereTold X Y (Ran m world before sent) → WhereTold Y Z (GivesNext End m k)
     → IfSome X (GainsTexts before sent world)
 at_end X Y Z before sent m k world w h g =
     let R : List ℕ → List ℕ → Type 0 = λ x z. GainsTexts before sent world x in
@@ -192,8 +206,8 @@ end_within-short : (input : List ℕ) (last : Seen) → length input < 2 ^ 40 �
 end_within-short input last h = cond-true _ _ _ (lt-ltb (length input) (2 ^ 40) h)
 
 -- some first bytes of the last line went out
-pub end_cut : (X before sent now : Option (List ℕ)) (last : Seen) (a r waiting : ℕ) → IfSome X (GainsTexts before sent last) → a ≡ last.state.accepted → r ≡ last.state.refused → waiting ≡ length last.state.waiting
-    → WasCut sent now (end_line (a + r) a r waiting) → IfSome X (GainsFront before now)
+end_cut : (X before sent now : Option (List ℕ)) (last : Seen) (a r waiting : ℕ) → IfSome X (GainsTexts before sent last) → a ≡ last.state.accepted → r ≡ last.state.refused → waiting ≡ length last.state.waiting
+    → WasCut (end_line (a + r) a r waiting) sent now → IfSome X (GainsFront before now)
 end_cut X before sent now last a r waiting h e f z g = map_some X (GainsTexts before sent last) (GainsFront before now) h (λ x p. record {
   done = lines_in x;
   rest = [];
@@ -208,7 +222,7 @@ end_cut X before sent now last a r waiting h e f z g = map_some X (GainsTexts be
 })
 
 -- no memory for the last line
-pub end_memory : (X before sent now : Option (List ℕ)) (last : Seen) → IfSome X (GainsTexts before sent last) → now ≡ sent → IfSome X (GainsEvents before now)
+end_memory : (X before sent now : Option (List ℕ)) (last : Seen) → IfSome X (GainsTexts before sent last) → now ≡ sent → IfSome X (GainsEvents before now)
 end_memory X before sent now last h same = map_some X (GainsTexts before sent last) (GainsEvents before now) h (λ x p. record {
   done = lines_in x;
   rest = [];
@@ -218,6 +232,14 @@ end_memory X before sent now last h same = map_some X (GainsTexts before sent la
   run = p.run;
   gone = same ∙ p.gone;
 })
+
+-- where the last line was not given
+pub end_leaves : (stop : Stop) (X left before sent now : Option (List ℕ)) (last : Seen) (a r waiting : ℕ) → IfSome X (GainsTexts before sent last) → a ≡ last.state.accepted → r ≡ last.state.refused → waiting ≡ length last.state.waiting
+    → CutsShort stop (WasCut (end_line (a + r) a r waiting)) sent now → Leaves stop X left before now
+end_leaves ReadFault X left before sent now last a r waiting h e f z t = absurd t
+end_leaves InputTooLong X left before sent now last a r waiting h e f z t = absurd t
+end_leaves Memory X left before sent now last a r waiting h e f z t = end_memory X before sent now last h t
+end_leaves WriteFault X left before sent now last a r waiting h e f z t = end_cut X before sent now last a r waiting h e f z t
 
 -- the last line names nothing that was picked
 with_end : (input text : List ℕ) (last : Seen) → RunsLines (lines_in input) (picks_in text) text last → RunsLines (lines_in input) (picks_in (text ++ end_within input last)) text last

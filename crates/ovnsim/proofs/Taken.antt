@@ -1,5 +1,5 @@
 -- What one event leaves.
-use Rattle.std.proofs.Common.{◌≡◌, ◌+◌, ◌++◌, ℕ, zero, suc, Bool, true, false, List, [], inl, inr, refl, sym, ap, ◌∙◌, subst, take, drop, take-append-drop, arith, Option, Result, Ok, Err, IsErrAnd}
+use Rattle.std.proofs.Common.{◌≡◌, ◌+◌, ◌++◌, ℕ, zero, suc, Bool, true, false, List, [], inl, inr, refl, sym, ap, ◌∙◌, subst, take, drop, take-append-drop, arith, Option, Result, Ok, Err, IsErrAnd, IfErr}
 use Rattle.std.specs.Io.KnownBytes.{append_known}
 use Rattle.edit_reader.specs.declared.event.Event.{Event}
 use Rattle.edit_reader.specs.declared.event.Event.TheVariants.{Edit, Bind, AddChassis, Inject, Deliver, Lose, Repeat, Drain, Packet, Unread, NotBuilt}
@@ -13,6 +13,7 @@ use Rattle.world_core.specs.State.{State, events_of}
 use Rattle.world_core.specs.Step.{Step, Does, Arrives, Drains, most_arrivals}
 use Rattle.ovnsim.specs.Runs.{Takes, accepts, refuses}
 use Rattle.ovnsim.specs.Taking.{TakesWith, WasCut}
+use Rattle.ovnsim.specs.declared.run.Stop.{Stop}
 
 -- how many events were accepted and refused
 record HasCounts (m : State) (accepted refused : ℕ) : Type 0 where
@@ -85,8 +86,8 @@ takes_refused old event why before text new empty h =
     }
 
 -- some first bytes of a piece went out
-pub was_cut : (before after : Option (List ℕ)) (piece whole : List ℕ) → piece ≡ whole → (n : ℕ) × (after ≡ append_known before (take n piece)) → WasCut before after whole
-was_cut before after piece whole same h = subst (WasCut before after) same (take h.0 piece, drop h.0 piece, sym (take-append-drop h.0 piece), h.1)
+pub was_cut : (before after : Option (List ℕ)) (piece whole : List ℕ) → piece ≡ whole → (n : ℕ) × (after ≡ append_known before (take n piece)) → WasCut whole before after
+was_cut before after piece whole same h = subst (λ w. WasCut w before after) same (take h.0 piece, drop h.0 piece, sym (take-append-drop h.0 piece), h.1)
 
 -- the whole piece went out
 pub was_given : (before after : Option (List ℕ)) (piece whole : List ℕ) → piece ≡ whole → after ≡ append_known before piece → after ≡ append_known before whole
@@ -101,12 +102,7 @@ one_more_event false old event text new h =
     let a = h.accepted in
     let r = h.refused in omega arith
 
--- the error of an answer
-abbrev err_of : {T E : Type 0} → E → Result T E → E
-err_of d (Ok x) = d
-err_of d (Err y) = y
-
--- an error that is passed on is the one of the call
-pub passed_on : {T U E : Type 0} (call : Result T E) (result : Result U E) (y x : E) → call ≡ Err y → IsErrAnd result (λ e. e ≡ y) → result ≡ Err x → call ≡ Err x
-passed_on call (Ok u) y x c h e = absurd h
-passed_on call (Err z) y x c h e = c ∙ ap Err (sym h ∙ ap (err_of z) e)
+-- what is so of an error is so of the answer that passes it on
+pub passed_on : {T : Type 0} (result : Result T Stop) (stop : Stop) (P : Stop → Type 0) → IsErrAnd result (λ e. e ≡ stop) → P stop → IfErr result P
+passed_on (Ok x) stop P h p = tt
+passed_on (Err e) stop P h p = subst P (sym h) p

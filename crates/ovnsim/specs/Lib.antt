@@ -3,4 +3,5 @@ pub mod Events
 pub mod Next
 pub mod Runs
 pub mod Answers
+pub mod Stops
 pub mod Taking

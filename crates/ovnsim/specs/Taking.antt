@@ -15,8 +15,8 @@ pub record TakesWith (is_accepted : Bool) (old : Seen) (event : Event) (text : L
   pub refused : new.state.refused ≡ old.state.refused + cond is_accepted 0 1
 
 -- the sink gained some first bytes of the piece
-abbrev pub WasCut : Option (List ℕ) → Option (List ℕ) → List ℕ → Type 0
-WasCut before after piece = (front : List ℕ) × (more : List ℕ) × (piece ≡ front ++ more) × (after ≡ append_known before front)
+abbrev pub WasCut : List ℕ → Option (List ℕ) → Option (List ℕ) → Type 0
+WasCut piece before after = (front : List ℕ) × (more : List ℕ) × (piece ≡ front ++ more) × (after ≡ append_known before front)
 
 -- the event was taken, and the sink gained its text
 pub record GainsText (is_accepted : Bool) (old : Seen) (event : Event) (before after : Option (List ℕ)) (new : Seen) : Type 0 where
@@ -30,4 +30,4 @@ pub record GainsCut (old : Seen) (event : Event) (before after : Option (List �
   pub new : Seen
   pub text : List ℕ
   pub taken : TakesWith is_accepted old event text new
-  pub cut : WasCut before after text
+  pub cut : WasCut text before after

@@ -1,12 +1,12 @@
 //! The events of a source, one after another.
 ghost use Rattle.ovn_base.specs.Causes.{Rose};
-ghost use Rattle.ovn_base.specs.Reading.{Stops, taken, unread};
+ghost use Rattle.ovn_base.specs.Reading.{unread};
 ghost use Rattle.ovn_base.specs.Told.{WhereTold};
 ghost use Rattle.std.specs.Io.KnownBytes.{IsAtEnd};
 ghost use Rattle.std.specs.List.{AllPass};
-ghost use Rattle.std.specs.Prelude.{◌≡◌, ◌≢◌, ◌<◌, ◌≤◌, ◌↔◌, ◌^◌, false, true, Err, IfOk, IsTrue, length};
+ghost use Rattle.std.specs.Prelude.{◌≡◌, ◌≤◌, ◌↔◌, false, true, Err, IfErr, IfOk, IsTrue, OnOk, length};
 ghost use Rattle.ovnsim.specs.Events.{AskedBy, GivesNext, is_blank};
-ghost use Rattle.ovnsim.specs.Next.{IsAdmittedNext};
+ghost use Rattle.ovnsim.specs.Next.{GoesOn, IsAdmittedNext, IsBelowLimit, StopsIn};
 
 use crate::run::Stop;
 use edit_reader::event::{Event, ReadError, ReadRefusal};
@@ -63,19 +63,14 @@ pub fn next_event<S: Source>(alloc: Global, source: &mut S, buf: &mut LineBuf) -
         (unread buf.old (S.left source.old)) (unread buf.new (S.left source.new))
         (GivesNext next buf.old buf.new)) }
     ensures admitted { IfOk result IsAdmittedNext }
-    ensures progress { IfOk result (λ next. next ≢ Next.End → buf.old.given < buf.new.given) }
-    ensures sound { IfOk result (λ _. buf.new.faulted ≡ false) }
-    ensures read_fault { result ≡ Err Stop.ReadFault → Rose (S.faults source.old) (S.faults source.new) }
-    ensures stopped { result ≡ Err Stop.ReadFault → (taken buf.new < 2 ^ 40) × (buf.old.ended ≡ false)
-        × WhereTold (unread buf.old (S.left source.old)) (S.left source.new) (Stops buf.old buf.new) }
-    ensures too_long { result ≡ Err Stop.InputTooLong → (taken buf.new ≡ 2 ^ 40) × (buf.old.ended ≡ false)
-        × WhereTold (unread buf.old (S.left source.old)) (S.left source.new) (Stops buf.old buf.new) }
-    ensures no_write { result ≢ Err Stop.WriteFault }
-    ensures limit { taken buf.new ≤ 2 ^ 40 }
-    ensures below { buf.new.ended ≡ true → taken buf.new < 2 ^ 40 }
+    ensures progress { IfOk result (λ next. GoesOn next buf.old buf.new) }
+    ensures sound { OnOk result (buf.new.faulted ≡ false) }
+    ensures stopped { IfErr result (λ stop.
+        StopsIn stop buf.old buf.new (unread buf.old (S.left source.old)) (S.left source.new)) }
+    ensures read_rose { result ≡ Err Stop.ReadFault → Rose (S.faults source.old) (S.faults source.new) }
+    ensures within { IsBelowLimit buf.new }
     ensures after_end { buf.old.ended ≡ true → source.new ≡ source.old }
     ensures at_end { buf.old.ended ≡ false → buf.new.ended ≡ true → IsAtEnd (S.left source.new) }
-    ensures ended { IfOk result (λ next. next ≡ Next.End → buf.new.ended ≡ true) }
     ensures faults { S.faults source.old ≤ S.faults source.new }
 {
     match next_line(source, buf) {

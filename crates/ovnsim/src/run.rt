@@ -1,14 +1,14 @@
 //! The events of an input, taken one after another.
 ghost use Rattle.ovn_base.specs.Causes.{Rose};
 ghost use Rattle.std.specs.Io.KnownBytes.{append_known, IsAtEnd};
-ghost use Rattle.std.specs.Prelude.{◌≡◌, ◌≢◌, ◌<◌, ◌≤◌, ◌+◌, ◌^◌, [], cond, false, Err, IfOk, IfSome, OnOk};
+ghost use Rattle.std.specs.Prelude.{◌≡◌, ◌<◌, ◌≤◌, ◌+◌, ◌^◌, [], cond, false, Err, IfErr, IfOk, IfSome, OnOk};
 ghost use Rattle.event_lines.specs.Lines.{end_line};
 ghost use Rattle.world_core.specs.Admitted.{IsAdmitted};
 ghost use Rattle.world_core.specs.Parts.{new_world};
 ghost use Rattle.world_core.specs.Seen.{IsSound, Seen};
 ghost use Rattle.world_core.specs.State.{events_of};
-ghost use Rattle.ovn_base.specs.Told.{WhereTold};
-ghost use Rattle.ovnsim.specs.Answers.{GainsEvents, GainsFront, GainsRead, GainsTexts, GainsToLimit, GainsWhole};
+ghost use Rattle.ovnsim.specs.Answers.{GainsTexts, GainsWhole};
+ghost use Rattle.ovnsim.specs.Stops.{CutsShort, HasCauses, Leaves};
 ghost use Rattle.ovnsim.specs.Taking.{GainsCut, GainsText, TakesWith, WasCut};
 
 use crate::next_event::{Next, next_event};
@@ -121,11 +121,9 @@ fn run_event<K: Sink>(
     requires admitted { IsAdmitted event }
     ensures ok { IfOk result (λ is_accepted.
         GainsText is_accepted world.old event (K.gone sink.old) (K.gone sink.new) world.new) }
-    ensures memory { result ≡ Err Stop.Memory → K.gone sink.new ≡ K.gone sink.old }
-    ensures write_fault { result ≡ Err Stop.WriteFault
-        → GainsCut world.old event (K.gone sink.old) (K.gone sink.new) }
+    ensures stopped { IfErr result (λ stop.
+        CutsShort stop (GainsCut world.old event) (K.gone sink.old) (K.gone sink.new)) }
     ensures write_rose { result ≡ Err Stop.WriteFault → Rose (K.faults sink.old) (K.faults sink.new) }
-    ensures no_read { (result ≢ Err Stop.ReadFault) × (result ≢ Err Stop.InputTooLong) }
     ensures faults { K.faults sink.old ≤ K.faults sink.new }
 {
     let is_accepted = take_event(event, world, text)?;
@@ -150,19 +148,10 @@ fn run_lines<S: Source, K: Sink>(
     ensures accepted { IfOk result (λ counts. counts.accepted ≡ world.new.state.accepted) }
     ensures refused { IfOk result (λ counts. counts.refused ≡ world.new.state.refused) }
     ensures few { OnOk result (events_of world.new.state ≤ 2 ^ 40) }
-    ensures memory { result ≡ Err Stop.Memory
-        → IfSome (S.left source.old) (GainsEvents (K.gone sink.old) (K.gone sink.new)) }
-    ensures write_fault { result ≡ Err Stop.WriteFault
-        → IfSome (S.left source.old) (GainsFront (K.gone sink.old) (K.gone sink.new)) }
-    ensures write_rose { result ≡ Err Stop.WriteFault → Rose (K.faults sink.old) (K.faults sink.new) }
-    ensures read_fault { result ≡ Err Stop.ReadFault
-        → WhereTold (S.left source.old) (S.left source.new) (GainsRead (K.gone sink.old) (K.gone sink.new)) }
-    ensures read_rose { result ≡ Err Stop.ReadFault → Rose (S.faults source.old) (S.faults source.new) }
-    ensures too_long { result ≡ Err Stop.InputTooLong
-        → WhereTold (S.left source.old) (S.left source.new) (GainsToLimit (K.gone sink.old) (K.gone sink.new)) }
     ensures at_end { OnOk result (IsAtEnd (S.left source.new)) }
-    ensures reads { S.faults source.old ≤ S.faults source.new }
-    ensures writes { K.faults sink.old ≤ K.faults sink.new }
+    ensures stopped { IfErr result (λ stop.
+        Leaves stop (S.left source.old) (S.left source.new) (K.gone sink.old) (K.gone sink.new)) }
+    ensures causes { HasCauses (S.faults source.old) (S.faults source.new) (K.faults sink.old) (K.faults sink.new) result }
 {
     let mut counts = Counts {
         accepted: 0,
@@ -190,11 +179,10 @@ fn give_end<K: Sink>(
     requires { counts.accepted + counts.refused < 2 ^ 64 }
     ensures ok { OnOk result (K.gone sink.new ≡ append_known (K.gone sink.old)
         (end_line (counts.accepted + counts.refused) counts.accepted counts.refused waiting)) }
-    ensures memory { result ≡ Err Stop.Memory → K.gone sink.new ≡ K.gone sink.old }
-    ensures write_fault { result ≡ Err Stop.WriteFault → WasCut (K.gone sink.old) (K.gone sink.new)
-        (end_line (counts.accepted + counts.refused) counts.accepted counts.refused waiting) }
+    ensures stopped { IfErr result (λ stop. CutsShort stop
+        (WasCut (end_line (counts.accepted + counts.refused) counts.accepted counts.refused waiting))
+        (K.gone sink.old) (K.gone sink.new)) }
     ensures write_rose { result ≡ Err Stop.WriteFault → Rose (K.faults sink.old) (K.faults sink.new) }
-    ensures no_read { (result ≢ Err Stop.ReadFault) × (result ≢ Err Stop.InputTooLong) }
     ensures faults { K.faults sink.old ≤ K.faults sink.new }
 {
     text.clear();
@@ -218,19 +206,10 @@ fn run_whole<S: Source, K: Sink>(
     requires sound { IsSound world.old }
     ensures whole { IfOk result
         (λ refused. IfSome (S.left source.old) (GainsWhole refused (K.gone sink.old) (K.gone sink.new))) }
-    ensures memory { result ≡ Err Stop.Memory
-        → IfSome (S.left source.old) (GainsEvents (K.gone sink.old) (K.gone sink.new)) }
-    ensures write_fault { result ≡ Err Stop.WriteFault
-        → IfSome (S.left source.old) (GainsFront (K.gone sink.old) (K.gone sink.new)) }
-    ensures write_rose { result ≡ Err Stop.WriteFault → Rose (K.faults sink.old) (K.faults sink.new) }
-    ensures read_fault { result ≡ Err Stop.ReadFault
-        → WhereTold (S.left source.old) (S.left source.new) (GainsRead (K.gone sink.old) (K.gone sink.new)) }
-    ensures read_rose { result ≡ Err Stop.ReadFault → Rose (S.faults source.old) (S.faults source.new) }
-    ensures too_long { result ≡ Err Stop.InputTooLong
-        → WhereTold (S.left source.old) (S.left source.new) (GainsToLimit (K.gone sink.old) (K.gone sink.new)) }
     ensures at_end { OnOk result (IsAtEnd (S.left source.new)) }
-    ensures reads { S.faults source.old ≤ S.faults source.new }
-    ensures writes { K.faults sink.old ≤ K.faults sink.new }
+    ensures stopped { IfErr result (λ stop.
+        Leaves stop (S.left source.old) (S.left source.new) (K.gone sink.old) (K.gone sink.new)) }
+    ensures causes { HasCauses (S.faults source.old) (S.faults source.new) (K.faults sink.old) (K.faults sink.new) result }
 {
     let counts = run_lines(alloc, source, sink, buf, world, text)?;
     give_end(counts, world.waiting(), text, sink)?;
@@ -246,19 +225,10 @@ fn run_whole<S: Source, K: Sink>(
 pub fn replay<S: Source, K: Sink>(alloc: Global, source: &mut S, sink: &mut K) -> Result<bool, Stop>
     ensures whole { IfOk result
         (λ refused. IfSome (S.left source.old) (GainsWhole refused (K.gone sink.old) (K.gone sink.new))) }
-    ensures memory { result ≡ Err Stop.Memory
-        → IfSome (S.left source.old) (GainsEvents (K.gone sink.old) (K.gone sink.new)) }
-    ensures write_fault { result ≡ Err Stop.WriteFault
-        → IfSome (S.left source.old) (GainsFront (K.gone sink.old) (K.gone sink.new)) }
-    ensures write_rose { result ≡ Err Stop.WriteFault → Rose (K.faults sink.old) (K.faults sink.new) }
-    ensures read_fault { result ≡ Err Stop.ReadFault
-        → WhereTold (S.left source.old) (S.left source.new) (GainsRead (K.gone sink.old) (K.gone sink.new)) }
-    ensures read_rose { result ≡ Err Stop.ReadFault → Rose (S.faults source.old) (S.faults source.new) }
-    ensures too_long { result ≡ Err Stop.InputTooLong
-        → WhereTold (S.left source.old) (S.left source.new) (GainsToLimit (K.gone sink.old) (K.gone sink.new)) }
     ensures at_end { OnOk result (IsAtEnd (S.left source.new)) }
-    ensures reads { S.faults source.old ≤ S.faults source.new }
-    ensures writes { K.faults sink.old ≤ K.faults sink.new }
+    ensures stopped { IfErr result (λ stop.
+        Leaves stop (S.left source.old) (S.left source.new) (K.gone sink.old) (K.gone sink.new)) }
+    ensures causes { HasCauses (S.faults source.old) (S.faults source.new) (K.faults sink.old) (K.faults sink.new) result }
 {
     let mut buf = LineBuf::new(alloc)?;
     let mut world = World::new(alloc)?;

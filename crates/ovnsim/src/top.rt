@@ -1,7 +1,7 @@
 //! The program as one call.
 ghost use Rattle.ovn_base.specs.Causes.{Rose};
 ghost use Rattle.ovn_base.specs.Told.{WhereTold};
-ghost use Rattle.std.specs.Prelude.{◌≡◌, ◌≢◌, ◌==◌, ◌⊎◌, ◌↔◌, ◌∷◌, [], IfSome, IsTrue, codes, false, map, string_bytes, true};
+ghost use Rattle.std.specs.Prelude.{◌≡◌, ◌≢◌, ◌==◌, ◌↔◌, ◌∷◌, [], IfSome, IsTrue, codes, false, map, string_bytes, true};
 ghost use Rattle.std.specs.Io.KnownBytes.{IsAtEnd};
 ghost use Rattle.std.specs.List.{list_any};
 ghost use Rattle.ovnsim.specs.Answers.{Answers, GainsEvents, GainsFront, GainsRead, GainsToLimit, GainsWhole};
@@ -57,19 +57,16 @@ pub fn ovnsim<S: Source, K: Sink>(
     // Each status has its cause, and what stands then.
     ensures usage { (result ≡ 2) ↔ ¬ (map string_bytes words.now ≡ codes "replay" ∷ []) }
     ensures untouched { result ≡ 2 → (source.new ≡ source.old) × (sink.new ≡ sink.old) }
-    ensures accepted { result ≡ 0
-        → IfSome (S.left source.old) (GainsWhole false (K.gone sink.old) (K.gone sink.new)) }
-    ensures refused { result ≡ 3
-        → IfSome (S.left source.old) (GainsWhole true (K.gone sink.old) (K.gone sink.new)) }
-    ensures read_rose { result ≡ 4 → Rose (S.faults source.old) (S.faults source.new) }
-    ensures read_fault { result ≡ 4
-        → WhereTold (S.left source.old) (S.left source.new) (GainsRead (K.gone sink.old) (K.gone sink.new)) }
-    ensures write_rose { result ≡ 5 → Rose (K.faults sink.old) (K.faults sink.new) }
-    ensures write_fault { result ≡ 5
-        → IfSome (S.left source.old) (GainsFront (K.gone sink.old) (K.gone sink.new)) }
+    ensures accepted { result ≡ 0 → IsAtEnd (S.left source.new)
+        × IfSome (S.left source.old) (GainsWhole false (K.gone sink.old) (K.gone sink.new)) }
+    ensures refused { result ≡ 3 → IsAtEnd (S.left source.new)
+        × IfSome (S.left source.old) (GainsWhole true (K.gone sink.old) (K.gone sink.new)) }
+    ensures read_fault { result ≡ 4 → Rose (S.faults source.old) (S.faults source.new)
+        × WhereTold (S.left source.old) (S.left source.new) (GainsRead (K.gone sink.old) (K.gone sink.new)) }
+    ensures write_fault { result ≡ 5 → Rose (K.faults sink.old) (K.faults sink.new)
+        × IfSome (S.left source.old) (GainsFront (K.gone sink.old) (K.gone sink.new)) }
     ensures memory { result ≡ 6
         → IfSome (S.left source.old) (GainsEvents (K.gone sink.old) (K.gone sink.new)) }
-    ensures at_end { (result ≡ 0) ⊎ (result ≡ 3) → IsAtEnd (S.left source.new) }
     ensures too_long { result ≡ 8
         → WhereTold (S.left source.old) (S.left source.new) (GainsToLimit (K.gone sink.old) (K.gone sink.new)) }
     ensures statuses { IsTrue (list_any (λ status. status == result) (0 ∷ 2 ∷ 3 ∷ 4 ∷ 5 ∷ 6 ∷ 8 ∷ [])) }

@@ -5,13 +5,13 @@ use Rattle.ovn_base.specs.Told.{WhereTold}
 use Rattle.world_core.specs.Seen.{IsSound}
 use Rattle.world_core.specs.State.{events_of}
 use Rattle.ovnsim.proofs.Running.{Ran}
-use Rattle.ovnsim.proofs.Stopped.{IsWithin}
+use Rattle.ovnsim.specs.Next.{IsBelowLimit}
 use Rattle.ovnsim.proofs.run.run_lines.Given as goal
 
 abbrev pub invariant-lines : goal.invariant-lines
 invariant-lines g l = record {
   ran : WhereTold (g.S.Source.left l.fn.source) (unread l.buf (g.S.Source.left l.source)) (Ran l.buf l.world (g.K.Sink.gone l.fn.sink) (g.K.Sink.gone l.sink));
-  within : IsWithin l.buf;
+  within : IsBelowLimit l.buf;
   unbroken : l.buf.faulted ≡ false;
   at_end : l.buf.ended ≡ true → IsAtEnd (g.S.Source.left l.source);
   sound : IsSound l.world;

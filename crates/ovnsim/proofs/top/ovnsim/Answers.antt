@@ -1,4 +1,4 @@
-use Rattle.std.proofs.Common.{Err, ap, ◌∙◌, true, false}
+use Rattle.std.proofs.Common.{true, false}
 use Rattle.ovnsim.proofs.Stopped.{answers_limit, answers_whole}
 use Rattle.ovnsim.proofs.top.ovnsim.Goals as goal
 
@@ -11,4 +11,5 @@ returns-in-Ok-false-clause-headline g c = λ _ _ _ _.
     let whole = rw c.in-Ok-false.field-0-test at c.in-Ok-false.ensures.whole in answers_whole _ _ _ false whole
 
 pub returns-in-Err-InputTooLong-clause-headline : goal.returns-in-Err-InputTooLong-clause-headline
-returns-in-Err-InputTooLong-clause-headline g c = λ _ _ _ _. answers_limit _ _ _ _ (c.replay.ensures.too_long (c.in-Err-InputTooLong.is ∙ ap Err c.in-Err-InputTooLong.field-0-is))
+returns-in-Err-InputTooLong-clause-headline g c = λ _ _ _ _.
+    let stopped = rw c.in-Err-InputTooLong.field-0-is at c.in-Err-InputTooLong.ensures.stopped in answers_limit _ _ _ _ stopped
