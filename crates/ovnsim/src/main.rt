@@ -8,8 +8,6 @@ mod std_io;
 #[cfg(test)]
 mod tests;
 mod top;
-#[cfg(test)]
-mod tunnel_tests;
 mod words;
 
 use crate::std_io::{StdSink, StdSource};

@@ -5,6 +5,9 @@ use ovn_base::memory_source::MemorySource;
 use std::alloc::Global;
 use std::test::Fail;
 
+// ---- worked inputs
+
+// One packet on one chassis.
 const FIRST_PATH: &[u8] = b"{\"edit\":[{\"add\":\"switch\",\"name\":\"s0\"}]}
 {\"edit\":[{\"add\":\"switch_port\",\"name\":\"p1\",\"switch\":\"s0\",\"addresses\":[\"0a:00:00:00:00:01 10.0.0.1\"]}]}
 {\"edit\":[{\"add\":\"switch_port\",\"name\":\"p2\",\"switch\":\"s0\",\"addresses\":[\"0a:00:00:00:00:02 10.0.0.2\"]}]}
@@ -49,91 +52,267 @@ const TWO_SWITCHES_OUTPUT: &[u8] = b"1 key datapath s0 1
 end events=5 accepted=5 refused=0 waiting=0
 ";
 
-/// A source of these bytes of which no call fails.
-fn source_of(alloc: Global, bytes: &[u8]) -> Result<MemorySource, NoMemory> {
-    Ok(MemorySource::new(Vec::from_slice(alloc, bytes)?, Vec::new(alloc)))
+// What each of these inputs is, with its status and output.
+const INPUTS: [(&str, &[u8], u8, &[u8]); 3] = [
+    (
+        "an empty input",
+        b"",
+        0,
+        b"end events=0 accepted=0 refused=0 waiting=0\n",
+    ),
+    ("the first path", FIRST_PATH, 0, FIRST_PATH_OUTPUT),
+    ("two switches", TWO_SWITCHES, 0, TWO_SWITCHES_OUTPUT),
+];
+
+// ---- worked events behind those of two chassis
+
+// A switch with a port on each of two chassis.
+const TWO_CHASSIS: &[u8] = b"{\"edit\":[{\"add\":\"switch\",\"name\":\"s0\"}]}
+{\"edit\":[{\"add\":\"switch_port\",\"name\":\"p1\",\"switch\":\"s0\",\"addresses\":[\"0a:00:00:00:00:01 10.0.0.1\"]}]}
+{\"edit\":[{\"add\":\"switch_port\",\"name\":\"p2\",\"switch\":\"s0\",\"addresses\":[\"0a:00:00:00:00:02 10.0.0.2\"]}]}
+{\"chassis\":{\"add\":\"hv1\"}}
+{\"chassis\":{\"add\":\"hv2\"}}
+{\"bind\":{\"port\":\"p1\",\"chassis\":\"hv1\"}}
+{\"bind\":{\"port\":\"p2\",\"chassis\":\"hv2\"}}
+";
+
+const TWO_CHASSIS_OUTPUT: &[u8] = b"1 key datapath s0 1
+1 ok walks=0
+2 key port p1 1
+2 ok walks=0
+3 key port p2 2
+3 ok walks=0
+4 ok walks=0
+5 ok walks=0
+6 ok walks=0
+7 ok walks=0
+";
+
+// A packet from p1 to p2, which is at home on the other chassis.
+const TUNNEL: &[u8] =
+    b"{\"packet\":{\"port\":\"p1\",\"frame\":\"0a00000000020a000000000188b56869\"}}
+";
+
+const TUNNEL_OUTPUT: &[u8] =
+    b"8 tunnel 1 hv1 hv2 024065580000010001028001000100020a00000000020a000000000188b56869
+8 out p2 0a00000000020a000000000188b56869
+8 ok walks=17
+end events=8 accepted=8 refused=0 waiting=0
+";
+
+// A packet from p1 to its own address.
+const LOOPBACK: &[u8] = b"{\"packet\":{\"port\":\"p1\",\"frame\":\"0a00000000010a000000000188b5\"}}
+";
+
+const LOOPBACK_OUTPUT: &[u8] = b"8 drop s0 p1 loopback
+8 ok walks=11
+end events=8 accepted=8 refused=0 waiting=0
+";
+
+// A frame that arrives twice, is lost, and then waits no more.
+const REPEATED: &[u8] =
+    b"{\"inject\":{\"port\":\"p1\",\"frame\":\"0a00000000020a000000000188b56869\"}}
+{\"repeat\":{\"frame\":1}}
+{\"repeat\":{\"frame\":1}}
+{\"lose\":{\"frame\":1}}
+{\"deliver\":{\"frame\":1}}
+";
+
+const REPEATED_OUTPUT: &[u8] =
+    b"8 tunnel 1 hv1 hv2 024065580000010001028001000100020a00000000020a000000000188b56869
+8 ok walks=9
+9 out p2 0a00000000020a000000000188b56869
+9 ok walks=8
+10 out p2 0a00000000020a000000000188b56869
+10 ok walks=8
+11 ok walks=0
+12 refused NoFrame 1
+end events=12 accepted=11 refused=1 waiting=0
+";
+
+// A port on each chassis takes packets for addresses that no port has, and such a packet comes.
+const UNKNOWN: &[u8] =
+    b"{\"edit\":[{\"add\":\"switch_port\",\"name\":\"p3\",\"switch\":\"s0\",\"addresses\":[\"unknown\"]}]}
+{\"edit\":[{\"add\":\"switch_port\",\"name\":\"p4\",\"switch\":\"s0\",\"addresses\":[\"unknown\"]}]}
+{\"bind\":{\"port\":\"p3\",\"chassis\":\"hv1\"}}
+{\"bind\":{\"port\":\"p4\",\"chassis\":\"hv2\"}}
+{\"packet\":{\"port\":\"p1\",\"frame\":\"0a00000000090a000000000188b5\"}}
+";
+
+const UNKNOWN_OUTPUT: &[u8] = b"8 key port p3 3
+8 ok walks=0
+9 key port p4 4
+9 ok walks=0
+10 ok walks=0
+11 ok walks=0
+12 tunnel 1 hv1 hv2 024065580000010001028001000180010a00000000090a000000000188b5
+12 out p3 0a00000000090a000000000188b5
+12 out p4 0a00000000090a000000000188b5
+12 ok walks=24
+end events=12 accepted=12 refused=0 waiting=0
+";
+
+// A packet whose source is the address of a group and that has a tag, and one that only has a tag.
+const BAD_SOURCE: &[u8] =
+    b"{\"inject\":{\"port\":\"p1\",\"frame\":\"0a00000000020100000000018100\"}}
+{\"inject\":{\"port\":\"p1\",\"frame\":\"0a00000000020a00000000018100\"}}
+";
+
+const BAD_SOURCE_OUTPUT: &[u8] = b"8 drop s0 p1 bad-source
+8 ok walks=2
+9 drop s0 p1 vlan
+9 ok walks=2
+end events=9 accepted=9 refused=0 waiting=0
+";
+
+// A frame arrives after its port has moved, and then a packet comes that needs no tunnel any more.
+const LATE: &[u8] = b"{\"inject\":{\"port\":\"p1\",\"frame\":\"0a00000000020a000000000188b56869\"}}
+{\"bind\":{\"port\":\"p2\",\"chassis\":\"hv1\"}}
+{\"deliver\":{\"frame\":1}}
+{\"inject\":{\"port\":\"p1\",\"frame\":\"0a00000000020a000000000188b56869\"}}
+";
+
+const LATE_OUTPUT: &[u8] =
+    b"8 tunnel 1 hv1 hv2 024065580000010001028001000100020a00000000020a000000000188b56869
+8 ok walks=9
+9 ok walks=0
+10 lost 1
+10 ok walks=1
+11 out p2 0a00000000020a000000000188b56869
+11 ok walks=16
+end events=11 accepted=11 refused=0 waiting=0
+";
+
+// A frame goes each way, and both arrive at once.
+const DRAIN: &[u8] = b"{\"inject\":{\"port\":\"p1\",\"frame\":\"0a00000000020a000000000188b56869\"}}
+{\"inject\":{\"port\":\"p2\",\"frame\":\"0a00000000010a000000000288b5\"}}
+{\"drain\":{}}
+";
+
+const DRAIN_OUTPUT: &[u8] =
+    b"8 tunnel 1 hv1 hv2 024065580000010001028001000100020a00000000020a000000000188b56869
+8 ok walks=9
+9 tunnel 2 hv2 hv1 024065580000010001028001000200010a00000000010a000000000288b5
+9 ok walks=9
+10 out p2 0a00000000020a000000000188b56869
+10 out p1 0a00000000010a000000000288b5
+10 ok walks=16
+end events=10 accepted=10 refused=0 waiting=0
+";
+
+// Names and frames that aren't there, a chassis that is, and what isn't built.
+const REFUSED: &[u8] = b"{\"inject\":{\"port\":\"p9\",\"frame\":\"0a00000000020a000000000188b5\"}}
+{\"bind\":{\"port\":\"p9\",\"chassis\":\"hv9\"}}
+{\"bind\":{\"port\":\"p1\",\"chassis\":\"hv9\"}}
+{\"chassis\":{\"add\":\"hv1\"}}
+{\"repeat\":{\"frame\":0}}
+{\"deliver\":{\"frame\":-1}}
+{\"inject\":{\"port\":\"p1\",\"frame\":\"0a00000000020a00000000010806\"}}
+{\"edit\":[{\"add\":\"switch_port\",\"name\":\"p3\",\"switch\":\"s0\",\"addresses\":[\"0a:00:00:00:00:02\"]}]}
+";
+
+const REFUSED_OUTPUT: &[u8] = b"8 refused NoSuch p9
+9 refused NoSuch p9
+10 refused NoSuch hv9
+11 refused DuplicateName hv1
+12 refused NoFrame 0
+13 refused NotBuilt
+14 refused NotBuilt
+15 refused NotBuilt
+end events=15 accepted=7 refused=8 waiting=0
+";
+
+// What these events are, behind those of the two chassis, with the status and the output behind theirs.
+const BEHIND_TWO_CHASSIS: [(&str, &[u8], u8, &[u8]); 8] = [
+    ("a frame to another chassis", TUNNEL, 0, TUNNEL_OUTPUT),
+    ("a packet for its own port", LOOPBACK, 0, LOOPBACK_OUTPUT),
+    (
+        "a frame that is repeated and lost",
+        REPEATED,
+        3,
+        REPEATED_OUTPUT,
+    ),
+    ("an address that no port has", UNKNOWN, 0, UNKNOWN_OUTPUT),
+    ("a bad source, and a tag", BAD_SOURCE, 0, BAD_SOURCE_OUTPUT),
+    ("a frame whose port has moved", LATE, 0, LATE_OUTPUT),
+    ("the lowest frame first", DRAIN, 0, DRAIN_OUTPUT),
+    (
+        "what isn't there, or isn't built",
+        REFUSED,
+        3,
+        REFUSED_OUTPUT,
+    ),
+];
+
+// ---- runs
+
+// Adds the pieces to the text.
+fn put(pieces: &[&[u8]], text: &mut Vec<u8>) -> Result<(), NoMemory> {
+    for piece in pieces {
+        text.extend_from_slice(piece)?;
+    }
+    Ok(())
 }
 
-/// A sink with room for what the tests write.
-fn sink(alloc: Global) -> Result<MemorySink, NoMemory> {
-    MemorySink::new(alloc, 1000, Vec::new(alloc))
-}
-
-/// Runs the program on the word `replay`.
+// Runs the program on the word `replay`.
 fn replay(alloc: Global, source: &mut MemorySource, sink: &mut MemorySink) -> Result<u8, NoMemory> {
     let words = vec![in alloc; String::from_str(alloc, "replay")?]?;
     Ok(ovnsim(alloc, &words, source, sink))
 }
 
+// Runs the program over the events, into a sink with room for so many bytes: the status, and the sink.
+fn replayed(alloc: Global, events: Vec<u8>, room: usize) -> Result<(u8, MemorySink), NoMemory> {
+    let mut source = MemorySource::new(events, Vec::new(alloc));
+    let mut sink = MemorySink::new(alloc, room, Vec::new(alloc))?;
+    let status = replay(alloc, &mut source, &mut sink)?;
+    Ok((status, sink))
+}
+
 #[test]
-fn ends_an_empty_input(rt: HostRuntime) -> Result<(), Fail> {
-    let alloc = rt.alloc();
-    let mut sink = sink(alloc)?;
-    assert_eq!(rt; replay(alloc, &mut source_of(alloc, b"")?, &mut sink)?, 0);
-    assert_eq!(rt;
-        sink.bytes(),
-        b"end events=0 accepted=0 refused=0 waiting=0\n".as_slice()
-    );
+fn inputs_are_answered(rt: HostRuntime) -> Result<(), Fail> {
+    for (what, events, status, output) in INPUTS {
+        let events = Vec::from_slice(rt.alloc(), events)?;
+        let (given, sink) = replayed(rt.alloc(), events, 1000)?;
+        assert_eq!(rt; (given, sink.bytes()), (status, output), "at {what}");
+    }
     Ok(())
 }
 
 #[test]
-fn carries_a_frame(rt: HostRuntime) -> Result<(), Fail> {
-    let alloc = rt.alloc();
-    let mut sink = sink(alloc)?;
-    assert_eq!(rt;
-        replay(alloc, &mut source_of(alloc, FIRST_PATH)?, &mut sink)?,
-        0
-    );
-    assert_eq!(rt; sink.bytes(), FIRST_PATH_OUTPUT);
+fn events_behind_two_chassis_are_answered(rt: HostRuntime) -> Result<(), Fail> {
+    for (what, events, status, output) in BEHIND_TWO_CHASSIS {
+        let mut all = Vec::new(rt.alloc());
+        put(&[TWO_CHASSIS, events], &mut all)?;
+        let (given, sink) = replayed(rt.alloc(), all, 2000)?;
+        let lines = sink.bytes().strip_prefix(TWO_CHASSIS_OUTPUT);
+        assert_eq!(rt; (given, lines), (status, Some(output)), "at {what}");
+    }
     Ok(())
 }
 
 #[test]
-fn gives_the_least_free_keys(rt: HostRuntime) -> Result<(), Fail> {
+fn other_words_are_refused(rt: HostRuntime) -> Result<(), Fail> {
     let alloc = rt.alloc();
-    let mut sink = sink(alloc)?;
-    assert_eq!(rt;
-        replay(alloc, &mut source_of(alloc, TWO_SWITCHES)?, &mut sink)?,
-        0
-    );
-    assert_eq!(rt; sink.bytes(), TWO_SWITCHES_OUTPUT);
-    Ok(())
-}
-
-#[test]
-fn refuses_other_words(rt: HostRuntime) -> Result<(), Fail> {
-    let alloc = rt.alloc();
-    let mut source = source_of(alloc, FIRST_PATH)?;
-    let mut sink = sink(alloc)?;
+    let mut source = MemorySource::new(Vec::from_slice(alloc, FIRST_PATH)?, Vec::new(alloc));
+    let mut sink = MemorySink::new(alloc, 1000, Vec::new(alloc))?;
     let replay = String::from_str(alloc, "replay")?;
     let words = vec![in alloc; replay, String::from_str(alloc, "x")?]?;
     assert_eq!(rt; ovnsim(alloc, &words, &mut source, &mut sink), 2);
-    let words: Vec<String> = Vec::new(alloc);
-    assert_eq!(rt; ovnsim(alloc, &words, &mut source, &mut sink), 2);
+    assert_eq!(rt; ovnsim(alloc, &[], &mut source, &mut sink), 2);
     assert_eq!(rt; sink.bytes(), b"".as_slice());
     Ok(())
 }
 
+// The source fails at its first call, and then the sink at its third piece, after three bytes.
 #[test]
-fn stops_where_the_source_fails(rt: HostRuntime) -> Result<(), Fail> {
+fn faults_stop_the_run(rt: HostRuntime) -> Result<(), Fail> {
     let alloc = rt.alloc();
-    let bytes = Vec::from_slice(alloc, FIRST_PATH)?;
-    let mut source = MemorySource::new(bytes, vec![in alloc; 1]?);
-    let mut sink = sink(alloc)?;
+    let mut source = MemorySource::new(Vec::from_slice(alloc, FIRST_PATH)?, vec![in alloc; 1]?);
+    let mut sink = MemorySink::new(alloc, 1000, vec![in alloc; (2, 3)]?)?;
     assert_eq!(rt; replay(alloc, &mut source, &mut sink)?, 4);
     assert_eq!(rt; sink.bytes(), b"".as_slice());
-    Ok(())
-}
-
-#[test]
-fn stops_where_the_sink_fails(rt: HostRuntime) -> Result<(), Fail> {
-    let alloc = rt.alloc();
-    let mut sink = MemorySink::new(alloc, 1000, vec![in alloc; (2, 3)]?)?;
-    assert_eq!(rt;
-        replay(alloc, &mut source_of(alloc, FIRST_PATH)?, &mut sink)?,
-        5
-    );
+    let mut source = MemorySource::new(Vec::from_slice(alloc, FIRST_PATH)?, Vec::new(alloc));
+    assert_eq!(rt; replay(alloc, &mut source, &mut sink)?, 5);
     assert_eq!(rt;
         sink.bytes(),
         b"1 key datapath s0 1\n1 ok walks=0\n2 k".as_slice()
@@ -142,16 +321,112 @@ fn stops_where_the_sink_fails(rt: HostRuntime) -> Result<(), Fail> {
 }
 
 #[test]
-fn refuses_a_long_line(rt: HostRuntime) -> Result<(), Fail> {
-    let alloc = rt.alloc();
-    let mut bytes = vec![in alloc; b'x'; 1_048_577]?;
-    bytes.extend_from_slice(b"\n \t\r\n{\"edit\":[{\"add\":\"switch\",\"name\":\"s0\"}]}")?;
-    let mut source = MemorySource::new(bytes, Vec::new(alloc));
-    let mut sink = sink(alloc)?;
-    assert_eq!(rt; replay(alloc, &mut source, &mut sink)?, 3);
+fn a_long_line_is_refused(rt: HostRuntime) -> Result<(), Fail> {
+    let mut events = vec![in rt.alloc(); b'x'; 1_048_577]?;
+    events.extend_from_slice(b"\n \t\r\n{\"edit\":[{\"add\":\"switch\",\"name\":\"s0\"}]}")?;
+    let (status, sink) = replayed(rt.alloc(), events, 1000)?;
+    assert_eq!(rt; status, 3);
     assert_eq!(rt;
         sink.bytes(),
         b"1 refused TooLong\n2 key datapath s0 1\n2 ok walks=0\nend events=2 accepted=1 refused=1 waiting=0\n".as_slice()
     );
+    Ok(())
+}
+
+// ---- limits
+
+// A packet for all ports of the switch.
+const BROADCAST: &[u8] = b"{\"inject\":{\"port\":\"q1\",\"frame\":\"ffffffffffff0a000000000188b5\"}}
+";
+
+// What comes last where 65,583 frames wait.
+const TOO_MANY_OUTPUT: &[u8] = b"1235 refused TooManyFrames
+end events=1235 accepted=1234 refused=1 waiting=65583
+";
+
+// Adds the event that adds the chassis of the number.
+fn put_chassis(alloc: Global, number: u8, events: &mut Vec<u8>) -> Result<(), NoMemory> {
+    let name = format!(in alloc; "c{number}")?;
+    put(
+        &[b"{\"chassis\":{\"add\":\"", name.as_bytes(), b"\"}}\n"],
+        events,
+    )
+}
+
+// Adds the event that adds the port of the number to the switch.
+fn put_port(alloc: Global, number: u8, events: &mut Vec<u8>) -> Result<(), NoMemory> {
+    let name = format!(in alloc; "q{number}")?;
+    let address = format!(in alloc; "0a:00:00:00:00:{number:02x}")?;
+    put(
+        &[
+            b"{\"edit\":[{\"add\":\"switch_port\",\"name\":\"",
+            name.as_bytes(),
+            b"\",\"switch\":\"s0\",\"addresses\":[\"",
+            address.as_bytes(),
+            b"\"]}]}\n",
+        ],
+        events,
+    )
+}
+
+// Adds the event that binds the port of the number to the chassis of the number.
+fn put_binding(alloc: Global, number: u8, events: &mut Vec<u8>) -> Result<(), NoMemory> {
+    let port = format!(in alloc; "q{number}")?;
+    let chassis = format!(in alloc; "c{number}")?;
+    put(
+        &[
+            b"{\"bind\":{\"port\":\"",
+            port.as_bytes(),
+            b"\",\"chassis\":\"",
+            chassis.as_bytes(),
+            b"\"}}\n",
+        ],
+        events,
+    )
+}
+
+// A switch with 64 ports, on a chassis each.
+fn put_spread_switch(alloc: Global, events: &mut Vec<u8>) -> Result<(), NoMemory> {
+    put(
+        &[b"{\"edit\":[{\"add\":\"switch\",\"name\":\"s0\"}]}\n"],
+        events,
+    )?;
+    for number in 1..65 {
+        put_port(alloc, number, events)?;
+    }
+    for number in 1..65 {
+        put_chassis(alloc, number, events)?;
+    }
+    for number in 1..65 {
+        put_binding(alloc, number, events)?;
+    }
+    Ok(())
+}
+
+#[test]
+fn too_many_waiting_frames_are_refused(rt: HostRuntime) -> Result<(), Fail> {
+    let mut events = Vec::new(rt.alloc());
+    put_spread_switch(rt.alloc(), &mut events)?;
+    for _packet in 0..1042 {
+        events.extend_from_slice(BROADCAST)?;
+    }
+    let (status, sink) = replayed(rt.alloc(), events, 8_000_000)?;
+    assert_eq!(rt; status, 3);
+    assert!(rt; sink.bytes().ends_with(TOO_MANY_OUTPUT));
+    Ok(())
+}
+
+#[test]
+fn a_chassis_beside_64_is_refused(rt: HostRuntime) -> Result<(), Fail> {
+    let mut events = Vec::new(rt.alloc());
+    for number in 1..66 {
+        put_chassis(rt.alloc(), number, &mut events)?;
+    }
+    put_chassis(rt.alloc(), 1, &mut events)?;
+    let (status, sink) = replayed(rt.alloc(), events, 2000)?;
+    assert_eq!(rt; status, 3);
+    let end =
+        b"64 ok walks=0\n65 refused Limit chassis\n66 refused DuplicateName c1\nend events=66 accepted=64 refused=2 waiting=0\n";
+    assert!(rt; sink.bytes().ends_with(end));
     Ok(())
 }
