@@ -17,7 +17,7 @@ use Rattle.ovnsim.specs.Answers.{Answers, GainsEvents, GainsFront, GainsRead, Ga
 use Rattle.ovnsim.specs.Events.{AsksFor, GivesNext}
 use Rattle.ovnsim.specs.Next.{IsBelowLimit, StopsIn}
 use Rattle.ovnsim.specs.Runs.{RunsLines}
-use Rattle.ovnsim.specs.Stops.{CutsShort, Leaves}
+use Rattle.ovnsim.specs.Stops.{CutsShort, StandsAt}
 use Rattle.ovnsim.specs.Taking.{GainsCut, WasCut}
 use Rattle.ovnsim.specs.declared.run.Stop.{Stop}
 use Rattle.ovnsim.specs.declared.run.Stop.TheVariants.{ReadFault, WriteFault, Memory, InputTooLong}
@@ -145,19 +145,19 @@ at_limit X Y Z before sent m k world open' full h s =
     })
 
 -- where no next line was found
-pub next_leaves : (stop : Stop) (X Y Z before sent : Option (List ℕ)) (m k : Reading) (world : Seen) → IsBelowLimit m → WhereTold X Y (Ran m world before sent) → StopsIn stop m k Y Z → Leaves stop X Z before sent
-next_leaves ReadFault X Y Z before sent m k world w h s = at_read X Y Z before sent m k world s.1.not_ended s.0 h s.1.told
-next_leaves InputTooLong X Y Z before sent m k world w h s = at_limit X Y Z before sent m k world s.1.not_ended s.0 h s.1.told
-next_leaves Memory X Y Z before sent m k world w h s = at_memory X Y before sent sent m world w h refl
-next_leaves WriteFault X Y Z before sent m k world w h s = absurd s
+pub next_stands : (stop : Stop) (X Y Z before sent : Option (List ℕ)) (m k : Reading) (world : Seen) → IsBelowLimit m → WhereTold X Y (Ran m world before sent) → StopsIn stop m k Y Z → StandsAt stop X Z before sent
+next_stands ReadFault X Y Z before sent m k world w h s = at_read X Y Z before sent m k world s.1.not_ended s.0 h s.1.told
+next_stands InputTooLong X Y Z before sent m k world w h s = at_limit X Y Z before sent m k world s.1.not_ended s.0 h s.1.told
+next_stands Memory X Y Z before sent m k world w h s = at_memory X Y before sent sent m world w h refl
+next_stands WriteFault X Y Z before sent m k world w h s = absurd s
 
 -- where the text of an event was not given
-pub give_leaves : (stop : Stop) (X Y Z left before sent now : Option (List ℕ)) (m k : Reading) (world : Seen) (event : Event) → m.given < k.given → IsBelowLimit m → IsBelowLimit k → WhereTold X Y (Ran m world before sent)
-    → WhereTold Y Z (GivesNext (Found event) m k) → CutsShort stop (GainsCut world event) sent now → Leaves stop X left before now
-give_leaves ReadFault X Y Z left before sent now m k world event more w v h g t = absurd t
-give_leaves InputTooLong X Y Z left before sent now m k world event more w v h g t = absurd t
-give_leaves Memory X Y Z left before sent now m k world event more w v h g t = at_memory X Y before sent now m world w h t
-give_leaves WriteFault X Y Z left before sent now m k world event more w v h g t = at_give X Y Z before sent now m k world event more v h g t
+pub give_stands : (stop : Stop) (X Y Z left before sent now : Option (List ℕ)) (m k : Reading) (world : Seen) (event : Event) → m.given < k.given → IsBelowLimit m → IsBelowLimit k → WhereTold X Y (Ran m world before sent)
+    → WhereTold Y Z (GivesNext (Found event) m k) → CutsShort stop (GainsCut world event) sent now → StandsAt stop X left before now
+give_stands ReadFault X Y Z left before sent now m k world event more w v h g t = absurd t
+give_stands InputTooLong X Y Z left before sent now m k world event more w v h g t = absurd t
+give_stands Memory X Y Z left before sent now m k world event more w v h g t = at_memory X Y before sent now m world w h t
+give_stands WriteFault X Y Z left before sent now m k world event more w v h g t = at_give X Y Z before sent now m k world event more v h g t
 
 -- with the end seen, nothing is left
 pub stays_at_end : (b c : Bool) (X Z : Option (List ℕ)) → (b ≡ true → IsAtEnd X) → (b ≡ true → Z ≡ X) → (b ≡ false → c ≡ true → IsAtEnd Z) → c ≡ true → IsAtEnd Z
@@ -234,12 +234,12 @@ end_memory X before sent now last h same = map_some X (GainsTexts before sent la
 })
 
 -- where the last line was not given
-pub end_leaves : (stop : Stop) (X left before sent now : Option (List ℕ)) (last : Seen) (a r waiting : ℕ) → IfSome X (GainsTexts before sent last) → a ≡ last.state.accepted → r ≡ last.state.refused → waiting ≡ length last.state.waiting
-    → CutsShort stop (WasCut (end_line (a + r) a r waiting)) sent now → Leaves stop X left before now
-end_leaves ReadFault X left before sent now last a r waiting h e f z t = absurd t
-end_leaves InputTooLong X left before sent now last a r waiting h e f z t = absurd t
-end_leaves Memory X left before sent now last a r waiting h e f z t = end_memory X before sent now last h t
-end_leaves WriteFault X left before sent now last a r waiting h e f z t = end_cut X before sent now last a r waiting h e f z t
+pub end_stands : (stop : Stop) (X left before sent now : Option (List ℕ)) (last : Seen) (a r waiting : ℕ) → IfSome X (GainsTexts before sent last) → a ≡ last.state.accepted → r ≡ last.state.refused → waiting ≡ length last.state.waiting
+    → CutsShort stop (WasCut (end_line (a + r) a r waiting)) sent now → StandsAt stop X left before now
+end_stands ReadFault X left before sent now last a r waiting h e f z t = absurd t
+end_stands InputTooLong X left before sent now last a r waiting h e f z t = absurd t
+end_stands Memory X left before sent now last a r waiting h e f z t = end_memory X before sent now last h t
+end_stands WriteFault X left before sent now last a r waiting h e f z t = end_cut X before sent now last a r waiting h e f z t
 
 -- the last line names nothing that was picked
 with_end : (input text : List ℕ) (last : Seen) → RunsLines (lines_in input) (picks_in text) text last → RunsLines (lines_in input) (picks_in (text ++ end_within input last)) text last

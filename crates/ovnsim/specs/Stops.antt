@@ -8,11 +8,11 @@ use Rattle.ovnsim.specs.declared.run.Stop.TheVariants.{ReadFault, WriteFault, Me
 
 -- What stands where a run stops for this cause: of the input, `left` was not taken, as far as the source tells, and the
 -- sink told `before` and then `after`.
-abbrev pub Leaves : Stop → Option (List ℕ) → Option (List ℕ) → Option (List ℕ) → Option (List ℕ) → Type 0
-Leaves ReadFault input left before after = WhereTold input left (GainsRead before after)
-Leaves InputTooLong input left before after = WhereTold input left (GainsToLimit before after)
-Leaves WriteFault input left before after = IfSome input (GainsFront before after)
-Leaves Memory input left before after = IfSome input (GainsEvents before after)
+abbrev pub StandsAt : Stop → Option (List ℕ) → Option (List ℕ) → Option (List ℕ) → Option (List ℕ) → Type 0
+StandsAt ReadFault input left before after = WhereTold input left (GainsRead before after)
+StandsAt InputTooLong input left before after = WhereTold input left (GainsToLimit before after)
+StandsAt WriteFault input left before after = IfSome input (GainsFront before after)
+StandsAt Memory input left before after = IfSome input (GainsEvents before after)
 
 -- no count of faults falls, and a fault is answered only where its count rose
 pub record HasCauses {T : Type 0} (reads reads_then writes writes_then : ℕ) (result : Result T Stop) : Type 0 where

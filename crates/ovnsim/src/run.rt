@@ -8,7 +8,7 @@ ghost use Rattle.world_core.specs.Parts.{new_world};
 ghost use Rattle.world_core.specs.Seen.{IsSound, Seen};
 ghost use Rattle.world_core.specs.State.{events_of};
 ghost use Rattle.ovnsim.specs.Answers.{GainsTexts, GainsWhole};
-ghost use Rattle.ovnsim.specs.Stops.{CutsShort, HasCauses, Leaves};
+ghost use Rattle.ovnsim.specs.Stops.{CutsShort, HasCauses, StandsAt};
 ghost use Rattle.ovnsim.specs.Taking.{GainsCut, GainsText, TakesWith, WasCut};
 
 use crate::next_event::{Next, next_event};
@@ -150,7 +150,7 @@ fn run_lines<S: Source, K: Sink>(
     ensures few { OnOk result (events_of world.new.state ≤ 2 ^ 40) }
     ensures at_end { OnOk result (IsAtEnd (S.left source.new)) }
     ensures stopped { IfErr result (λ stop.
-        Leaves stop (S.left source.old) (S.left source.new) (K.gone sink.old) (K.gone sink.new)) }
+        StandsAt stop (S.left source.old) (S.left source.new) (K.gone sink.old) (K.gone sink.new)) }
     ensures causes { HasCauses (S.faults source.old) (S.faults source.new) (K.faults sink.old) (K.faults sink.new) result }
 {
     let mut counts = Counts {
@@ -208,7 +208,7 @@ fn run_whole<S: Source, K: Sink>(
         (λ refused. IfSome (S.left source.old) (GainsWhole refused (K.gone sink.old) (K.gone sink.new))) }
     ensures at_end { OnOk result (IsAtEnd (S.left source.new)) }
     ensures stopped { IfErr result (λ stop.
-        Leaves stop (S.left source.old) (S.left source.new) (K.gone sink.old) (K.gone sink.new)) }
+        StandsAt stop (S.left source.old) (S.left source.new) (K.gone sink.old) (K.gone sink.new)) }
     ensures causes { HasCauses (S.faults source.old) (S.faults source.new) (K.faults sink.old) (K.faults sink.new) result }
 {
     let counts = run_lines(alloc, source, sink, buf, world, text)?;
@@ -227,7 +227,7 @@ pub fn replay<S: Source, K: Sink>(alloc: Global, source: &mut S, sink: &mut K) -
         (λ refused. IfSome (S.left source.old) (GainsWhole refused (K.gone sink.old) (K.gone sink.new))) }
     ensures at_end { OnOk result (IsAtEnd (S.left source.new)) }
     ensures stopped { IfErr result (λ stop.
-        Leaves stop (S.left source.old) (S.left source.new) (K.gone sink.old) (K.gone sink.new)) }
+        StandsAt stop (S.left source.old) (S.left source.new) (K.gone sink.old) (K.gone sink.new)) }
     ensures causes { HasCauses (S.faults source.old) (S.faults source.new) (K.faults sink.old) (K.faults sink.new) result }
 {
     let mut buf = LineBuf::new(alloc)?;

@@ -1,6 +1,6 @@
 use Rattle.std.proofs.Common.{◌+◌, cond, ap, refl, sym, ◌∙◌, arith}
 use Rattle.ovnsim.proofs.Running.{ran_start, turn_event, turn_passed}
-use Rattle.ovnsim.proofs.Stopped.{at_end, give_leaves, next_leaves, starts, stays_at_end}
+use Rattle.ovnsim.proofs.Stopped.{at_end, give_stands, next_stands, starts, stays_at_end}
 use Rattle.ovnsim.proofs.Taken.{one_more_event, passed_on}
 use Rattle.ovnsim.proofs.run.run_lines.Goals as goal
 
@@ -21,13 +21,13 @@ lines-init g c =
 
 pub returns-in_err-event-clause-stopped : goal.returns-in_err-event-clause-stopped
 returns-in_err-event-clause-stopped g c =
-    let stopped = next_leaves c.in_err-event.field-0.0 _ _ _ _ _ _ _ _ c.lines.invariant.within c.lines.invariant.ran c.in_err-event.ensures.stopped in
+    let stopped = next_stands c.in_err-event.field-0.0 _ _ _ _ _ _ _ _ c.lines.invariant.within c.lines.invariant.ran c.in_err-event.ensures.stopped in
     passed_on c.from_residual.result c.in_err-event.field-0.0 _ c.from_residual.ensures.1 stopped
 
 pub returns-in_err-is_accepted-in-Found-clause-stopped : goal.returns-in_err-is_accepted-in-Found-clause-stopped
 returns-in_err-is_accepted-in-Found-clause-stopped g c =
     let found = rw c.in-Found.is at c.in_ok-event.ensures in
-    let stopped = give_leaves c.in_err-is_accepted-in-Found.field-0.0 _ _ _ _ _ _ _ c.lines.buf c.next_event.new.buf c.lines.world c.in-Found.event found.progress c.lines.invariant.within c.next_event.ensures.within
+    let stopped = give_stands c.in_err-is_accepted-in-Found.field-0.0 _ _ _ _ _ _ _ c.lines.buf c.next_event.new.buf c.lines.world c.in-Found.event found.progress c.lines.invariant.within c.next_event.ensures.within
     c.lines.invariant.ran found.next c.in_err-is_accepted-in-Found.ensures.stopped in
     passed_on c.from_residual-in_err-is_accepted-in-Found.result c.in_err-is_accepted-in-Found.field-0.0 _ c.from_residual-in_err-is_accepted-in-Found.ensures.1 stopped
 
