@@ -1,0 +1,11 @@
+-- Lemmas.
+pub mod Lookups
+pub mod ApplyLaws
+pub mod CountLaws
+pub mod PutLaws
+pub mod Holding
+pub mod Deltas
+pub mod Midway
+pub mod Numbers
+pub mod PlaceLaws
+pub mod SetLaws
