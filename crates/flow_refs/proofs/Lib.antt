@@ -3,6 +3,7 @@ pub mod Lookups
 pub mod ApplyLaws
 pub mod CountLaws
 pub mod PutLaws
+pub mod ForCallers
 pub mod Holding
 pub mod Deltas
 pub mod Midway

@@ -16,7 +16,7 @@ use Rattle.flow_refs.proofs.CountLaws.{count_removed}
 use Rattle.flow_refs.proofs.Lookups.{found_alike, all_on}
 
 -- no flow stands once
-once_nil : {F : Type 0} (eq : F → F → Bool) → IsDistinct eq []
+pub once_nil : {F : Type 0} (eq : F → F → Bool) → IsDistinct eq []
 unfolding IsDistinct
 once_nil eq = tt
 
