@@ -65,3 +65,10 @@ given_alike eq cmp es (g ∷ gs) (c ∷ cs) same o flow =
         → is_member eq (unwrap_or (cond b (Some c.1) (lookup (is_at (cmp o)) cs)) (flows_of cmp es o)) flow ≡ is_member eq (unwrap_or (cond b (Some g.1) (lookup (is_at (cmp o)) gs)) (flows_of cmp es o)) flow
     by true rest = same.0.1 flow
     by false rest = rest
+
+-- one origin, and two that differ
+pub one_once : {F O : Type 0} (cmp : O → O → Ordering) (c : O × List F) → IsEachOnce cmp (c ∷ [])
+one_once cmp c = IsDistinct-cons (eq_by_cmp cmp) c.0 [] tt (once_nil (eq_by_cmp cmp))
+
+pub two_once : {F O : Type 0} (cmp : O → O → Ordering) (c d : O × List F) → eq_by_cmp cmp c.0 d.0 ≡ false → IsEachOnce cmp (c ∷ d ∷ [])
+two_once cmp c d apart = IsDistinct-cons (eq_by_cmp cmp) c.0 (d.0 ∷ []) (apart, tt) (one_once cmp d)

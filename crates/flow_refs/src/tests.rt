@@ -1,8 +1,9 @@
-ghost use Rattle.std.specs.Prelude.{◌≢◌, IfOk};
-ghost use Rattle.std.specs.Ordering.{nat_cmp};
+ghost use Rattle.std.specs.Prelude.{◌≡◌, false, IfOk};
+ghost use Rattle.std.specs.Ordering.{eq_by_cmp, nat_cmp};
 ghost use Rattle.flow_refs.specs.Origins.{IsEachOnce};
 
 use crate::shared::Shared;
+use ovn_base::delta::Delta;
 use ovn_base::list::List;
 use ovn_base::memory::NoMemory;
 use std::alloc::Global;
@@ -12,8 +13,9 @@ use std::test::Fail;
 fn one(alloc: Global, origin: u8, flows: &[u16]) -> Result<List<(u8, List<u16>)>, NoMemory>
     ensures { IfOk result (IsEachOnce nat_cmp) }
 {
+    let flows = List::from_slice(alloc, flows)?;
     let mut changes = List::new(alloc);
-    changes.push((origin, List::from_slice(alloc, flows)?))?;
+    changes.push((origin, flows))?;
     Ok(changes)
 }
 
@@ -25,46 +27,72 @@ fn two(
     second: u8,
     others: &[u16],
 ) -> Result<List<(u8, List<u16>)>, NoMemory>
-    requires { first ≢ second }
+    requires { eq_by_cmp nat_cmp first second ≡ false }
     ensures { IfOk result (IsEachOnce nat_cmp) }
 {
+    let flows = List::from_slice(alloc, flows)?;
+    let others = List::from_slice(alloc, others)?;
     let mut changes = List::new(alloc);
-    changes.push((first, List::from_slice(alloc, flows)?))?;
-    changes.push((second, List::from_slice(alloc, others)?))?;
+    changes.push((first, flows))?;
+    changes.push((second, others))?;
     Ok(changes)
 }
 
+// Changes the flows of one origin.
+fn set(
+    alloc: Global,
+    store: &mut Shared<u16, u8>,
+    origin: u8,
+    flows: &[u16],
+) -> Result<Delta<u16>, NoMemory> {
+    let changes = one(alloc, origin, flows)?;
+    let patch = store.prepare(changes)?;
+    Ok(store.apply(patch))
+}
+
+// The store in which origin 1 has the flows 5 and 7, and origin 2 has 7.
+fn sharing(alloc: Global) -> Result<Shared<u16, u8>, NoMemory> {
+    let mut store: Shared<u16, u8> = Shared::new(alloc)?;
+    let changes = two(alloc, 1, &[5, 7, 5], 2, &[7])?;
+    let patch = store.prepare(changes)?;
+    store.apply(patch);
+    Ok(store)
+}
+
 #[test]
-fn flow_stays_until_no_origin_has_it(rt: HostRuntime) -> Result<(), Fail> {
+fn delta_repeats_nothing(rt: HostRuntime) -> Result<(), Fail> {
     let alloc = rt.alloc();
     let mut store: Shared<u16, u8> = Shared::new(alloc)?;
-    let patch = store.prepare(two(alloc, 1, &[5, 7, 5], 2, &[7])?)?;
-    assert_eq!(rt; store.count(&7), 0);
+    let changes = two(alloc, 1, &[5, 7, 5], 2, &[7])?;
+    let patch = store.prepare(changes)?;
+    assert!(rt; !store.holds(&7));
     assert_eq!(rt; patch.delta().added.as_slice(), [5, 7].as_slice());
-    let delta = store.apply(patch);
-    assert_eq!(rt; delta.added.as_slice(), [5, 7].as_slice());
-    assert!(rt; delta.removed.is_empty());
+    assert!(rt; patch.delta().removed.is_empty());
+    Ok(())
+}
+
+#[test]
+fn counts_origins(rt: HostRuntime) -> Result<(), Fail> {
+    let store = sharing(rt.alloc())?;
     assert_eq!(rt; store.count(&5), 1);
     assert_eq!(rt; store.count(&7), 2);
     assert_eq!(rt; store.flow(0), Some(&5));
     assert_eq!(rt; store.flow(1), Some(&7));
     assert_eq!(rt; store.flow(2), None);
-
-    let patch = store.prepare(one(alloc, 1, &[])?)?;
-    let delta = store.apply(patch);
-    assert!(rt; delta.added.is_empty());
-    assert_eq!(rt; delta.removed.as_slice(), [5].as_slice());
-    assert!(rt; store.holds(&7));
-    assert!(rt; !store.holds(&5));
-    assert_eq!(rt; store.count(&7), 1);
     store.counts_hold();
+    Ok(())
+}
 
-    let patch = store.prepare(one(alloc, 2, &[9])?)?;
-    let delta = store.apply(patch);
-    assert_eq!(rt; delta.added.as_slice(), [9].as_slice());
-    assert_eq!(rt; delta.removed.as_slice(), [7].as_slice());
+#[test]
+fn flow_stays_until_no_origin_has_it(rt: HostRuntime) -> Result<(), Fail> {
+    let alloc = rt.alloc();
+    let mut store = sharing(alloc)?;
+    let first = set(alloc, &mut store, 1, &[])?;
+    assert_eq!(rt; first.removed.as_slice(), [5].as_slice());
+    assert!(rt; store.holds(&7));
+    let second = set(alloc, &mut store, 2, &[9])?;
+    assert_eq!(rt; second.removed.as_slice(), [7].as_slice());
+    assert_eq!(rt; second.added.as_slice(), [9].as_slice());
     assert!(rt; !store.holds(&7));
-    assert_eq!(rt; store.flow(0), Some(&9));
-    assert_eq!(rt; store.flow(1), None);
     Ok(())
 }
