@@ -9,7 +9,5 @@ pub mod fault;
 pub mod field;
 pub mod printer;
 pub mod reader;
-#[cfg(test)]
-mod tests;
 mod token;
 mod value;
