@@ -204,6 +204,8 @@ pub(crate) fn whole(alloc: Global, text: &[u8], way: Direction) -> Result<Expr, 
 
 /// The expression that the text spells in a rule of the direction, or the first fault of the text.
 pub fn parse(alloc: Global, text: &[u8], way: Direction) -> Result<Expr, ParseFault>
+    // The answer is a function of the text and the direction, unless memory runs out.
+    ensures exact { Gives result (spec.whole way text.now) }
     // What is read is in the grammar.
     ensures found { IfOk result (λ x. Spells way text.now x) }
     // What is in the grammar is read, unless memory runs out.
