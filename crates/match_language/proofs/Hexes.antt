@@ -1,23 +1,12 @@
 -- The number of hexadecimal digits, digit by digit.
-use Rattle.std.specs.Prelude.{◌≡◌, ◌<◌, ◌+◌, ◌*◌, ◌^◌, ℕ, Bool, true, false, cond, List, length, take, Some, None}
-use Rattle.std.specs.Char.{digit_value, is_ascii_hexdigit}
+use Rattle.std.specs.Prelude.{◌≡◌, ◌<◌, ◌+◌, ◌*◌, ◌^◌, ℕ, Bool, cond, List, length, take, Some, None}
+use Rattle.std.specs.Char.{digit_value}
 use Rattle.std.specs.Str.Parse.{digits_value}
 use Rattle.std.proofs.Common.{ap, arith, get_or}
 use Rattle.std.proofs.lemmas.Bool.{le-ltb}
 use Rattle.std.proofs.lemmas.Int.Digits.{digits_value_more}
 use Rattle.std.proofs.lemmas.Str.Parse.{digits_value-take-le}
-use Rattle.match_language.specs.Constants.{hex_digit, below_2_64}
-
-some_is : (d e : ℕ) → Some d ≡ Some e → d ≡ e
-some_is d e h = cc
-
-digit_by : (b d : ℕ) (r : Bool) → Some d ≡ cond r (Some (digit_value b)) None → d ≡ digit_value b
-digit_by b d true e = some_is d (digit_value b) e
-digit_by b d false e = absurd cc
-
--- the digit that was read has its value
-pub digit_is : (b d : ℕ) → Some d ≡ hex_digit b → d ≡ digit_value b
-digit_is b d e = digit_by b d (is_ascii_hexdigit b) e
+use Rattle.match_language.specs.Constants.{below_2_64}
 
 -- one more digit
 pub hex_more : (digits : List ℕ) (i n d : ℕ) → i < length digits → n ≡ digits_value 16 (take i digits) → d ≡ digit_value (get_or digits i 0) → 16 * n + d ≡ digits_value 16 (take (i + 1) digits)

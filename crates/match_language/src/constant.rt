@@ -6,6 +6,7 @@ ghost use Rattle.std.specs.Str.Parse.{digits_value};
 ghost use Rattle.match_language.specs.Constants as spec;
 
 use ovn_base::number::read_number;
+use ovn_base::read_address::hexadecimal_digit;
 
 /// The number that the word writes in decimal, if it is below 2^64 and has no leading zero.
 #[tactic(auto, unfolding(crate::specs::Constants::decimal_value))]
@@ -13,18 +14,6 @@ pub(crate) fn decimal_value(word: &[u8]) -> Option<u64>
     ensures { result ≡ spec.decimal_value word.now }
 {
     read_number(word, u64::MAX)
-}
-
-fn hexadecimal_digit(byte: u8) -> Option<u8>
-    ensures value { result ≡ spec.hex_digit byte }
-    ensures small { IfSome result (λ d. d < 16) }
-{
-    match byte {
-        b'0'..=b'9' => Some(byte - b'0'),
-        b'a'..=b'f' => Some(byte - b'a' + 10),
-        b'A'..=b'F' => Some(byte - b'A' + 10),
-        _ => None,
-    }
 }
 
 fn are_hexadecimal(digits: &[u8]) -> bool

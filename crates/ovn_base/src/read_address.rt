@@ -19,7 +19,8 @@ fn cut(text: &[u8], separator: u8) -> Option<(&[u8], &[u8])>
     None
 }
 
-fn hexadecimal_digit(byte: u8) -> Option<u8>
+/// The number that the hexadecimal digit writes, in either case.
+pub fn hexadecimal_digit(byte: u8) -> Option<u8>
     ensures found { IfSome result (λ d. (d ≡ digit_value byte) × (d < 16)) }
     ensures none { IfNone result (16 ≤ digit_value byte) }
 {
