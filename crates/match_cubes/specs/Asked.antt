@@ -1,0 +1,147 @@
+-- What a cube asks of the fields that matches speak of.
+use Rattle.std.specs.Prelude.{ℕ, Bool, if◌then◌else◌, List, [], ◌∷◌, None}
+use Rattle.std.specs.List.{list_all, list_any}
+use Rattle.ovn_base.specs.Address.{mac_number}
+use Rattle.inet_packet.specs.declared.cube.Bits.{Bits}
+use Rattle.inet_packet.specs.declared.cube.Cube.{Cube}
+use Rattle.inet_packet.specs.declared.packet.Packet.{Packet}
+use Rattle.inet_packet.specs.declared.regs.Regs.{Regs}
+use Rattle.inet_packet.specs.Fields.{ether_type, ip4_src, ip4_dst, ip_proto, ip_ttl, tcp_src, tcp_dst, udp_src, udp_dst, icmp4_type, icmp4_code, arp_op, arp_spa, arp_tpa, arp_sha, arp_tha}
+use Rattle.match_language.specs.declared.field.Field.{Field}
+use Rattle.match_language.specs.declared.field.Field.TheVariants as f
+use Rattle.match_language.specs.Tables.{field_bits, all_fields}
+use Rattle.match_cubes.specs.Ternary.{fits, any_bits, agree, joined}
+
+-- the number that the field has in the packet with its registers; that of a port is its key
+abbrev pub number_in : Field → Regs → Packet → ℕ
+number_in f.EthSrc regs packet = mac_number packet.src
+number_in f.EthDst regs packet = mac_number packet.dst
+number_in f.EthType regs packet = ether_type packet.body
+number_in f.Ip4Src regs packet = ip4_src packet.body
+number_in f.Ip4Dst regs packet = ip4_dst packet.body
+number_in f.IpProto regs packet = ip_proto packet.body
+number_in f.IpTtl regs packet = ip_ttl packet.body
+number_in f.TcpSrc regs packet = tcp_src packet.body
+number_in f.TcpDst regs packet = tcp_dst packet.body
+number_in f.UdpSrc regs packet = udp_src packet.body
+number_in f.UdpDst regs packet = udp_dst packet.body
+number_in f.Icmp4Type regs packet = icmp4_type packet.body
+number_in f.Icmp4Code regs packet = icmp4_code packet.body
+number_in f.ArpOp regs packet = arp_op packet.body
+number_in f.ArpSpa regs packet = arp_spa packet.body
+number_in f.ArpTpa regs packet = arp_tpa packet.body
+number_in f.ArpSha regs packet = arp_sha packet.body
+number_in f.ArpTha regs packet = arp_tha packet.body
+number_in f.Inport regs packet = regs.in_port
+number_in f.Outport regs packet = regs.out_port
+
+-- how many bits the number has
+abbrev pub width : Field → ℕ
+width f.Inport = 16
+width f.Outport = 16
+width other = field_bits other
+
+-- what the cube asks of the field
+abbrev pub asked : Field → Cube → Bits
+asked f.EthSrc c = c.eth_src
+asked f.EthDst c = c.eth_dst
+asked f.EthType c = c.eth_type
+asked f.Ip4Src c = c.ip4_src
+asked f.Ip4Dst c = c.ip4_dst
+asked f.IpProto c = c.ip_proto
+asked f.IpTtl c = c.ip_ttl
+asked f.TcpSrc c = c.tcp_src
+asked f.TcpDst c = c.tcp_dst
+asked f.UdpSrc c = c.udp_src
+asked f.UdpDst c = c.udp_dst
+asked f.Icmp4Type c = c.icmp4_type
+asked f.Icmp4Code c = c.icmp4_code
+asked f.ArpOp c = c.arp_op
+asked f.ArpSpa c = c.arp_spa
+asked f.ArpTpa c = c.arp_tpa
+asked f.ArpSha c = c.arp_sha
+asked f.ArpTha c = c.arp_tha
+asked f.Inport c = c.in_port
+asked f.Outport c = c.out_port
+
+-- the cube that asks this of each field, and nothing else
+abbrev pub cube_of : (Field → Bits) → Cube
+cube_of b = record {
+  at = None;
+  dp = any_bits;
+  in_port = b f.Inport;
+  out_port = b f.Outport;
+  next = any_bits;
+  z_in = any_bits;
+  z_out = any_bits;
+  z_dnat = any_bits;
+  z_snat = any_bits;
+  state = any_bits;
+  verdict = any_bits;
+  tier = any_bits;
+  flags = any_bits;
+  eth_src = b f.EthSrc;
+  eth_dst = b f.EthDst;
+  eth_type = b f.EthType;
+  ip4_src = b f.Ip4Src;
+  ip4_dst = b f.Ip4Dst;
+  ip_proto = b f.IpProto;
+  ip_ttl = b f.IpTtl;
+  tcp_src = b f.TcpSrc;
+  tcp_dst = b f.TcpDst;
+  udp_src = b f.UdpSrc;
+  udp_dst = b f.UdpDst;
+  icmp4_type = b f.Icmp4Type;
+  icmp4_code = b f.Icmp4Code;
+  arp_op = b f.ArpOp;
+  arp_spa = b f.ArpSpa;
+  arp_tpa = b f.ArpTpa;
+  arp_sha = b f.ArpSha;
+  arp_tha = b f.ArpTha;
+}
+
+-- the cube of all packets
+abbrev pub all_packets : Cube
+all_packets = cube_of (λ f. any_bits)
+
+-- the same cube, which asks this of the field
+abbrev pub ask : Field → Bits → Cube → Cube
+ask f.EthSrc b c = record c { eth_src = b }
+ask f.EthDst b c = record c { eth_dst = b }
+ask f.EthType b c = record c { eth_type = b }
+ask f.Ip4Src b c = record c { ip4_src = b }
+ask f.Ip4Dst b c = record c { ip4_dst = b }
+ask f.IpProto b c = record c { ip_proto = b }
+ask f.IpTtl b c = record c { ip_ttl = b }
+ask f.TcpSrc b c = record c { tcp_src = b }
+ask f.TcpDst b c = record c { tcp_dst = b }
+ask f.UdpSrc b c = record c { udp_src = b }
+ask f.UdpDst b c = record c { udp_dst = b }
+ask f.Icmp4Type b c = record c { icmp4_type = b }
+ask f.Icmp4Code b c = record c { icmp4_code = b }
+ask f.ArpOp b c = record c { arp_op = b }
+ask f.ArpSpa b c = record c { arp_spa = b }
+ask f.ArpTpa b c = record c { arp_tpa = b }
+ask f.ArpSha b c = record c { arp_sha = b }
+ask f.ArpTha b c = record c { arp_tha = b }
+ask f.Inport b c = record c { in_port = b }
+ask f.Outport b c = record c { out_port = b }
+
+-- the packet with its registers has what the cube asks of the fields
+abbrev pub is_in : Regs → Packet → Cube → Bool
+is_in regs packet c = list_all (λ f. fits (asked f c) (number_in f regs packet)) all_fields
+
+-- it is in one of the cubes
+abbrev pub in_one : Regs → Packet → List Cube → Bool
+in_one regs packet cubes = list_any (is_in regs packet) cubes
+
+-- the cubes ask for both values of no bit
+abbrev pub agree_all : Cube → Cube → Bool
+agree_all a b = list_all (λ f. agree (asked f a) (asked f b)) all_fields
+
+abbrev pub joined_all : Cube → Cube → Cube
+joined_all a b = cube_of (λ f. joined (asked f a) (asked f b))
+
+-- what is in both; none, where they ask for both values of one bit
+unfoldable pub meet : Cube → Cube → List Cube
+meet a b = if agree_all a b then joined_all a b ∷ [] else []

@@ -1,0 +1,13 @@
+//! Matches as cubes of packets with their registers: when a match holds, its cubes, and its width.
+#![tactic(auto)]
+
+mod asked;
+pub mod cubes;
+pub mod fault;
+mod inwards;
+mod meet;
+mod points;
+mod ranges;
+pub mod sets;
+mod ternary;
+pub mod width;
