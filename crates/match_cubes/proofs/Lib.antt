@@ -15,3 +15,5 @@ pub mod Joining
 pub mod Widening
 pub mod Empty
 pub mod Compared
+pub mod SuitedLaws
+pub mod WholeLaws

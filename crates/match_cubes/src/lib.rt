@@ -5,6 +5,7 @@ mod asked;
 pub mod cubes;
 pub mod fault;
 mod inwards;
+pub mod laws;
 mod meet;
 mod points;
 mod ranges;
