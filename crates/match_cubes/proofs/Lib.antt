@@ -17,3 +17,4 @@ pub mod Empty
 pub mod Compared
 pub mod SuitedLaws
 pub mod WholeLaws
+pub mod LargestLaws

@@ -22,11 +22,11 @@ whole_is w rel v zero p h = cond-true (lies rel v 0 p) (prefix w 0 p ∷ []) [] 
 whole_is w rel v (suc i) p h = cond-true (lies rel v (suc i) p) (prefix w (suc i) p ∷ []) (largest w rel v i (2 * p) ++ largest w rel v i (2 * p + 1)) h
 
 -- one that does not
-split_is : (w : ℕ) (rel : Rel) (v i p : ℕ) → lies rel v (suc i) p ≡ false → largest w rel v (suc i) p ≡ largest w rel v i (2 * p) ++ largest w rel v i (2 * p + 1)
+pub split_is : (w : ℕ) (rel : Rel) (v i p : ℕ) → lies rel v (suc i) p ≡ false → largest w rel v (suc i) p ≡ largest w rel v i (2 * p) ++ largest w rel v i (2 * p + 1)
 unfolding largest
 split_is w rel v i p h = cond-false (lies rel v (suc i) p) (prefix w (suc i) p ∷ []) (largest w rel v i (2 * p) ++ largest w rel v i (2 * p + 1)) h
 
-one_is : (w : ℕ) (rel : Rel) (v p : ℕ) → lies rel v 0 p ≡ false → largest w rel v 0 p ≡ []
+pub one_is : (w : ℕ) (rel : Rel) (v p : ℕ) → lies rel v 0 p ≡ false → largest w rel v 0 p ≡ []
 unfolding largest
 one_is w rel v p h = cond-false (lies rel v 0 p) (prefix w 0 p ∷ []) [] h
 

@@ -1,5 +1,6 @@
 -- The ranges of order relations, as prefixes.
-use Rattle.std.specs.Prelude.{ℕ, zero, suc, ◌+◌, ◌-◌, ◌*◌, ◌^◌, Bool, false, ◌&&◌, if◌then◌else◌, nat_lt, nat_le, List, [], ◌∷◌, ◌++◌}
+use Rattle.std.specs.Prelude.{ℕ, zero, suc, ◌+◌, ◌-◌, ◌*◌, ◌^◌, Bool, false, ◌&&◌, if◌then◌else◌, nat_lt, nat_le, List, [], ◌∷◌, ◌++◌, ◌/◌, ◌≤◌, ◌<◌, ◌↔◌, ◌≡◌, true}
+use Rattle.ovn_base.specs.Among.{Among}
 use Rattle.inet_packet.specs.declared.cube.Bits.{Bits}
 use Rattle.match_language.specs.declared.expr.Rel.{Rel}
 use Rattle.match_language.specs.declared.expr.Rel.TheVariants as r
@@ -28,3 +29,14 @@ largest w rel v (suc i) p = if lies rel v (suc i) p then prefix w (suc i) p ∷ 
 -- the largest prefixes of numbers of w bits that stand in the relation to the value
 unfoldable pub prefixes : ℕ → Rel → ℕ → List Bits
 prefixes w rel v = largest w rel v w 0
+
+-- the prefix p, behind which i bits are free, lies in the range and in no larger prefix that does
+pub record IsLargest (w : ℕ) (rel : Rel) (v i p : ℕ) : Type 0 where
+  pub within : i ≤ w
+  pub below : p < 2 ^ (w - i)
+  pub in_range : lies rel v i p ≡ true
+  pub alone : (k : ℕ) → 0 < k → i + k ≤ w → lies rel v (i + k) (p / 2 ^ k) ≡ false
+
+-- The prefixes are exactly those that lie in the range and in no larger one that does.
+abbrev pub AreLargest : ℕ → Rel → ℕ → Type 0
+AreLargest w rel v = (b : Bits) → Among b (prefixes w rel v) ↔ ((i : ℕ) × (p : ℕ) × IsLargest w rel v i p × (b ≡ prefix w i p))

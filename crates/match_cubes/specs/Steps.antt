@@ -1,5 +1,5 @@
 -- The steps by which lists of cubes and widths are gathered.
-use Rattle.std.specs.Prelude.{ℕ, ◌+◌, ◌*◌, Bool, true, false, List, [], ◌∷◌, ◌++◌, map, length}
+use Rattle.std.specs.Prelude.{ℕ, ◌+◌, ◌*◌, Bool, true, false, List, [], ◌∷◌, ◌++◌, map, length, Option, Some, None, ◌==◌}
 use Rattle.inet_packet.specs.declared.cube.Bits.{Bits}
 use Rattle.inet_packet.specs.declared.cube.Cube.{Cube}
 use Rattle.match_language.specs.declared.expr.Expr.{Expr}
@@ -34,6 +34,11 @@ test_in false t = map (comparing t.0) (meets meet_bits (any_bits ∷ []) (turned
 -- the cubes of a predicate, or of its negation
 unfoldable pub predicate_in : Predicate → Bool → List Cube
 predicate_in p positive = join_from (turn positive (asks_all p)) (constant_cubes (turn positive (asks_all p))) (map (test_in positive) (tests p))
+
+-- nothing is other than the value: it has no bit that counts
+abbrev pub asks_nothing : Option Bits → Bool
+asks_nothing (Some b) = b.mask == 0
+asks_nothing None = false
 
 -- so many values more, or so much wider by each
 abbrev pub grown : Bool → ℕ → List ℕ → ℕ

@@ -1,5 +1,6 @@
 //! The cubes of a match.
 ghost use Rattle.std.specs.Prelude.{◌≡◌, ◌≤◌, ◌++◌, [], ◌∷◌, true, IfOk, OnOk, map, flat_map, length, option_to_list};
+ghost use Rattle.std.specs.List.{list_any};
 ghost use Rattle.match_cubes.specs.Answer as answer;
 ghost use Rattle.match_cubes.specs.Cubes as spec;
 ghost use Rattle.match_cubes.specs.Inwards as inwards;
@@ -43,12 +44,37 @@ fn other(alloc: Global, width: u32, point: &Option<Bits>) -> Result<List<Bits>, 
     Ok(all)
 }
 
-// What is none of the values.
-#[tactic(auto, unfolding(crate::specs::Cubes::unlike))]
+// Whether nothing is other than the value.
+fn asks_nothing(point: &Option<Bits>) -> bool
+    ensures { result ≡ steps.asks_nothing point.now }
+{
+    match point {
+        Some(bits) => bits.mask == 0,
+        None => false,
+    }
+}
+
+// Whether nothing is other than one of the values.
+fn one_asks_nothing(points: &[Option<Bits>]) -> bool
+    ensures { result ≡ list_any steps.asks_nothing points.now }
+{
+    for point in points {
+        if asks_nothing(point) {
+            return true;
+        }
+    }
+    false
+}
+
+// What is none of the values; no list on the way is longer than the comparison is wide.
+#[tactic(auto, using(crate::proofs::Empty::nothing_unlike), unfolding(crate::specs::Cubes::unlike))]
 fn unlike(alloc: Global, width: u32, points: &[Option<Bits>]) -> Result<List<Bits>, NoMemory>
     requires { width ≤ 48 }
     ensures { IfOk result (λ all. all ≡ spec.unlike width (any_bits ∷ []) points.now) }
 {
+    if one_asks_nothing(points) {
+        return Ok(List::new(alloc));
+    }
     let mut all = List::new(alloc);
     all.push(ANY)?;
     for point in points {
