@@ -2,7 +2,7 @@
 use Rattle.std.specs.Prelude.{◌≡◌, List, [], ◌∷◌, ◌++◌, Result, Ok, Err, OnOk, OnErr, IfOk, refl}
 use Rattle.std.proofs.Common.{sym, ◌∙◌, append-nil}
 use Rattle.chassis_sim.specs.declared.out.SimOut.{SimOut}
-use Rattle.chassis_sim.specs.Passing.{IsFront, Keeps}
+use Rattle.chassis_sim.specs.Passing.{IsFront, KeepsOut}
 
 module _ {X E : Type 0} where
   -- the list stands at the front of what a push makes of it
@@ -21,5 +21,5 @@ if_ok_map (Ok x) f p = f x p
 if_ok_map (Err e) f p = tt
 
 -- what was told stands at its own front
-pub keeps_same : (out : SimOut) → Keeps out out
-keeps_same out = record { effects = record { rest = []; is = sym (append-nil out.effects) }; walks = record { rest = []; is = sym (append-nil out.walks) } }
+pub keeps_out : (out : SimOut) → KeepsOut out out
+keeps_out out = record { effects = record { rest = []; is = sym (append-nil out.effects) }; walks = record { rest = []; is = sym (append-nil out.walks) } }

@@ -3,6 +3,6 @@ pub mod Whole
 pub mod Lookups
 pub mod Waiting
 pub mod Replacing
-pub mod Held
+pub mod ChassisLaws
 pub mod Fronts
-pub mod Passed
+pub mod Answering

@@ -33,8 +33,8 @@ SendsWhole (effect.Frame chassis vni in_key out_key packet) = IsWhole packet
 SendsWhole (effect.Drop vni port cause) = Unit {0}
 SendsWhole effect.Lost = Unit {0}
 
-module _ (entry : Entry) where
-  effects_whole : (ops : List FlowOp) (copy : Carried) → CarriesWhole copy → AllByRecursion SendsWhole (outcome entry ops copy).effects
+module _ (entry : Entry) (now : ℕ) where
+  effects_whole : (ops : List FlowOp) (copy : Carried) → CarriesWhole copy → AllByRecursion SendsWhole (outcome entry now ops copy).effects
   effects_whole [] copy w = tt
   effects_whole (Set reg n ∷ ops) copy w = effects_whole ops (record copy { regs = set_reg reg n copy.regs }) w
   effects_whole (Go next ∷ ops) copy w = tt
@@ -44,7 +44,7 @@ module _ (entry : Entry) where
   effects_whole (Copies members ∷ ops) copy w = effects_whole ops copy w
   effects_whole (Output port ∷ ops) copy w = (tt, effects_whole ops copy w)
 
-  itself_whole : (ops : List FlowOp) (copy : Carried) → CarriesWhole copy → AllByRecursion CarriesWhole (outcome entry ops copy).itself
+  itself_whole : (ops : List FlowOp) (copy : Carried) → CarriesWhole copy → AllByRecursion CarriesWhole (outcome entry now ops copy).itself
   itself_whole [] copy w = tt
   itself_whole (Set reg n ∷ ops) copy w = itself_whole ops (record copy { regs = set_reg reg n copy.regs }) w
   itself_whole (Go next ∷ ops) copy w = (w, tt)
@@ -54,7 +54,7 @@ module _ (entry : Entry) where
   itself_whole (Copies members ∷ ops) copy w = itself_whole ops copy w
   itself_whole (Output port ∷ ops) copy w = itself_whole ops copy w
 
-  made_whole : (ops : List FlowOp) (copy : Carried) → CarriesWhole copy → AllByRecursion CarriesWhole (outcome entry ops copy).made
+  made_whole : (ops : List FlowOp) (copy : Carried) → CarriesWhole copy → AllByRecursion CarriesWhole (outcome entry now ops copy).made
   made_whole [] copy w = tt
   made_whole (Set reg n ∷ ops) copy w = made_whole ops (record copy { regs = set_reg reg n copy.regs }) w
   made_whole (Go next ∷ ops) copy w = tt
@@ -62,7 +62,7 @@ module _ (entry : Entry) where
   made_whole (Header ∷ ops) copy w = made_whole ops (record copy { regs = with_header entry copy.regs }) w
   made_whole (Frame chassis ∷ ops) copy w = made_whole ops copy w
   made_whole (Copies members ∷ ops) copy w =
-      all_append CarriesWhole (copies_for copy members) (outcome entry ops copy).made (all_map CarriesWhole (copy_for copy) (λ member. w) _) (made_whole ops copy w)
+      all_append CarriesWhole (copies_for copy members) (outcome entry now ops copy).made (all_map CarriesWhole (copy_for copy) (λ member. w) _) (made_whole ops copy w)
   made_whole (Output port ∷ ops) copy w = made_whole ops copy w
 
 stray_is : (entry : Entry) (copy : Carried) → SendsWhole (stray entry copy)
@@ -73,15 +73,15 @@ stray_whole : (entry : Entry) (copy : Carried) → AllByRecursion SendsWhole (un
 stray_whole entry copy = elim (nat_eq copy.table 33) as (λ b. AllByRecursion SendsWhole (cond b (stray entry copy ∷ []) [])) [ true ↦ (stray_is entry copy, tt) | false ↦ tt ]
 
 -- each walk of copies with whole packets
-whole : (flows : List Flow) (entry : Entry) (copies : List Carried) (steps : List Step) (effects : List Effect) → IsWalk flows entry copies steps effects → AllByRecursion CarriesWhole copies → AllByRecursion SendsWhole effects
-whole flows entry _ _ _ over w = tt
-whole flows entry _ _ _ (ends copy others steps more all none walk is) w =
-    subst (AllByRecursion SendsWhole) (sym is) (all_append SendsWhole (unmatched entry copy) more (stray_whole entry copy) (whole flows entry others steps more walk w.1))
-whole flows entry _ _ _ (takes copy others step steps more all here best walk is) w =
-    let brought = outcome entry step.flow.ops copy in
+whole : (flows : List Flow) (entry : Entry) (now : ℕ) (copies : List Carried) (steps : List Step) (effects : List Effect) → IsWalk flows entry now copies steps effects → AllByRecursion CarriesWhole copies → AllByRecursion SendsWhole effects
+whole flows entry now _ _ _ over w = tt
+whole flows entry now _ _ _ (ends copy others steps more all none walk is) w =
+    subst (AllByRecursion SendsWhole) (sym is) (all_append SendsWhole (unmatched entry copy) more (stray_whole entry copy) (whole flows entry now others steps more walk w.1))
+whole flows entry now _ _ _ (takes copy others step steps more all here best walk is) w =
+    let brought = outcome entry now step.flow.ops copy in
     let left : AllByRecursion CarriesWhole (going_on brought ++ others) =
-    all_append CarriesWhole (going_on brought) others (all_append CarriesWhole brought.itself brought.made (itself_whole entry step.flow.ops copy w.0) (made_whole entry step.flow.ops copy w.0)) w.1 in
-    subst (AllByRecursion SendsWhole) (sym is) (all_append SendsWhole brought.effects more (effects_whole entry step.flow.ops copy w.0) (whole flows entry (going_on brought ++ others) steps more walk left))
+    all_append CarriesWhole (going_on brought) others (all_append CarriesWhole brought.itself brought.made (itself_whole entry now step.flow.ops copy w.0) (made_whole entry now step.flow.ops copy w.0)) w.1 in
+    subst (AllByRecursion SendsWhole) (sym is) (all_append SendsWhole brought.effects more (effects_whole entry now step.flow.ops copy w.0) (whole flows entry now (going_on brought ++ others) steps more walk left))
 
 -- what fits into the header and is whole can be sent
 both : (effects : List Effect) → AllByRecursion IsFramed effects → AllByRecursion SendsWhole effects → AllByRecursion CanBeSent effects
@@ -92,5 +92,5 @@ both (effect.Drop vni port cause ∷ effects) f w = (tt, both effects f.1 w.1)
 both (effect.Lost ∷ effects) f w = (tt, both effects f.1 w.1)
 
 -- so the effects of a walk of a whole packet can be sent, if their keys fit
-pub walk_sends : (flows : List Flow) (entry : Entry) (packet : Packet) (steps : List Step) (effects : List Effect) → IsWhole packet → AllByRecursion IsFramed effects → IsWalkOf flows entry packet steps effects → AllByRecursion CanBeSent effects
-walk_sends flows entry packet steps effects w framed walk = both effects framed (whole flows entry (start entry packet ∷ []) steps effects walk (w, tt))
+pub walk_sends : (flows : List Flow) (entry : Entry) (now : ℕ) (packet : Packet) (steps : List Step) (effects : List Effect) → IsWhole packet → AllByRecursion IsFramed effects → IsWalkOf flows entry now packet steps effects → AllByRecursion CanBeSent effects
+walk_sends flows entry now packet steps effects w framed walk = both effects framed (whole flows entry now (start entry packet ∷ []) steps effects walk (w, tt))

@@ -1,5 +1,5 @@
 -- How what the chassis hold is changed.
-use Rattle.std.specs.Prelude.{◌≡◌, ◌≤◌, ℕ, List, [], ◌∷◌, ◌++◌, map, length, Option, Some, None}
+use Rattle.std.specs.Prelude.{◌≡◌, ◌≤◌, ℕ, List, ◌++◌, map, length, Option, Some, None}
 use Rattle.std.specs.List.{AllByRecursion}
 use Rattle.std.specs.Map.{keys_of}
 use Rattle.ovn_base.specs.declared.delta.Delta.{Delta}
@@ -12,7 +12,7 @@ use Rattle.flow_table.specs.Change.{IsDeltaOf, IsReplaced}
 use Rattle.switch_engine.specs.Proper.{IsProper, IsProperFlow}
 use Rattle.chassis_sim.specs.declared.change.SimChange.{SimChange}
 use Rattle.chassis_sim.specs.Settings.{set_in_turn, AreSet}
-use Rattle.chassis_sim.specs.State.{KeyPair, same_pair, State, Room, Seen, named}
+use Rattle.chassis_sim.specs.State.{KeyPair, same_pair, SimState, SimRoom, named}
 
 -- the flows of a chassis after a delta, if it is given one, by those before
 abbrev pub AreReplaced : Option (Delta Flow) → Option (List Flow) → Option (List Flow) → Type 0
@@ -43,7 +43,7 @@ module _ {T : Type 0} (flows_of : T → List Flow) where
       (between : Option (List Flow)) × AreReplaced (named change.tables name) before between × (after ≡ set_in_turn same_name (coming_and_going change) name between)
 
   -- the change is made, and nothing else
-  pub record IsApplied (old : State) (change : SimChange T) (new : State) : Type 0 where
+  pub record IsApplied (old : SimState) (change : SimChange T) (new : SimState) : Type 0 where
     pub chassis : (name : Name) → IsChanged change name (named old.chassis name) (named new.chassis name)
     pub bindings : AreSet same_name change.bound old.bindings new.bindings
     pub names : AreSet same_pair (map given_name change.names) old.names new.names
@@ -55,34 +55,29 @@ module _ {T : Type 0} (flows_of : T → List Flow) where
     pub deltas : AllByRecursion (λ table. IsProper table.1.added) change.tables
     pub chassis : AllByRecursion (λ added. IsProper (flows_of added.1)) change.added
 
--- the delta fits into the tables that have so much room
-abbrev pub FitsIn : Delta Flow → Option ℕ → Type 0
-FitsIn delta None = Unit {0}
-FitsIn delta (Some room) = length delta.added ≤ room
-
--- the delta is one of these flows
+-- the delta is one of these flows, if there are any
 abbrev pub IsDeltaOfAny : Delta Flow → Option (List Flow) → Type 0
 IsDeltaOfAny delta None = Unit {0}
 IsDeltaOfAny delta (Some flows) = IsDeltaOf flows delta
-
--- each delta fits into the tables of its chassis
-abbrev pub AllFit : List (Name × ℕ) → List (Name × Delta Flow) → Type 0
-AllFit rooms tables = AllByRecursion (λ table. FitsIn table.1 (named rooms table.0)) tables
 
 -- each delta is one of the flows of its chassis
 abbrev pub AllAreDeltas : List (Name × List Flow) → List (Name × Delta Flow) → Type 0
 AllAreDeltas chassis tables = AllByRecursion (λ table. IsDeltaOfAny table.1 (named chassis table.0)) tables
 
-module _ {T : Type 0} where
-  -- there is room for what the change brings
-  pub record HasRoom (room : Room) (change : SimChange T) : Type 0 where
+module _ {T : Type 0} (ready : T → Delta Flow → Type 0) where
+  -- the tables are ready for the delta, if there are any
+  abbrev pub IsReadyFor : Delta Flow → Option T → Type 0
+  IsReadyFor delta None = Unit {0}
+  IsReadyFor delta (Some tables) = ready tables delta
+
+  -- the tables of each chassis are ready for its delta
+  abbrev pub AreReady : List (Name × T) → List (Name × Delta Flow) → Type 0
+  AreReady held tables = AllByRecursion (λ table. IsReadyFor table.1 (named held table.0)) tables
+
+  -- there is room for what the change brings, and the tables are ready for its deltas, of which no two are for one chassis
+  pub record IsPrepared (room : SimRoom T) (change : SimChange T) : Type 0 where
     pub chassis : length change.added ≤ room.chassis
     pub bindings : length change.bound ≤ room.bindings
     pub names : length change.names ≤ room.names
-    pub flows : AllFit room.flows change.tables
-
-  -- the change was prepared, and its deltas are of the flows that are held
-  pub record IsReady (seen : Seen) (change : SimChange T) : Type 0 where
-    pub room : HasRoom seen.room change
+    pub tables : AreReady room.tables change.tables
     pub once : EachOnce (keys_of change.tables)
-    pub deltas : AllAreDeltas seen.state.chassis change.tables

@@ -58,9 +58,9 @@ CanBeSent Lost = Unit {0}
 -- so are all frames of each walk of a whole packet through proper tables
 abbrev pub WalksCanBeSent : Type 0
 WalksCanBeSent =
-    (flows : List Flow) (entry : Entry) (packet : Packet) (steps : List Step) (effects : List Effect)
+    (flows : List Flow) (entry : Entry) (now : ℕ) (packet : Packet) (steps : List Step) (effects : List Effect)
     → IsProper flows
     → IsEntry entry
     → IsWhole packet
-    → IsWalkOf flows entry packet steps effects
+    → IsWalkOf flows entry now packet steps effects
     → AllByRecursion CanBeSent effects

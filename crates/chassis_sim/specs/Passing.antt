@@ -18,7 +18,7 @@ use Rattle.chassis_sim.specs.declared.out.SimOut.{SimOut}
 use Rattle.chassis_sim.specs.declared.underlay.WaitingFrame.{WaitingFrame}
 use Rattle.chassis_sim.specs.Frames.{Carries}
 use Rattle.chassis_sim.specs.InNames.{all_in_names, next_after_all, frames_sent}
-use Rattle.chassis_sim.specs.State.{State, Seen, named, numbered, without}
+use Rattle.chassis_sim.specs.State.{SimState, SimView, named, numbered, without}
 
 -- these effects came, and this walk of the chassis
 pub record Adds (chassis : Name) (start : Start) (steps : List Step) (effects : List NetEffect) (before after : SimOut) : Type 0 where
@@ -26,48 +26,48 @@ pub record Adds (chassis : Name) (start : Start) (steps : List Step) (effects : 
   pub all_walks : after.walks ≡ before.walks ++ record { chassis = chassis; start = start; steps = steps } ∷ []
 
 -- the frames that the effects send wait behind those that waited
-abbrev pub with_frames : State → List NetEffect → ℕ → State
+abbrev pub with_frames : SimState → List NetEffect → ℕ → SimState
 with_frames state effects next = record state { waiting = state.waiting ++ frames_sent effects; next = next }
 
 -- the walk on the chassis and its effects in names came, and the frames among them wait, with the next numbers in order
-pub record IsTold (old : State) (chassis : Name) (start : Start) (steps : List Step) (effects : List Effect) (before after : SimOut) (new : State) : Type 0 where
+pub record IsTold (old : SimState) (chassis : Name) (start : Start) (steps : List Step) (effects : List Effect) (before after : SimOut) (new : SimState) : Type 0 where
   pub told : Adds chassis start steps (all_in_names old.names chassis start old.next effects) before after
   pub state : new ≡ with_frames old (all_in_names old.names chassis start old.next effects) (next_after_all old.next effects)
 
--- the packet at the port goes through the flows of the chassis to which the port is bound; where no such chassis is held it
+-- the packet at the port goes, at the time, through the flows of the chassis to which the port is bound; where no such chassis is held it
 -- meets none
-pub data IsInjected (old : State) (port : Name) (packet : Packet) (before after : SimOut) (new : State) : Type 0 where
+pub data IsInjected (old : SimState) (port : Name) (now : ℕ) (packet : Packet) (before after : SimOut) (new : SimState) : Type 0 where
   through : (chassis : Name) (flows : List Flow) (steps : List Step) (effects : List Effect)
       → named old.bindings port ≡ Some chassis
       → named old.chassis chassis ≡ Some flows
-      → IsWalkOf flows (Vif port) packet steps effects
+      → IsWalkOf flows (Vif port) now packet steps effects
       → IsTold old chassis (Port port) steps effects before after new
-      → IsInjected old port packet before after new
+      → IsInjected old port now packet before after new
   nowhere : (chassis : Name)
       → named old.bindings port ≡ Some chassis
       → named old.chassis chassis ≡ None
       → IsTold old chassis (Port port) [] [] before after new
-      → IsInjected old port packet before after new
+      → IsInjected old port now packet before after new
 
 -- the frame of the number waits on only where it is kept
-abbrev pub arrived : State → ℕ → Bool → State
+abbrev pub arrived : SimState → ℕ → Bool → SimState
 arrived state n keep = record state { waiting = cond keep state.waiting (without state n).waiting }
 
--- the packet that the waiting frame carries comes from the tunnel to the flows of the chassis to which the frame goes; where
+-- the packet that the waiting frame carries comes, at the time, from the tunnel to the flows of the chassis to which the frame goes; where
 -- that chassis is gone the frame is lost
-pub data Arrives (old : State) (n : ℕ) (keep : Bool) (before after : SimOut) (new : State) : Type 0 where
+pub data Arrives (old : SimState) (n : ℕ) (keep : Bool) (now : ℕ) (before after : SimOut) (new : SimState) : Type 0 where
   through : (frame : WaitingFrame) (flows : List Flow) (vni in_key out_key : ℕ) (packet : Packet) (steps : List Step) (effects : List Effect)
       → numbered old.waiting n ≡ Some frame
       → named old.chassis frame.to ≡ Some flows
       → Carries frame.bytes vni in_key out_key packet
-      → IsWalkOf flows (Tunnel vni in_key out_key) packet steps effects
+      → IsWalkOf flows (Tunnel vni in_key out_key) now packet steps effects
       → IsTold (arrived old n keep) frame.to (Frame n) steps effects before after new
-      → Arrives old n keep before after new
+      → Arrives old n keep now before after new
   gone : (frame : WaitingFrame)
       → numbered old.waiting n ≡ Some frame
       → named old.chassis frame.to ≡ None
       → IsTold (arrived old n keep) frame.to (Frame n) [] (Lost ∷ []) before after new
-      → Arrives old n keep before after new
+      → Arrives old n keep now before after new
 
 -- the first list stands at the front of the second
 pub record IsFront {X : Type 0} (front whole : List X) : Type 0 where
@@ -75,31 +75,32 @@ pub record IsFront {X : Type 0} (front whole : List X) : Type 0 where
   pub is : whole ≡ front ++ rest
 
 -- what was told stands at the front of what is told now
-pub record Keeps (before after : SimOut) : Type 0 where
+pub record KeepsOut (before after : SimOut) : Type 0 where
   pub effects : IsFront before.effects after.effects
   pub walks : IsFront before.walks after.walks
 
 -- only the waiting frames and the next number are others
-abbrev pub HasOtherFrames : State → State → Type 0
+abbrev pub HasOtherFrames : SimState → SimState → Type 0
 HasOtherFrames old new = new ≡ record old { waiting = new.waiting; next = new.next }
 
--- what stands after an answer to `inject`: NotBound comes exactly where the port has no binding
-abbrev pub AnswersInject : Result (Unit {0}) SimFault → Seen → Name → Packet → SimOut → SimOut → Seen → Type 0
-AnswersInject (Ok done) old port packet before after new = IsInjected old.state port packet before after new.state
-AnswersInject (Err (NotBound name)) old port packet before after new = (name ≡ port) × (named old.state.bindings port ≡ None) × (new ≡ old) × (after ≡ before)
-AnswersInject (Err (NoFrame n)) old port packet before after new = ⊥
-AnswersInject (Err Memory) old port packet before after new = IsSome (named old.state.bindings port) × HasOtherFrames old.state new.state × Keeps before after
+module _ {T : Type 0} where
+  -- what stands after an answer to `inject`: NotBound comes exactly where the port has no binding
+  abbrev pub AnswersInject : Result (Unit {0}) SimFault → SimView T → Name → ℕ → Packet → SimOut → SimOut → SimView T → Type 0
+  AnswersInject (Ok done) old port now packet before after new = IsInjected old.state port now packet before after new.state
+  AnswersInject (Err (NotBound name)) old port now packet before after new = (name ≡ port) × (named old.state.bindings port ≡ None) × (new ≡ old) × (after ≡ before)
+  AnswersInject (Err (NoFrame n)) old port now packet before after new = ⊥
+  AnswersInject (Err Memory) old port now packet before after new = IsSome (named old.state.bindings port) × HasOtherFrames old.state new.state × KeepsOut before after
 
--- what stands after an answer to `arrive`: NoFrame comes exactly where no frame of the number waits
-abbrev pub AnswersArrive : Result (Unit {0}) SimFault → Seen → ℕ → Bool → SimOut → SimOut → Seen → Type 0
-AnswersArrive (Ok done) old n keep before after new = Arrives old.state n keep before after new.state
-AnswersArrive (Err (NotBound name)) old n keep before after new = ⊥
-AnswersArrive (Err (NoFrame m)) old n keep before after new = (m ≡ n) × (numbered old.state.waiting n ≡ None) × (new ≡ old) × (after ≡ before)
-AnswersArrive (Err Memory) old n keep before after new = IsSome (numbered old.state.waiting n) × HasOtherFrames old.state new.state × Keeps before after
+  -- what stands after an answer to `arrive`: NoFrame comes exactly where no frame of the number waits
+  abbrev pub AnswersArrive : Result (Unit {0}) SimFault → SimView T → ℕ → Bool → ℕ → SimOut → SimOut → SimView T → Type 0
+  AnswersArrive (Ok done) old n keep now before after new = Arrives old.state n keep now before after new.state
+  AnswersArrive (Err (NotBound name)) old n keep now before after new = ⊥
+  AnswersArrive (Err (NoFrame m)) old n keep now before after new = (m ≡ n) × (numbered old.state.waiting n ≡ None) × (new ≡ old) × (after ≡ before)
+  AnswersArrive (Err Memory) old n keep now before after new = IsSome (numbered old.state.waiting n) × HasOtherFrames old.state new.state × KeepsOut before after
 
--- what stands after an answer to `lose`: NoFrame comes exactly where no frame of the number waits
-abbrev pub AnswersLose : Result (Unit {0}) SimFault → Seen → ℕ → Seen → Type 0
-AnswersLose (Ok done) old n new = IsSome (numbered old.state.waiting n) × (new ≡ record old { state = without old.state n })
-AnswersLose (Err (NotBound name)) old n new = ⊥
-AnswersLose (Err (NoFrame m)) old n new = (m ≡ n) × (numbered old.state.waiting n ≡ None) × (new ≡ old)
-AnswersLose (Err Memory) old n new = ⊥
+  -- what stands after an answer to `lose`: NoFrame comes exactly where no frame of the number waits
+  abbrev pub AnswersLose : Result (Unit {0}) SimFault → SimView T → ℕ → SimView T → Type 0
+  AnswersLose (Ok done) old n new = IsSome (numbered old.state.waiting n) × (new ≡ record old { state = without old.state n })
+  AnswersLose (Err (NotBound name)) old n new = ⊥
+  AnswersLose (Err (NoFrame m)) old n new = (m ≡ n) × (numbered old.state.waiting n ≡ None) × (new ≡ old)
+  AnswersLose (Err Memory) old n new = ⊥

@@ -15,7 +15,7 @@ abbrev pub KeyPair : Type 0
 KeyPair = ℕ × ℕ
 
 -- what the chassis hold, and what is on its way between them
-pub record State : Type 0 where
+pub record SimState : Type 0 where
   -- the flows that each chassis holds
   pub chassis : List (Name × List Flow)
   -- the chassis of each bound port
@@ -28,7 +28,7 @@ pub record State : Type 0 where
   pub next : ℕ
 
 -- no chassis, no binding, no name and no frame
-abbrev pub nothing_held : State
+abbrev pub nothing_held : SimState
 nothing_held = record { chassis = []; bindings = []; names = []; waiting = []; next = 1 }
 
 -- what stands under the name
@@ -44,22 +44,23 @@ abbrev pub numbered : {X : Type 0} → List (ℕ × X) → ℕ → Option X
 numbered entries n = lookup (is_at (nat_cmp n)) entries
 
 -- what waits, without the frame of the number
-abbrev pub without : State → ℕ → State
+abbrev pub without : SimState → ℕ → SimState
 without state n = record state { waiting = remove_entry (is_at (nat_cmp n)) state.waiting }
 
 -- the flow of the chassis at the index
-abbrev pub flow_at : State → Name → ℕ → Option Flow
+abbrev pub flow_at : SimState → Name → ℕ → Option Flow
 flow_at state chassis index = option_and_then (λ flows. slice_get flows index) (named state.chassis chassis)
 
--- for how much more there is room
-pub record Room : Type 0 where
-  pub chassis : ℕ
-  pub bindings : ℕ
-  pub names : ℕ
-  -- by chassis, for how many more flows
-  pub flows : List (Name × ℕ)
+module _ (T : Type 0) where
+  -- the tables of each chassis, and for how much more there is room
+  pub record SimRoom : Type 0 where
+    pub chassis : ℕ
+    pub bindings : ℕ
+    pub names : ℕ
+    -- what the tables have room for they say themselves
+    pub tables : List (Name × T)
 
--- what is seen of the simulated chassis
-pub record Seen : Type 0 where
-  pub state : State
-  pub room : Room
+  -- what is seen of the simulated chassis
+  pub record SimView : Type 0 where
+    pub state : SimState
+    pub room : SimRoom

@@ -1,5 +1,5 @@
 -- The tables of the chassis, as they are held.
-use Rattle.std.specs.Prelude.{ℕ, List, map}
+use Rattle.std.specs.Prelude.{List, map}
 use Rattle.ovn_base.specs.declared.name.Name.{Name}
 use Rattle.flow_table.specs.declared.flow.Flow.{Flow}
 
@@ -10,7 +10,3 @@ seen_by f entry = (entry.0, f entry.1)
 -- the flows of each chassis
 abbrev pub flows_held : {T : Type 0} → (T → List Flow) → List (Name × T) → List (Name × List Flow)
 flows_held flows entries = map (seen_by flows) entries
-
--- for how many more flows the tables of each chassis have room
-abbrev pub rooms_held : {T : Type 0} → (T → ℕ) → List (Name × T) → List (Name × ℕ)
-rooms_held room entries = map (seen_by room) entries

@@ -1,5 +1,5 @@
 -- What is seen of the underlay.
-use Rattle.std.specs.Prelude.{◌≤◌, ℕ, List}
+use Rattle.std.specs.Prelude.{ℕ, List}
 use Rattle.std.specs.List.{AllByRecursion}
 use Rattle.std.specs.List.Sorted.{IsStrictlySortedBy}
 use Rattle.std.specs.Map.{keys_of}
@@ -12,8 +12,7 @@ pub record Underway : Type 0 where
   pub waiting : List (ℕ × WaitingFrame)
   pub next : ℕ
 
--- the frames are in order of number, numbers begin with 1, and each frame that waits was sent before the next one
+-- the frames are in order of number, and each frame that waits was sent before the next one
 pub record IsUnderway (waiting : List (ℕ × WaitingFrame)) (next : ℕ) : Type 0 where
   pub ordered : IsStrictlySortedBy nat_cmp (keys_of waiting)
-  pub some_next : 1 ≤ next
   pub each : AllByRecursion (IsWaiting next) waiting

@@ -5,10 +5,10 @@ ghost use Rattle.indexmap.specs.IndexMap.{get, spare};
 ghost use Rattle.ovn_base.specs.declared.name.Name.{Name};
 ghost use Rattle.ovn_base.specs.Once.{EachOnce};
 ghost use Rattle.ovn_base.specs.SameName.{same_name};
-ghost use Rattle.chassis_sim.specs.Changing.{AreReplaced, FitsIn, IsDeltaOfAny, AllFit, AllAreDeltas, given_name, gone, come};
+ghost use Rattle.chassis_sim.specs.Changing.{AllAreDeltas, AreReady, AreReplaced, IsDeltaOfAny, IsReadyFor, given_name, gone, come};
 ghost use Rattle.chassis_sim.specs.Settings.{AreSet};
 ghost use Rattle.chassis_sim.specs.State.{named, same_pair};
-ghost use Rattle.chassis_sim.specs.Tables.{flows_held, rooms_held};
+ghost use Rattle.chassis_sim.specs.Tables.{flows_held};
 
 use crate::names::Names;
 use flow_table::flow::Flow;
@@ -20,15 +20,16 @@ use ovn_base::memory::NoMemory;
 use ovn_base::name::Name;
 use std::hash::Hash;
 
-// Makes room for the delta in the tables of the chassis, if it has any.
+// Makes the tables of the chassis ready for the delta, if it has any.
 fn prepare_one<T: Lookup>(
     held: &mut IndexMap<Name, T>,
     name: &Name,
     delta: &Delta<Flow>,
 ) -> Result<(), NoMemory>
+    requires { IsDeltaOfAny delta.now (named (flows_held T.flows held.old.entries) name.now) }
     ensures flows { flows_held T.flows held.new.entries ≡ flows_held T.flows held.old.entries }
-    ensures fits { OnOk result (FitsIn delta.now (named (rooms_held T.room held.new.entries) name.now)) }
-    ensures others { (other : Name) → same_name name.now other ≡ false → named (rooms_held T.room held.new.entries) other ≡ named (rooms_held T.room held.old.entries) other }
+    ensures ready { OnOk result (IsReadyFor T.ready delta.now (named held.new.entries name.now)) }
+    ensures others { (other : Name) → same_name name.now other ≡ false → named held.new.entries other ≡ named held.old.entries other }
     ensures spare { spare held.new ≡ spare held.old }
 {
     match held.get_mut(name) {
@@ -37,14 +38,15 @@ fn prepare_one<T: Lookup>(
     }
 }
 
-// Makes room for the deltas in the tables of their chassis.
+// Makes the tables of chassis ready for their deltas.
 pub(crate) fn prepare_each<T: Lookup>(
     held: &mut IndexMap<Name, T>,
     deltas: &[(Name, Delta<Flow>)],
 ) -> Result<(), NoMemory>
     requires once { EachOnce (keys_of deltas.now) }
+    requires deltas { AllAreDeltas (flows_held T.flows held.old.entries) deltas.now }
     ensures flows { flows_held T.flows held.new.entries ≡ flows_held T.flows held.old.entries }
-    ensures fit { OnOk result (AllFit (rooms_held T.room held.new.entries) deltas.now) }
+    ensures ready { OnOk result (AreReady T.ready held.new.entries deltas.now) }
     ensures spare { spare held.new ≡ spare held.old }
 {
     'deltas: for (name, delta) in deltas {
@@ -55,11 +57,9 @@ pub(crate) fn prepare_each<T: Lookup>(
 
 // Changes the tables of the chassis by the delta, if it has any.
 fn replace_one<T: Lookup>(held: &mut IndexMap<Name, T>, name: &Name, delta: Delta<Flow>)
-    requires fits { FitsIn delta (named (rooms_held T.room held.old.entries) name.now) }
-    requires delta { IsDeltaOfAny delta (named (flows_held T.flows held.old.entries) name.now) }
+    requires { IsReadyFor T.ready delta (named held.old.entries name.now) }
     ensures replaced { AreReplaced (Some delta) (named (flows_held T.flows held.old.entries) name.now) (named (flows_held T.flows held.new.entries) name.now) }
-    ensures others { (other : Name) → same_name name.now other ≡ false → named (flows_held T.flows held.new.entries) other ≡ named (flows_held T.flows held.old.entries) other }
-    ensures rooms { (other : Name) → same_name name.now other ≡ false → named (rooms_held T.room held.new.entries) other ≡ named (rooms_held T.room held.old.entries) other }
+    ensures others { (other : Name) → same_name name.now other ≡ false → named held.new.entries other ≡ named held.old.entries other }
     ensures spare { spare held.new ≡ spare held.old }
 {
     if let Some(tables) = held.get_mut(name) {
@@ -73,8 +73,7 @@ pub(crate) fn replace_each<T: Lookup>(
     deltas: List<(Name, Delta<Flow>)>,
 )
     requires once { EachOnce (keys_of deltas) }
-    requires fit { AllFit (rooms_held T.room held.old.entries) deltas }
-    requires deltas { AllAreDeltas (flows_held T.flows held.old.entries) deltas }
+    requires ready { AreReady T.ready held.old.entries deltas }
     ensures replaced { (name : Name) → AreReplaced (named deltas name) (named (flows_held T.flows held.old.entries) name) (named (flows_held T.flows held.new.entries) name) }
     ensures spare { spare held.new ≡ spare held.old }
 {

@@ -12,6 +12,4 @@ mod names;
 pub mod out;
 mod passing;
 pub mod sim;
-#[cfg(test)]
-mod tests;
 pub mod underlay;

@@ -27,7 +27,7 @@ pub(crate) fn pass<T: Lookup>(
     requires proper { IsProper (T.flows tables.now) }
     requires entry { IsEntry entry.now }
     requires whole { IsWhole packet }
-    ensures walk { IfOk result (λ run. IsWalkOf (T.flows tables.now) entry.now packet run.walk run.effects) }
+    ensures walk { IfOk result (λ run. IsWalkOf (T.flows tables.now) entry.now now packet run.walk run.effects) }
     ensures can { IfOk result (λ run. AllByRecursion CanBeSent run.effects) }
 {
     walks_can_be_sent();

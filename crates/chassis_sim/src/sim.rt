@@ -6,7 +6,7 @@ ghost use Rattle.std.specs.Map.{keys_of};
 ghost use Rattle.ovn_base.specs.Once.{EachOnce};
 ghost use Rattle.inet_packet.specs.Whole.{IsWhole};
 ghost use Rattle.flow_table.specs.declared.flow.Flow.{Flow};
-ghost use Rattle.chassis_sim.specs.Changing.{IsApplied, IsProperChange, HasRoom, IsReady};
+ghost use Rattle.chassis_sim.specs.Changing.{AllAreDeltas, IsApplied, IsPrepared, IsProperChange};
 ghost use Rattle.chassis_sim.specs.Holding.{IsHeld, RunsAt, RunsFrom};
 ghost use Rattle.chassis_sim.specs.Frames.{CanBeSent, IsSent};
 ghost use Rattle.chassis_sim.specs.Passing.{AnswersInject, AnswersArrive, AnswersLose};
@@ -43,13 +43,13 @@ pub struct Sim<T: Lookup> {
 
 impl<T: Lookup> Model for Sim<T> {
     ghost use Rattle.indexmap.specs.IndexMap.{spare};
-    ghost use Rattle.chassis_sim.specs.State.{Seen};
+    ghost use Rattle.chassis_sim.specs.State.{SimView};
     ghost use Rattle.chassis_sim.specs.Holding.{AreProper};
-    ghost use Rattle.chassis_sim.specs.Tables.{flows_held, rooms_held};
+    ghost use Rattle.chassis_sim.specs.Tables.{flows_held};
 
-    ghost Value = { Seen };
+    ghost Value = { SimView T };
 
-    ghost view = { λ s. record { state = record { chassis = flows_held T.flows s.chassis.entries; bindings = s.bindings.entries; names = s.names.entries; waiting = s.underlay.waiting; next = s.underlay.next }; room = record { chassis = spare s.chassis; bindings = spare s.bindings; names = spare s.names; flows = rooms_held T.room s.chassis.entries } } };
+    ghost view = { λ s. record { state = record { chassis = flows_held T.flows s.chassis.entries; bindings = s.bindings.entries; names = s.names.entries; waiting = s.underlay.waiting; next = s.underlay.next }; room = record { chassis = spare s.chassis; bindings = spare s.bindings; names = spare s.names; tables = s.chassis.entries } } };
 
     ghost invariant = { λ s. AreProper (flows_held T.flows s.chassis.entries) };
 }
@@ -101,11 +101,13 @@ impl<T: Lookup + Drop> Sim<T> {
         self.underlay.holds();
     }
 
-    /// Makes room for the change. What is held stays, also without memory.
+    /// Makes ready for the change, by which no tables change twice, and each as what they hold allows. What is held stays, also
+    /// without memory.
     pub fn prepare(&mut self, change: &SimChange<T>) -> Result<(), NoMemory>
         requires once { EachOnce (keys_of change.now.tables) }
+        requires deltas { AllAreDeltas self.old.state.chassis change.now.tables }
         ensures kept { self.new.state ≡ self.old.state }
-        ensures room { OnOk result (HasRoom self.new.room change.now) }
+        ensures prepared { OnOk result (IsPrepared T.ready self.new.room change.now) }
     {
         self.bindings.reserve(change.bound.len())?;
         self.names.reserve(change.names.len())?;
@@ -118,7 +120,7 @@ impl<T: Lookup + Drop> Sim<T> {
     ///
     /// The flows that come must be proper. The waiting frames stay, also those to a chassis that goes.
     pub fn apply(&mut self, change: SimChange<T>)
-        requires ready { IsReady self.old change }
+        requires prepared { IsPrepared T.ready self.old.room change }
         requires proper { IsProperChange T.flows change }
         ensures { IsApplied T.flows self.old.state change self.new.state }
     {
@@ -157,7 +159,7 @@ impl<T: Lookup + Drop> Sim<T> {
     ) -> Result<(), SimFault>
         requires whole { IsWhole packet }
         requires room { self.old.state.next < 2 ^ 127 }
-        ensures answer { AnswersInject result self.old port.now packet out.old out.new self.new }
+        ensures answer { AnswersInject result self.old port.now now packet out.old out.new self.new }
         ensures few { self.new.state.next + length out.old.effects ≤ self.old.state.next + length out.new.effects }
         ensures kept { self.new.room ≡ self.old.room }
     {
@@ -184,7 +186,7 @@ impl<T: Lookup + Drop> Sim<T> {
         out: &mut SimOut,
     ) -> Result<(), SimFault>
         requires room { self.old.state.next < 2 ^ 127 }
-        ensures answer { AnswersArrive result self.old frame keep out.old out.new self.new }
+        ensures answer { AnswersArrive result self.old frame keep now out.old out.new self.new }
         ensures few { self.new.state.next + length out.old.effects ≤ self.old.state.next + length out.new.effects }
         ensures kept { self.new.room ≡ self.old.room }
     {
@@ -220,7 +222,7 @@ impl<T: Lookup + Drop> Sim<T> {
         now: u64,
     ) -> Result<RunOut, NoMemory>
         requires whole { IsWhole packet }
-        ensures run { IfOk result (RunsAt (named self.now.state.chassis chassis.now) port.now packet) }
+        ensures run { IfOk result (RunsAt (named self.now.state.chassis chassis.now) port.now now packet) }
         ensures can { IfOk result (λ run. AllByRecursion CanBeSent run.effects) }
     {
         let alloc = *self.chassis.allocator();
@@ -233,7 +235,7 @@ impl<T: Lookup + Drop> Sim<T> {
     // What comes of the frame on the chassis: it is lost where no such chassis is held.
     fn run_from(&self, chassis: &Name, bytes: &[u8], now: u64) -> Result<RunOut, NoMemory>
         requires sent { IsSent bytes.now }
-        ensures run { IfOk result (RunsFrom (named self.now.state.chassis chassis.now) bytes.now) }
+        ensures run { IfOk result (RunsFrom (named self.now.state.chassis chassis.now) bytes.now now) }
         ensures can { IfOk result (λ run. AllByRecursion CanBeSent run.effects) }
     {
         let alloc = *self.chassis.allocator();

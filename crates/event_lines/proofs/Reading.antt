@@ -16,7 +16,7 @@ use Rattle.ovn_base.specs.Lines.{ended_lines, onto_ended, HasNoFeed}
 use Rattle.ovn_base.specs.NameText.{IsName, name_byte}
 use Rattle.ovn_base.proofs.LineLaws.{ended_lines-feed}
 use Rattle.flow_table.specs.declared.flow.Cause.{Cause}
-use Rattle.flow_table.specs.declared.flow.Cause.TheVariants.{BadSource, Vlan, UnknownAddress, Loopback, Unbound}
+use Rattle.flow_table.specs.declared.flow.Cause.TheVariants as cause
 use Rattle.edit_reader.specs.declared.event.ReadRefusal.TheVariants.{TooLong, BadJson}
 use Rattle.inet_packet.specs.Frame.{frame_of}
 use Rattle.switch_engine.specs.declared.effect.NetEffect.{NetEffect}
@@ -208,6 +208,33 @@ event_line number words rest h =
 abbrev one_pick : NetEffect → List Pick
 one_pick effect = picks_of (effect ∷ [])
 
+cause_no_feed : (why : Cause) → HaveNoFeed (cause_name why)
+cause_no_feed cause.Disabled = tested (codes "disabled") refl
+cause_no_feed cause.BadSource = tested (codes "bad-source") refl
+cause_no_feed cause.Vlan = tested (codes "vlan") refl
+cause_no_feed cause.PortSecurity = tested (codes "port-security") refl
+cause_no_feed cause.Acl = tested (codes "acl") refl
+cause_no_feed cause.Reject = tested (codes "reject") refl
+cause_no_feed cause.Invalid = tested (codes "invalid") refl
+cause_no_feed cause.Blocked = tested (codes "blocked") refl
+cause_no_feed cause.Clash = tested (codes "clash") refl
+cause_no_feed cause.Full = tested (codes "full") refl
+cause_no_feed cause.NoLiveBackend = tested (codes "no-live-backend") refl
+cause_no_feed cause.UnknownAddress = tested (codes "unknown-address") refl
+cause_no_feed cause.Loopback = tested (codes "loopback") refl
+cause_no_feed cause.Unbound = tested (codes "unbound") refl
+cause_no_feed cause.NotForRouter = tested (codes "not-for-router") refl
+cause_no_feed cause.Arp = tested (codes "arp") refl
+cause_no_feed cause.BadIp = tested (codes "bad-ip") refl
+cause_no_feed cause.Ttl = tested (codes "ttl") refl
+cause_no_feed cause.NotIp4 = tested (codes "not-ip4") refl
+cause_no_feed cause.ForRouter = tested (codes "for-router") refl
+cause_no_feed cause.NoRoute = tested (codes "no-route") refl
+cause_no_feed cause.NoNeighbour = tested (codes "no-neighbour") refl
+cause_no_feed cause.NoFreePort = tested (codes "no-free-port") refl
+cause_no_feed cause.NoPeer = tested (codes "no-peer") refl
+cause_no_feed cause.HopLimit = tested (codes "hop-limit") refl
+
 words_no_feed : (effect : NetEffect) → IsNamedEffect effect → HaveNoFeed (words_of effect)
 words_no_feed (DatapathKey name key) is =
     no_feed_joined (codes "key datapath ") _ (tested (codes "key datapath ") refl)
@@ -229,13 +256,6 @@ words_no_feed (Drop datapath port cause) is =
     no_feed_joined (codes "drop ") _ (tested (codes "drop ") refl)
     (no_feed_joined datapath _ (no_feed_in datapath (name_is_word datapath is.0))
     ((λ e. omega arith), no_feed_joined port _ (no_feed_in port (name_is_word port is.1)) ((λ e. omega arith), cause_no_feed cause)))
-  where
-    cause_no_feed : (cause : Cause) → HaveNoFeed (cause_name cause)
-    cause_no_feed BadSource = tested (codes "bad-source") refl
-    cause_no_feed Vlan = tested (codes "vlan") refl
-    cause_no_feed UnknownAddress = tested (codes "unknown-address") refl
-    cause_no_feed Loopback = tested (codes "loopback") refl
-    cause_no_feed Unbound = tested (codes "unbound") refl
 words_no_feed (Lost frame) is = no_feed_joined (codes "lost ") _ (tested (codes "lost ") refl) (no_feed_in (decimal frame) (decimal_in_word frame))
 
 effect_named : (number : ℕ) (effect : NetEffect) → IsNamedEffect effect → named_by (decimal number ∷ words_in (words_of effect)) ≡ one_pick effect

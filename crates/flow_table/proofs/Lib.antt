@@ -1,4 +1,5 @@
 -- Lemmas.
 pub mod Best
 pub mod ChangeLaws
+pub mod OnceLaws
 pub mod Numbers

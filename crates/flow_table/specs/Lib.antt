@@ -1,4 +1,4 @@
 -- Definitions that contracts cite.
 pub mod Matching
 pub mod Change
-pub mod Held
+pub mod HeldFlows

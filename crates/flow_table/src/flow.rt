@@ -3,19 +3,60 @@ use inet_packet::regs::Reg;
 use ovn_base::list::List;
 use ovn_base::name::Name;
 
-/// Why a packet is dropped.
+/// Why a packet is dropped. Flows drop today for `BadSource`, `Vlan`, `UnknownAddress`, `Loopback` and `Unbound`; the other
+/// causes are for rows that are still to come.
 #[derive(Clone, Copy, PartialEq, Eq, Hash, Debug)]
 pub enum Cause {
+    /// The port at which it came in, or by which it would leave, is disabled.
+    Disabled,
     /// Its Ethernet source is a group's address.
     BadSource,
     /// It has a VLAN tag.
     Vlan,
+    /// The port security of its port doesn't allow its addresses.
+    PortSecurity,
+    /// A rule drops it.
+    Acl,
+    /// A rule rejects it.
+    Reject,
+    /// It belongs to no connection, and can begin none.
+    Invalid,
+    /// It is a reply on a connection that a rule has blocked.
+    Blocked,
+    /// The replies of the connection that it begins would be those of another.
+    Clash,
+    /// No more connections fit into the list to which its own would come.
+    Full,
+    /// No backend of the virtual address to which it goes is live and free to take it.
+    NoLiveBackend,
     /// No port of the switch has the address.
     UnknownAddress,
     /// The packet would leave by the port at which it came in.
     Loopback,
     /// The port that has the address is bound to no chassis.
     Unbound,
+    /// It came to a router, but its Ethernet destination isn't the router's.
+    NotForRouter,
+    /// It is an ARP packet to which the router has no answer.
+    Arp,
+    /// Its IPv4 source or destination is one that no router passes on.
+    BadIp,
+    /// Its time to live is spent.
+    Ttl,
+    /// It is not of IPv4, and came to a router.
+    NotIp4,
+    /// It is for an address of the router, which does nothing with it.
+    ForRouter,
+    /// The router has no route to its destination.
+    NoRoute,
+    /// The router knows no port that has the address of the next hop.
+    NoNeighbour,
+    /// No port is left to translate its source to.
+    NoFreePort,
+    /// It would leave the router by a port that has no partner.
+    NoPeer,
+    /// It has been through as many switches and routers as a packet may.
+    HopLimit,
 }
 
 /// A port that is a member of a group, as a chassis knows it.

@@ -3,6 +3,7 @@
 
 pub mod exact;
 pub mod flow;
+mod flow_list;
 pub mod lookup;
 pub mod matching;
 pub mod tables;

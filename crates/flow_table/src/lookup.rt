@@ -1,5 +1,6 @@
-ghost use Rattle.std.specs.Prelude.{◌≡◌, ◌≤◌, ℕ, List, IfSome, IfNone, OnOk, length, slice_get};
+ghost use Rattle.std.specs.Prelude.{◌≡◌, List, IfSome, IfNone, OnOk, slice_get};
 ghost use Rattle.std.specs.Option.{option_copied};
+ghost use Rattle.ovn_base.specs.declared.delta.Delta.{Delta};
 ghost use Rattle.flow_table.specs.declared.flow.Flow.{Flow};
 ghost use Rattle.flow_table.specs.Matching.{IsBest, NoneMatches};
 ghost use Rattle.ovn_base.specs.Once.{EachOnce};
@@ -16,23 +17,23 @@ pub trait Lookup {
     /// The flows that are held.
     ghost flows: { Self → List Flow };
 
-    /// How many flows can be added without memory.
-    ghost room: { Self → ℕ };
+    /// The delta is one of the flows that are held, and can be made without memory.
+    ghost ready: { Self → Delta Flow → Type 0 };
 
     /// An unbeaten flow of the table that matches; `None` exactly where none matches. No memory is taken.
     fn lookup(&self, table: u8, regs: &Regs, packet: &Packet) -> Option<&Flow>
         ensures found { IfSome result (λ f. IsBest (flows self.now) table regs.now packet.now f.now) }
         ensures none { IfNone result (NoneMatches (flows self.now) table regs.now packet.now) };
 
-    /// Makes room for what the delta adds. The flows that are held stay, also without memory.
+    /// Makes ready for the delta. The flows that are held stay, also without memory.
     fn prepare(&mut self, delta: &Delta<Flow>) -> Result<(), NoMemory>
+        requires { IsDeltaOf (flows self.old) delta.now }
         ensures same { flows self.new ≡ flows self.old }
-        ensures room { OnOk result (length delta.now.added ≤ room self.new) };
+        ensures ready { OnOk result (ready self.new delta.now) };
 
     /// Takes flows out and puts others in. No memory is taken.
     fn replace(&mut self, delta: Delta<Flow>)
-        requires room { length delta.added ≤ room self.old }
-        requires delta { IsDeltaOf (flows self.old) delta }
+        requires { ready self.old delta }
         ensures { IsReplaced (flows self.old) delta (flows self.new) };
 
     /// Each held flow at exactly one index below their number; `None` past the last. No memory is taken.

@@ -1,5 +1,3 @@
-ghost use Rattle.std.specs.Prelude.{◌≡◌, ◌∷◌, [], IfOk};
-
 use crate::flow::{Cause, Flow, FlowOp, Member};
 use crate::lookup::Lookup;
 use crate::tables::Tables;
@@ -53,9 +51,7 @@ const ON_FIVE: Cube = Cube {
     arp_tha: ANY,
 };
 
-fn flow(alloc: Global, table: u8, priority: u16, rank: u8, cookie: u64) -> Flow
-    ensures { result.cookie ≡ cookie }
-{
+fn flow(alloc: Global, table: u8, priority: u16, rank: u8, cookie: u64) -> Flow {
     Flow {
         table,
         priority,
@@ -64,22 +60,6 @@ fn flow(alloc: Global, table: u8, priority: u16, rank: u8, cookie: u64) -> Flow
         ops: List::new(alloc),
         cookie,
     }
-}
-
-fn one(alloc: Global, f: Flow) -> Result<List<Flow>, NoMemory>
-    ensures { IfOk result (λ l. l ≡ f ∷ []) }
-{
-    let mut flows = List::new(alloc);
-    flows.push(f)?;
-    Ok(flows)
-}
-
-fn two(alloc: Global, f: Flow, g: Flow) -> Result<List<Flow>, NoMemory>
-    ensures { IfOk result (λ l. l ≡ f ∷ g ∷ []) }
-{
-    let mut flows = one(alloc, f)?;
-    flows.push(g)?;
-    Ok(flows)
 }
 
 fn on(dp: u32) -> Regs {
@@ -118,56 +98,49 @@ fn cookie_at<T: Lookup>(tables: &T, index: usize) -> Option<u64> {
     Some(tables.flow(index)?.cookie)
 }
 
+// The one flow comes, and the other goes. The first is named among those that go too: so the delta is one of any flows.
+fn change<T: Lookup>(tables: &mut T, comes: Flow, goes: Flow) -> Result<(), NoMemory> {
+    let alloc = comes.ops.allocator();
+    let mut removed = List::new(alloc);
+    removed.push(goes)?;
+    removed.push(comes.copy()?)?;
+    let mut added = List::new(alloc);
+    added.push(comes)?;
+    let delta = Delta { added, removed };
+    tables.prepare(&delta)?;
+    tables.replace(delta);
+    Ok(())
+}
+
 #[test]
 fn takes_the_greater_rank_of_its_table(rt: HostRuntime) -> Result<(), Fail> {
     let alloc = rt.alloc();
     let mut tables = Tables::new(alloc)?;
-    let mut added = two(alloc, flow(alloc, 8, 100, 1, 1), flow(alloc, 8, 100, 2, 2))?;
-    added.push(flow(alloc, 14, 200, 0, 3))?;
-    let delta = Delta {
-        added,
-        removed: List::new(alloc),
-    };
-    tables.prepare(&delta)?;
-    tables.replace(delta);
+    let none = flow(alloc, 0, 0, 0, 0);
+    change(&mut tables, flow(alloc, 8, 100, 1, 1), none.copy()?)?;
+    change(&mut tables, flow(alloc, 8, 100, 2, 2), none.copy()?)?;
+    change(&mut tables, flow(alloc, 14, 200, 0, 3), none)?;
     let packet = packet(alloc);
     assert_eq!(rt; taken(&tables, 8, &on(5), &packet), Some(2));
     assert_eq!(rt; taken(&tables, 14, &on(5), &packet), Some(3));
-    assert_eq!(rt; taken(&tables, 9, &on(5), &packet), None, "no such table");
-    assert_eq!(rt;
-        taken(&tables, 8, &on(6), &packet),
-        None,
-        "another datapath"
-    );
+    assert_eq!(rt; taken(&tables, 9, &on(5), &packet), None);
+    assert_eq!(rt; taken(&tables, 8, &on(6), &packet), None);
     Ok(())
 }
 
 #[test]
 fn changes_by_a_delta(rt: HostRuntime) -> Result<(), Fail> {
     let alloc = rt.alloc();
+    let packet = packet(alloc);
     let mut tables = Tables::new(alloc)?;
-    let held = two(alloc, flow(alloc, 8, 200, 0, 1), flow(alloc, 8, 100, 0, 2))?;
-    let first = Delta {
-        added: held,
-        removed: List::new(alloc),
-    };
-    let second = Delta {
-        added: one(alloc, flow(alloc, 8, 150, 0, 3))?,
-        removed: one(alloc, flow(alloc, 8, 200, 0, 1))?,
-    };
-    tables.prepare(&first)?;
-    tables.replace(first);
-    assert_eq!(rt; taken(&tables, 8, &on(5), &packet(alloc)), Some(1));
-    tables.prepare(&second)?;
-    tables.replace(second);
-    assert_eq!(rt; taken(&tables, 8, &on(5), &packet(alloc)), Some(3));
-    assert_eq!(rt; tables.len(), 2);
-    assert!(rt; !tables.is_empty());
-    assert_eq!(rt;
-        (cookie_at(&tables, 0), cookie_at(&tables, 1)),
-        (Some(2), Some(3))
-    );
-    assert_eq!(rt; cookie_at(&tables, 2), None, "past the last");
+    let first = flow(alloc, 8, 200, 0, 1);
+    change(&mut tables, first.copy()?, first.copy()?)?;
+    assert_eq!(rt; taken(&tables, 8, &on(5), &packet), Some(1));
+    change(&mut tables, flow(alloc, 8, 150, 0, 2), first)?;
+    assert_eq!(rt; taken(&tables, 8, &on(5), &packet), Some(2));
+    assert_eq!(rt; (tables.len(), tables.is_empty()), (1, false));
+    assert_eq!(rt; cookie_at(&tables, 0), Some(2));
+    assert_eq!(rt; cookie_at(&tables, 1), None);
     Ok(())
 }
 

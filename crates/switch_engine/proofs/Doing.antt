@@ -18,10 +18,10 @@ use Rattle.switch_engine.specs.Range.{IsInRange}
 use Rattle.switch_engine.proofs.Ranges.{set_in_range}
 
 -- what was brought on so far, and what the actions that are left bring on, is what all bring on
-pub record Doing (entry : Entry) (all_ops : List FlowOp) (at_first : Carried) (effects_before : List Effect) (made_before : List Carried) (ops : List FlowOp) (copy : Carried) (effects : List Effect) (made : List Carried) : Type 0 where
-  pub same_effects : effects ++ (outcome entry ops copy).effects ≡ effects_before ++ (outcome entry all_ops at_first).effects
-  pub same_made : made ++ (outcome entry ops copy).made ≡ made_before ++ (outcome entry all_ops at_first).made
-  pub same_itself : (outcome entry ops copy).itself ≡ (outcome entry all_ops at_first).itself
+pub record Doing (entry : Entry) (now : ℕ) (all_ops : List FlowOp) (at_first : Carried) (effects_before : List Effect) (made_before : List Carried) (ops : List FlowOp) (copy : Carried) (effects : List Effect) (made : List Carried) : Type 0 where
+  pub same_effects : effects ++ (outcome entry now ops copy).effects ≡ effects_before ++ (outcome entry now all_ops at_first).effects
+  pub same_made : made ++ (outcome entry now ops copy).made ≡ made_before ++ (outcome entry now all_ops at_first).made
+  pub same_itself : (outcome entry now ops copy).itself ≡ (outcome entry now all_ops at_first).itself
   pub sets : AllByRecursion Sets ops
   pub in_range : IsInRange copy.regs
   pub all_in_range : AllByRecursion IsCarriedInRange made
@@ -33,9 +33,9 @@ more_effects {before} e after is x = record {
   all_effects = is ∙ ap (λ l. l ++ e ∷ []) x.all_effects ∙ append_assoc before x.more (e ∷ []);
 }
 
-module _ {entry : Entry} {all_ops : List FlowOp} {at_first : Carried} {effects_before : List Effect} {made_before : List Carried} where
+module _ {entry : Entry} {now : ℕ} {all_ops : List FlowOp} {at_first : Carried} {effects_before : List Effect} {made_before : List Carried} where
   -- before the first
-  pub doing_first : AllByRecursion Sets all_ops → IsInRange at_first.regs → AllByRecursion IsCarriedInRange made_before → Doing entry all_ops at_first effects_before made_before all_ops at_first effects_before made_before
+  pub doing_first : AllByRecursion Sets all_ops → IsInRange at_first.regs → AllByRecursion IsCarriedInRange made_before → Doing entry now all_ops at_first effects_before made_before all_ops at_first effects_before made_before
   doing_first sets in_range all = record {
     same_effects = refl;
     same_made = refl;
@@ -47,7 +47,7 @@ module _ {entry : Entry} {all_ops : List FlowOp} {at_first : Carried} {effects_b
   }
 
   module _ {ops : List FlowOp} {copy : Carried} {effects : List Effect} {made : List Carried} where
-    pub did_set : (reg : Reg) (n : ℕ) → Doing entry all_ops at_first effects_before made_before (Set reg n ∷ ops) copy effects made → Doing entry all_ops at_first effects_before made_before ops (record copy { regs = set_reg reg n copy.regs }) effects made
+    pub did_set : (reg : Reg) (n : ℕ) → Doing entry now all_ops at_first effects_before made_before (Set reg n ∷ ops) copy effects made → Doing entry now all_ops at_first effects_before made_before ops (record copy { regs = set_reg reg n copy.regs }) effects made
     did_set reg n d = record {
       same_effects = d.same_effects;
       same_made = d.same_made;
@@ -58,7 +58,7 @@ module _ {entry : Entry} {all_ops : List FlowOp} {at_first : Carried} {effects_b
       extends = d.extends;
     }
 
-    pub did_header : IsInRange (with_header entry copy.regs) → Doing entry all_ops at_first effects_before made_before (Header ∷ ops) copy effects made → Doing entry all_ops at_first effects_before made_before ops (record copy { regs = with_header entry copy.regs }) effects made
+    pub did_header : IsInRange (with_header entry copy.regs) → Doing entry now all_ops at_first effects_before made_before (Header ∷ ops) copy effects made → Doing entry now all_ops at_first effects_before made_before ops (record copy { regs = with_header entry copy.regs }) effects made
     did_header in_range d = record {
       same_effects = d.same_effects;
       same_made = d.same_made;
@@ -69,9 +69,9 @@ module _ {entry : Entry} {all_ops : List FlowOp} {at_first : Carried} {effects_b
       extends = d.extends;
     }
 
-    pub did_frame : (chassis : Name) (after : List Effect) → after ≡ effects ++ frame_to chassis copy ∷ [] → Doing entry all_ops at_first effects_before made_before (Frame chassis ∷ ops) copy effects made → Doing entry all_ops at_first effects_before made_before ops copy after made
+    pub did_frame : (chassis : Name) (after : List Effect) → after ≡ effects ++ frame_to chassis copy ∷ [] → Doing entry now all_ops at_first effects_before made_before (Frame chassis ∷ ops) copy effects made → Doing entry now all_ops at_first effects_before made_before ops copy after made
     did_frame chassis after is d = record {
-      same_effects = ap (λ l. l ++ (outcome entry ops copy).effects) is ∙ append_assoc effects (frame_to chassis copy ∷ []) (outcome entry ops copy).effects ∙ d.same_effects;
+      same_effects = ap (λ l. l ++ (outcome entry now ops copy).effects) is ∙ append_assoc effects (frame_to chassis copy ∷ []) (outcome entry now ops copy).effects ∙ d.same_effects;
       same_made = d.same_made;
       same_itself = d.same_itself;
       sets = d.sets.1;
@@ -80,9 +80,9 @@ module _ {entry : Entry} {all_ops : List FlowOp} {at_first : Carried} {effects_b
       extends = more_effects (frame_to chassis copy) after is d.extends;
     }
 
-    pub did_output : (port : Name) (after : List Effect) → after ≡ effects ++ effect.Out port copy.packet ∷ [] → Doing entry all_ops at_first effects_before made_before (Output port ∷ ops) copy effects made → Doing entry all_ops at_first effects_before made_before ops copy after made
+    pub did_output : (port : Name) (after : List Effect) → after ≡ effects ++ effect.Out port copy.packet ∷ [] → Doing entry now all_ops at_first effects_before made_before (Output port ∷ ops) copy effects made → Doing entry now all_ops at_first effects_before made_before ops copy after made
     did_output port after is d = record {
-      same_effects = ap (λ l. l ++ (outcome entry ops copy).effects) is ∙ append_assoc effects (effect.Out port copy.packet ∷ []) (outcome entry ops copy).effects ∙ d.same_effects;
+      same_effects = ap (λ l. l ++ (outcome entry now ops copy).effects) is ∙ append_assoc effects (effect.Out port copy.packet ∷ []) (outcome entry now ops copy).effects ∙ d.same_effects;
       same_made = d.same_made;
       same_itself = d.same_itself;
       sets = d.sets.1;
@@ -91,10 +91,10 @@ module _ {entry : Entry} {all_ops : List FlowOp} {at_first : Carried} {effects_b
       extends = more_effects (effect.Out port copy.packet) after is d.extends;
     }
 
-    pub did_copies : (members : List Member) (after : List Carried) → after ≡ made ++ copies_for copy members → AllByRecursion IsCarriedInRange after → Doing entry all_ops at_first effects_before made_before (Copies members ∷ ops) copy effects made → Doing entry all_ops at_first effects_before made_before ops copy effects after
+    pub did_copies : (members : List Member) (after : List Carried) → after ≡ made ++ copies_for copy members → AllByRecursion IsCarriedInRange after → Doing entry now all_ops at_first effects_before made_before (Copies members ∷ ops) copy effects made → Doing entry now all_ops at_first effects_before made_before ops copy effects after
     did_copies members after is all d = record {
       same_effects = d.same_effects;
-      same_made = ap (λ l. l ++ (outcome entry ops copy).made) is ∙ append_assoc made (copies_for copy members) (outcome entry ops copy).made ∙ d.same_made;
+      same_made = ap (λ l. l ++ (outcome entry now ops copy).made) is ∙ append_assoc made (copies_for copy members) (outcome entry now ops copy).made ∙ d.same_made;
       same_itself = d.same_itself;
       sets = d.sets.1;
       in_range = d.in_range;
@@ -103,8 +103,8 @@ module _ {entry : Entry} {all_ops : List FlowOp} {at_first : Carried} {effects_b
     }
 
     -- the same, with other names
-    pub doing_same : {copy_now : Carried} {effects_now : List Effect} {made_now : List Carried} → copy_now ≡ copy → effects_now ≡ effects → made_now ≡ made → Doing entry all_ops at_first effects_before made_before ops copy effects made → Doing entry all_ops at_first effects_before made_before ops copy_now effects_now made_now
+    pub doing_same : {copy_now : Carried} {effects_now : List Effect} {made_now : List Carried} → copy_now ≡ copy → effects_now ≡ effects → made_now ≡ made → Doing entry now all_ops at_first effects_before made_before ops copy effects made → Doing entry now all_ops at_first effects_before made_before ops copy_now effects_now made_now
     doing_same {copy_now} {effects_now} {made_now} c e m d =
-        subst (λ x. Doing entry all_ops at_first effects_before made_before ops x effects_now made_now) (sym c)
-        (subst (λ x. Doing entry all_ops at_first effects_before made_before ops copy x made_now) (sym e)
-        (subst (λ x. Doing entry all_ops at_first effects_before made_before ops copy effects x) (sym m) d))
+        subst (λ x. Doing entry now all_ops at_first effects_before made_before ops x effects_now made_now) (sym c)
+        (subst (λ x. Doing entry now all_ops at_first effects_before made_before ops copy x made_now) (sym e)
+        (subst (λ x. Doing entry now all_ops at_first effects_before made_before ops copy effects x) (sym m) d))

@@ -65,8 +65,8 @@ header_keyed (Vif port) copy e k = k
 header_keyed (Tunnel vni in_key out_key) copy e k = record { vni = e.0; in_key = e.1 }
 
 -- the effects, and the copies that go on
-module _ (entry : Entry) (e : IsEntry entry) where
-  effects_framed : (ops : List FlowOp) (copy : Carried) → AllByRecursion Sets ops → IsKeyed copy → AllByRecursion IsFramed (outcome entry ops copy).effects
+module _ (entry : Entry) (now : ℕ) (e : IsEntry entry) where
+  effects_framed : (ops : List FlowOp) (copy : Carried) → AllByRecursion Sets ops → IsKeyed copy → AllByRecursion IsFramed (outcome entry now ops copy).effects
   effects_framed [] copy h k = tt
   effects_framed (Set reg n ∷ ops) copy h k = effects_framed ops (record copy { regs = set_reg reg n copy.regs }) h.1 (set_keyed reg n copy h.0 k)
   effects_framed (Go next ∷ ops) copy h k = tt
@@ -76,7 +76,7 @@ module _ (entry : Entry) (e : IsEntry entry) where
   effects_framed (Copies members ∷ ops) copy h k = effects_framed ops copy h.1 k
   effects_framed (Output port ∷ ops) copy h k = (tt, effects_framed ops copy h.1 k)
 
-  itself_keyed : (ops : List FlowOp) (copy : Carried) → AllByRecursion Sets ops → IsKeyed copy → AllByRecursion IsKeyed (outcome entry ops copy).itself
+  itself_keyed : (ops : List FlowOp) (copy : Carried) → AllByRecursion Sets ops → IsKeyed copy → AllByRecursion IsKeyed (outcome entry now ops copy).itself
   itself_keyed [] copy h k = tt
   itself_keyed (Set reg n ∷ ops) copy h k = itself_keyed ops (record copy { regs = set_reg reg n copy.regs }) h.1 (set_keyed reg n copy h.0 k)
   itself_keyed (Go next ∷ ops) copy h k = (record { vni = k.vni; in_key = k.in_key }, tt)
@@ -86,7 +86,7 @@ module _ (entry : Entry) (e : IsEntry entry) where
   itself_keyed (Copies members ∷ ops) copy h k = itself_keyed ops copy h.1 k
   itself_keyed (Output port ∷ ops) copy h k = itself_keyed ops copy h.1 k
 
-  made_keyed : (ops : List FlowOp) (copy : Carried) → AllByRecursion Sets ops → IsKeyed copy → AllByRecursion IsKeyed (outcome entry ops copy).made
+  made_keyed : (ops : List FlowOp) (copy : Carried) → AllByRecursion Sets ops → IsKeyed copy → AllByRecursion IsKeyed (outcome entry now ops copy).made
   made_keyed [] copy h k = tt
   made_keyed (Set reg n ∷ ops) copy h k = made_keyed ops (record copy { regs = set_reg reg n copy.regs }) h.1 (set_keyed reg n copy h.0 k)
   made_keyed (Go next ∷ ops) copy h k = tt
@@ -94,7 +94,7 @@ module _ (entry : Entry) (e : IsEntry entry) where
   made_keyed (Header ∷ ops) copy h k = made_keyed ops (record copy { regs = with_header entry copy.regs }) h.1 (header_keyed entry copy e k)
   made_keyed (Frame chassis ∷ ops) copy h k = made_keyed ops copy h.1 k
   made_keyed (Copies members ∷ ops) copy h k =
-      all_append IsKeyed (copies_for copy members) (outcome entry ops copy).made (all_map IsKeyed (copy_for copy) (λ member. record { vni = k.vni; in_key = k.in_key }) _) (made_keyed ops copy h.1 k)
+      all_append IsKeyed (copies_for copy members) (outcome entry now ops copy).made (all_map IsKeyed (copy_for copy) (λ member. record { vni = k.vni; in_key = k.in_key }) _) (made_keyed ops copy h.1 k)
   made_keyed (Output port ∷ ops) copy h k = made_keyed ops copy h.1 k
 
 stray_is : (entry : Entry) (copy : Carried) → IsFramed (stray entry copy)
@@ -105,16 +105,16 @@ stray_framed : (entry : Entry) (copy : Carried) → AllByRecursion IsFramed (unm
 stray_framed entry copy = elim (nat_eq copy.table 33) as (λ b. AllByRecursion IsFramed (cond b (stray entry copy ∷ []) [])) [ true ↦ (stray_is entry copy, tt) | false ↦ tt ]
 
 -- each walk of copies whose keys fit
-framed : (flows : List Flow) (entry : Entry) → IsProper flows → IsEntry entry → (copies : List Carried) (steps : List Step) (effects : List Effect) → IsWalk flows entry copies steps effects → AllByRecursion IsKeyed copies → AllByRecursion IsFramed effects
-framed flows entry proper e _ _ _ over k = tt
-framed flows entry proper e _ _ _ (ends copy others steps more all none walk is) k =
-    subst (AllByRecursion IsFramed) (sym is) (all_append IsFramed (unmatched entry copy) more (stray_framed entry copy) (framed flows entry proper e others steps more walk k.1))
-framed flows entry proper e _ _ _ (takes copy others step steps more all here best walk is) k =
+framed : (flows : List Flow) (entry : Entry) (now : ℕ) → IsProper flows → IsEntry entry → (copies : List Carried) (steps : List Step) (effects : List Effect) → IsWalk flows entry now copies steps effects → AllByRecursion IsKeyed copies → AllByRecursion IsFramed effects
+framed flows entry now proper e _ _ _ over k = tt
+framed flows entry now proper e _ _ _ (ends copy others steps more all none walk is) k =
+    subst (AllByRecursion IsFramed) (sym is) (all_append IsFramed (unmatched entry copy) more (stray_framed entry copy) (framed flows entry now proper e others steps more walk k.1))
+framed flows entry now proper e _ _ _ (takes copy others step steps more all here best walk is) k =
     let sets : AllByRecursion Sets step.flow.ops = proper_sets step.flow (proper step.flow best.held) in
-    let brought = outcome entry step.flow.ops copy in
+    let brought = outcome entry now step.flow.ops copy in
     let keyed : AllByRecursion IsKeyed (going_on brought ++ others) =
-    all_append IsKeyed (going_on brought) others (all_append IsKeyed brought.itself brought.made (itself_keyed entry e step.flow.ops copy sets k.0) (made_keyed entry e step.flow.ops copy sets k.0)) k.1 in
-    subst (AllByRecursion IsFramed) (sym is) (all_append IsFramed brought.effects more (effects_framed entry e step.flow.ops copy sets k.0) (framed flows entry proper e (going_on brought ++ others) steps more walk keyed))
+    all_append IsKeyed (going_on brought) others (all_append IsKeyed brought.itself brought.made (itself_keyed entry now e step.flow.ops copy sets k.0) (made_keyed entry now e step.flow.ops copy sets k.0)) k.1 in
+    subst (AllByRecursion IsFramed) (sym is) (all_append IsFramed brought.effects more (effects_framed entry now e step.flow.ops copy sets k.0) (framed flows entry now proper e (going_on brought ++ others) steps more walk keyed))
 
 pub walk_framed : WalksAreFramed
-walk_framed flows entry packet steps effects proper e walk = framed flows entry proper e (start entry packet ∷ []) steps effects walk (record { vni = omega arith; in_key = omega arith }, tt)
+walk_framed flows entry now packet steps effects proper e walk = framed flows entry now proper e (start entry packet ∷ []) steps effects walk (record { vni = omega arith; in_key = omega arith }, tt)

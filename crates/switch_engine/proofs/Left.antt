@@ -35,26 +35,26 @@ less table next sum sum_after (inr same) small before after = let t = same.0 in 
 abbrev Later : ℕ → Carried → Type 0
 Later table copy = table < copy.table
 
-itself_later : (entry : Entry) (table : ℕ) (ops : List FlowOp) (copy : Carried) → AllByRecursion (Rises table) ops → AllByRecursion (Later table) (outcome entry ops copy).itself
-itself_later entry table [] copy h = tt
-itself_later entry table (Set reg n ∷ ops) copy h = itself_later entry table ops (record copy { regs = set_reg reg n copy.regs }) h.1
-itself_later entry table (Go next ∷ ops) copy h = (h.0, tt)
-itself_later entry table (Drop cause ∷ ops) copy h = tt
-itself_later entry table (Header ∷ ops) copy h = itself_later entry table ops (record copy { regs = with_header entry copy.regs }) h.1
-itself_later entry table (Frame chassis ∷ ops) copy h = itself_later entry table ops copy h.1
-itself_later entry table (Copies members ∷ ops) copy h = itself_later entry table ops copy h.1
-itself_later entry table (Output port ∷ ops) copy h = itself_later entry table ops copy h.1
+itself_later : (entry : Entry) (now : ℕ) (table : ℕ) (ops : List FlowOp) (copy : Carried) → AllByRecursion (Rises table) ops → AllByRecursion (Later table) (outcome entry now ops copy).itself
+itself_later entry now table [] copy h = tt
+itself_later entry now table (Set reg n ∷ ops) copy h = itself_later entry now table ops (record copy { regs = set_reg reg n copy.regs }) h.1
+itself_later entry now table (Go next ∷ ops) copy h = (h.0, tt)
+itself_later entry now table (Drop cause ∷ ops) copy h = tt
+itself_later entry now table (Header ∷ ops) copy h = itself_later entry now table ops (record copy { regs = with_header entry copy.regs }) h.1
+itself_later entry now table (Frame chassis ∷ ops) copy h = itself_later entry now table ops copy h.1
+itself_later entry now table (Copies members ∷ ops) copy h = itself_later entry now table ops copy h.1
+itself_later entry now table (Output port ∷ ops) copy h = itself_later entry now table ops copy h.1
 
-made_later : (entry : Entry) (table : ℕ) (ops : List FlowOp) (copy : Carried) → AllByRecursion (Rises table) ops → AllByRecursion (Later table) (outcome entry ops copy).made
-made_later entry table [] copy h = tt
-made_later entry table (Set reg n ∷ ops) copy h = made_later entry table ops (record copy { regs = set_reg reg n copy.regs }) h.1
-made_later entry table (Go next ∷ ops) copy h = tt
-made_later entry table (Drop cause ∷ ops) copy h = tt
-made_later entry table (Header ∷ ops) copy h = made_later entry table ops (record copy { regs = with_header entry copy.regs }) h.1
-made_later entry table (Frame chassis ∷ ops) copy h = made_later entry table ops copy h.1
-made_later entry table (Copies members ∷ ops) copy h =
-    all_append (Later table) (copies_for copy members) (outcome entry ops copy).made (all_map (Later table) (copy_for copy) (λ member. h.0) _) (made_later entry table ops copy h.1)
-made_later entry table (Output port ∷ ops) copy h = made_later entry table ops copy h.1
+made_later : (entry : Entry) (now : ℕ) (table : ℕ) (ops : List FlowOp) (copy : Carried) → AllByRecursion (Rises table) ops → AllByRecursion (Later table) (outcome entry now ops copy).made
+made_later entry now table [] copy h = tt
+made_later entry now table (Set reg n ∷ ops) copy h = made_later entry now table ops (record copy { regs = set_reg reg n copy.regs }) h.1
+made_later entry now table (Go next ∷ ops) copy h = tt
+made_later entry now table (Drop cause ∷ ops) copy h = tt
+made_later entry now table (Header ∷ ops) copy h = made_later entry now table ops (record copy { regs = with_header entry copy.regs }) h.1
+made_later entry now table (Frame chassis ∷ ops) copy h = made_later entry now table ops copy h.1
+made_later entry now table (Copies members ∷ ops) copy h =
+    all_append (Later table) (copies_for copy members) (outcome entry now ops copy).made (all_map (Later table) (copy_for copy) (λ member. h.0) _) (made_later entry now table ops copy h.1)
+made_later entry now table (Output port ∷ ops) copy h = made_later entry now table ops copy h.1
 
 -- what a proper flow brings on has less left than the copy
 abbrev Less : Carried → Carried → Type 0
@@ -67,14 +67,14 @@ all_less copy (next ∷ copies) small r later in_range = (
   all_less copy copies small r later.1 in_range.1,
 )
 
-pub brings_less : (entry : Entry) (flow : Flow) (copy : Carried) → IsProperFlow flow → flow.table ≡ copy.table → copy.table < 2 ^ 8 → IsInRange copy.regs → CubeFits flow.cube copy.regs copy.packet → AllByRecursion IsCarriedInRange (going_on (outcome entry flow.ops copy)) → AllByRecursion (λ next. left next < left copy) (going_on (outcome entry flow.ops copy))
-brings_less entry flow copy (rising h) same small r fits in_range =
+pub brings_less : (entry : Entry) (now : ℕ) (flow : Flow) (copy : Carried) → IsProperFlow flow → flow.table ≡ copy.table → copy.table < 2 ^ 8 → IsInRange copy.regs → CubeFits flow.cube copy.regs copy.packet → AllByRecursion IsCarriedInRange (going_on (outcome entry now flow.ops copy)) → AllByRecursion (λ next. left next < left copy) (going_on (outcome entry now flow.ops copy))
+brings_less entry now flow copy (rising h) same small r fits in_range =
     let rises : AllByRecursion (Rises copy.table) flow.ops = subst (λ t. AllByRecursion (Rises t) flow.ops) same h in
-    all_less copy _ small r (all_append (Later copy.table) _ _ (itself_later entry copy.table flow.ops copy rises) (made_later entry copy.table flow.ops copy rises)) in_range
-brings_less entry flow copy (raising reg n h) same small r fits in_range =
+    all_less copy _ small r (all_append (Later copy.table) _ _ (itself_later entry now copy.table flow.ops copy rises) (made_later entry now copy.table flow.ops copy rises)) in_range
+brings_less entry now flow copy (raising reg n h) same small r fits in_range =
     let more : total copy.regs < total (set_reg reg n copy.regs) = total_rises reg n flow copy.regs copy.packet h r fits in
     let after : total (set_reg reg n copy.regs) < 2 ^ 33 = total_small _ (set_in_range reg n copy.regs h.can r) in
-    subst (λ ops. AllByRecursion (λ next. left next < left copy) (going_on (outcome entry ops copy))) (sym h.only)
+    subst (λ ops. AllByRecursion (λ next. left next < left copy) (going_on (outcome entry now ops copy))) (sym h.only)
     (less copy.table flow.table (total copy.regs) (total (set_reg reg n copy.regs)) (inr (same, more)) small (total_small copy.regs r) after, tt)
 
 -- how many copies actions may bring on
@@ -88,42 +88,42 @@ brings (Frame chassis ∷ ops) = brings ops
 brings (Copies members ∷ ops) = length members + brings ops
 brings (Output port ∷ ops) = brings ops
 
-itself_few : (entry : Entry) (ops : List FlowOp) (copy : Carried) → length (outcome entry ops copy).itself ≤ 1
-itself_few entry [] copy = omega arith
-itself_few entry (Set reg n ∷ ops) copy = itself_few entry ops (record copy { regs = set_reg reg n copy.regs })
-itself_few entry (Go next ∷ ops) copy = omega arith
-itself_few entry (Drop cause ∷ ops) copy = omega arith
-itself_few entry (Header ∷ ops) copy = itself_few entry ops (record copy { regs = with_header entry copy.regs })
-itself_few entry (Frame chassis ∷ ops) copy = itself_few entry ops copy
-itself_few entry (Copies members ∷ ops) copy = itself_few entry ops copy
-itself_few entry (Output port ∷ ops) copy = itself_few entry ops copy
+itself_few : (entry : Entry) (now : ℕ) (ops : List FlowOp) (copy : Carried) → length (outcome entry now ops copy).itself ≤ 1
+itself_few entry now [] copy = omega arith
+itself_few entry now (Set reg n ∷ ops) copy = itself_few entry now ops (record copy { regs = set_reg reg n copy.regs })
+itself_few entry now (Go next ∷ ops) copy = omega arith
+itself_few entry now (Drop cause ∷ ops) copy = omega arith
+itself_few entry now (Header ∷ ops) copy = itself_few entry now ops (record copy { regs = with_header entry copy.regs })
+itself_few entry now (Frame chassis ∷ ops) copy = itself_few entry now ops copy
+itself_few entry now (Copies members ∷ ops) copy = itself_few entry now ops copy
+itself_few entry now (Output port ∷ ops) copy = itself_few entry now ops copy
 
 no_more : {X : Type 0} (test : X → Bool) (xs : List X) → length (filter test xs) ≤ length xs
 no_more test xs = omega (arith, length-filter test xs, count_by-le-length test xs)
 
-made_few : (entry : Entry) (ops : List FlowOp) (copy : Carried) → length (outcome entry ops copy).made + 1 ≤ brings ops
+made_few : (entry : Entry) (now : ℕ) (ops : List FlowOp) (copy : Carried) → length (outcome entry now ops copy).made + 1 ≤ brings ops
 unfolding brings
-made_few entry [] copy = omega arith
-made_few entry (Set reg n ∷ ops) copy = made_few entry ops (record copy { regs = set_reg reg n copy.regs })
-made_few entry (Go next ∷ ops) copy = omega arith
-made_few entry (Drop cause ∷ ops) copy = omega arith
-made_few entry (Header ∷ ops) copy = made_few entry ops (record copy { regs = with_header entry copy.regs })
-made_few entry (Frame chassis ∷ ops) copy = made_few entry ops copy
-made_few entry (Copies members ∷ ops) copy =
-    let others = (outcome entry ops copy).made in
+made_few entry now [] copy = omega arith
+made_few entry now (Set reg n ∷ ops) copy = made_few entry now ops (record copy { regs = set_reg reg n copy.regs })
+made_few entry now (Go next ∷ ops) copy = omega arith
+made_few entry now (Drop cause ∷ ops) copy = omega arith
+made_few entry now (Header ∷ ops) copy = made_few entry now ops (record copy { regs = with_header entry copy.regs })
+made_few entry now (Frame chassis ∷ ops) copy = made_few entry now ops copy
+made_few entry now (Copies members ∷ ops) copy =
+    let others = (outcome entry now ops copy).made in
     let sum : length (copies_for copy members ++ others) ≡ length (copies_for copy members) + length others = length-append (copies_for copy members) others in
     let kept : length (copies_for copy members) ≡ length (filter (λ (member : Member). not (nat_eq member.key copy.regs.in_port)) members) = length-map _ (copy_for copy) in
     let few : length (filter (λ (member : Member). not (nat_eq member.key copy.regs.in_port)) members) ≤ length members = no_more _ members in
-    let ih : length others + 1 ≤ brings ops = made_few entry ops copy in
+    let ih : length others + 1 ≤ brings ops = made_few entry now ops copy in
     omega arith
-made_few entry (Output port ∷ ops) copy = made_few entry ops copy
+made_few entry now (Output port ∷ ops) copy = made_few entry now ops copy
 
 -- at most as many go on as actions may bring on
-pub brings_few : (entry : Entry) (ops : List FlowOp) (copy : Carried) → length (going_on (outcome entry ops copy)) ≤ brings ops
-brings_few entry ops copy =
-    let sum : length (going_on (outcome entry ops copy)) ≡ length (outcome entry ops copy).itself + length (outcome entry ops copy).made = length-append _ _ in
-    let one : length (outcome entry ops copy).itself ≤ 1 = itself_few entry ops copy in
-    let others : length (outcome entry ops copy).made + 1 ≤ brings ops = made_few entry ops copy in
+pub brings_few : (entry : Entry) (now : ℕ) (ops : List FlowOp) (copy : Carried) → length (going_on (outcome entry now ops copy)) ≤ brings ops
+brings_few entry now ops copy =
+    let sum : length (going_on (outcome entry now ops copy)) ≡ length (outcome entry now ops copy).itself + length (outcome entry now ops copy).made = length-append _ _ in
+    let one : length (outcome entry now ops copy).itself ≤ 1 = itself_few entry now ops copy in
+    let others : length (outcome entry now ops copy).made + 1 ≤ brings ops = made_few entry now ops copy in
     omega arith
 
 -- how many copies all flows together may bring on
@@ -198,12 +198,12 @@ load_falls k copy next others h few =
     omega arith
 
 -- so each step of a walk leaves less
-pub advance_falls : {flows : List Flow} {entry : Entry} {copy : Carried} {others next : List Carried} {old new : RunOut} → Advances flows entry copy others next old new → IsProper flows → IsCarriedInRange copy → AllByRecursion IsCarriedInRange next → load (spread flows) next < load (spread flows) (copy ∷ others)
-advance_falls {flows} {entry} {copy} {others} (unmatched_here none same walk effects) proper r in_range =
+pub advance_falls : {flows : List Flow} {entry : Entry} {now : ℕ} {copy : Carried} {others next : List Carried} {old new : RunOut} → Advances flows entry now copy others next old new → IsProper flows → IsCarriedInRange copy → AllByRecursion IsCarriedInRange next → load (spread flows) next < load (spread flows) (copy ∷ others)
+advance_falls {flows} {entry} {now} {copy} {others} (unmatched_here none same walk effects) proper r in_range =
     subst (λ l. load (spread flows) l < load (spread flows) (copy ∷ others)) (sym same) (load_falls (spread flows) copy [] others tt (omega arith))
-advance_falls {flows} {entry} {copy} {others} {next} (matched flow best same walk effects) proper r in_range =
-    let on : List Carried = going_on (outcome entry flow.ops copy) in
+advance_falls {flows} {entry} {now} {copy} {others} {next} (matched flow best same walk effects) proper r in_range =
+    let on : List Carried = going_on (outcome entry now flow.ops copy) in
     let all : AllByRecursion IsCarriedInRange on = all_left IsCarriedInRange on others (subst (AllByRecursion IsCarriedInRange) same in_range) in
-    let fewer : length on ≤ spread flows = omega (arith, brings_few entry flow.ops copy, brings_no_more flow flows best.held) in
+    let fewer : length on ≤ spread flows = omega (arith, brings_few entry now flow.ops copy, brings_no_more flow flows best.held) in
     subst (λ l. load (spread flows) l < load (spread flows) (copy ∷ others)) (sym same)
-    (load_falls (spread flows) copy on others (brings_less entry flow copy (proper flow best.held) best.matching.in_table r.table r.regs best.matching.fits all) fewer)
+    (load_falls (spread flows) copy on others (brings_less entry now flow copy (proper flow best.held) best.matching.in_table r.table r.regs best.matching.fits all) fewer)

@@ -82,13 +82,14 @@ with_effect e outcome = record outcome { effects = e ∷ outcome.effects }
 abbrev pub with_made : List Carried → Outcome → Outcome
 with_made copies outcome = record outcome { made = copies ++ outcome.made }
 
--- what the actions bring on for a copy: they are done in order, up to one that drops it or goes on at a table
-abbrev pub outcome : Entry → List FlowOp → Carried → Outcome
-outcome entry [] copy = record { effects = []; itself = []; made = [] }
-outcome entry (Set reg n ∷ ops) copy = outcome entry ops (record copy { regs = set_reg reg n copy.regs })
-outcome entry (Go table ∷ ops) copy = record { effects = []; itself = gone_on table copy ∷ []; made = [] }
-outcome entry (Drop cause ∷ ops) copy = record { effects = drop_at copy.table cause copy.regs ∷ []; itself = []; made = [] }
-outcome entry (Header ∷ ops) copy = outcome entry ops (record copy { regs = with_header entry copy.regs })
-outcome entry (Frame chassis ∷ ops) copy = with_effect (frame_to chassis copy) (outcome entry ops copy)
-outcome entry (Copies members ∷ ops) copy = with_made (copies_for copy members) (outcome entry ops copy)
-outcome entry (Output port ∷ ops) copy = with_effect (effect.Out port copy.packet) (outcome entry ops copy)
+-- what the actions bring on for a copy at a time: they are done in order, up to one that drops it or goes on at a table. No action reads
+-- the time yet.
+abbrev pub outcome : Entry → ℕ → List FlowOp → Carried → Outcome
+outcome entry now [] copy = record { effects = []; itself = []; made = [] }
+outcome entry now (Set reg n ∷ ops) copy = outcome entry now ops (record copy { regs = set_reg reg n copy.regs })
+outcome entry now (Go table ∷ ops) copy = record { effects = []; itself = gone_on table copy ∷ []; made = [] }
+outcome entry now (Drop cause ∷ ops) copy = record { effects = drop_at copy.table cause copy.regs ∷ []; itself = []; made = [] }
+outcome entry now (Header ∷ ops) copy = outcome entry now ops (record copy { regs = with_header entry copy.regs })
+outcome entry now (Frame chassis ∷ ops) copy = with_effect (frame_to chassis copy) (outcome entry now ops copy)
+outcome entry now (Copies members ∷ ops) copy = with_made (copies_for copy members) (outcome entry now ops copy)
+outcome entry now (Output port ∷ ops) copy = with_effect (effect.Out port copy.packet) (outcome entry now ops copy)

@@ -1,5 +1,5 @@
 -- What the keys of frames are.
-use Rattle.std.specs.Prelude.{◌<◌, ◌^◌, List}
+use Rattle.std.specs.Prelude.{◌<◌, ◌^◌, ℕ, List}
 use Rattle.std.specs.List.{AllByRecursion}
 use Rattle.inet_packet.specs.declared.packet.Packet.{Packet}
 use Rattle.flow_table.specs.declared.flow.Flow.{Flow}
@@ -20,8 +20,8 @@ IsFramed Lost = Unit {0}
 -- so do those of all frames of each walk through proper tables
 abbrev pub WalksAreFramed : Type 0
 WalksAreFramed =
-    (flows : List Flow) (entry : Entry) (packet : Packet) (steps : List Step) (effects : List Effect)
+    (flows : List Flow) (entry : Entry) (now : ℕ) (packet : Packet) (steps : List Step) (effects : List Effect)
     → IsProper flows
     → IsEntry entry
-    → IsWalkOf flows entry packet steps effects
+    → IsWalkOf flows entry now packet steps effects
     → AllByRecursion IsFramed effects

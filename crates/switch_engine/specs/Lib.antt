@@ -2,7 +2,7 @@
 pub mod Actions
 pub mod Advance
 pub mod Framed
-pub mod Gains
+pub mod Growth
 pub mod Proper
 pub mod Range
 pub mod Steps

@@ -1,5 +1,5 @@
 -- How a packet goes from table to table.
-use Rattle.std.specs.Prelude.{◌≡◌, cond, List, [], ◌∷◌, ◌++◌}
+use Rattle.std.specs.Prelude.{◌≡◌, ℕ, cond, List, [], ◌∷◌, ◌++◌}
 use Rattle.std.proofs.Math.Dec.{eqb as nat_eq}
 use Rattle.inet_packet.specs.declared.packet.Packet.{Packet}
 use Rattle.inet_packet.specs.declared.regs.At.{At}
@@ -53,21 +53,21 @@ stray (Tunnel vni in_key out_key) copy = cond (nat_eq copy.from 0) Lost (drop_at
 abbrev pub unmatched : Entry → Carried → List Effect
 unmatched entry copy = cond (nat_eq copy.table 33) (stray entry copy ∷ []) []
 
--- the copies that are left may match these flows in turn, with these effects, each copy going to its end before the next begins
-pub data IsWalk (flows : List Flow) (entry : Entry) : List Carried → List Step → List Effect → Type 0 where
-  over : IsWalk flows entry [] [] []
+-- the copies that are left may match these flows in turn at the time, with these effects, each copy going to its end before the next begins
+pub data IsWalk (flows : List Flow) (entry : Entry) (now : ℕ) : List Carried → List Step → List Effect → Type 0 where
+  over : IsWalk flows entry now [] [] []
   ends : (copy : Carried) (others : List Carried) (steps : List Step) (more all : List Effect)
       → NoneMatches flows copy.table copy.regs copy.packet
-      → IsWalk flows entry others steps more
+      → IsWalk flows entry now others steps more
       → all ≡ unmatched entry copy ++ more
-      → IsWalk flows entry (copy ∷ others) steps all
+      → IsWalk flows entry now (copy ∷ others) steps all
   takes : (copy : Carried) (others : List Carried) (step : Step) (steps : List Step) (more all : List Effect)
       → step.table ≡ copy.table
       → IsBest flows copy.table copy.regs copy.packet step.flow
-      → IsWalk flows entry (going_on (outcome entry step.flow.ops copy) ++ others) steps more
-      → all ≡ (outcome entry step.flow.ops copy).effects ++ more
-      → IsWalk flows entry (copy ∷ others) (step ∷ steps) all
+      → IsWalk flows entry now (going_on (outcome entry now step.flow.ops copy) ++ others) steps more
+      → all ≡ (outcome entry now step.flow.ops copy).effects ++ more
+      → IsWalk flows entry now (copy ∷ others) (step ∷ steps) all
 
--- the packet may match these flows from table 0 on, until no copy is left, with these effects
-abbrev pub IsWalkOf : List Flow → Entry → Packet → List Step → List Effect → Type 0
-IsWalkOf flows entry packet steps effects = IsWalk flows entry (start entry packet ∷ []) steps effects
+-- the packet may match these flows from table 0 on at the time, until no copy is left, with these effects
+abbrev pub IsWalkOf : List Flow → Entry → ℕ → Packet → List Step → List Effect → Type 0
+IsWalkOf flows entry now packet steps effects = IsWalk flows entry now (start entry packet ∷ []) steps effects

@@ -129,10 +129,11 @@ fn copy_to(members: &[Member], copy: &Carried, made: &mut List<Carried>) -> Resu
     Ok(())
 }
 
-// Does the actions with the copy, up to the first that drops it or goes on at a table. Adds their effects and the copies that
-// are made, and gives the copy itself back where it goes on.
+// Does the actions with the copy at the time, up to the first that drops it or goes on at a table. Adds their effects and the
+// copies that are made, and gives the copy itself back where it goes on.
 pub(crate) fn run_ops(
     entry: &Entry,
+    now: u64,
     ops: &[FlowOp],
     copy: Carried,
     effects: &mut List<Effect>,
@@ -142,9 +143,9 @@ pub(crate) fn run_ops(
     requires sets { AllByRecursion Sets ops.now }
     requires in_range { IsInRange copy.regs }
     requires all_in_range { AllByRecursion IsCarriedInRange made.old }
-    ensures itself { IfOk result (λ left. option_to_list left ≡ (outcome entry.now ops.now copy).itself) }
-    ensures effects { OnOk result (effects.new ≡ effects.old ++ (outcome entry.now ops.now copy).effects) }
-    ensures made { OnOk result (made.new ≡ made.old ++ (outcome entry.now ops.now copy).made) }
+    ensures itself { IfOk result (λ left. option_to_list left ≡ (outcome entry.now now ops.now copy).itself) }
+    ensures effects { OnOk result (effects.new ≡ effects.old ++ (outcome entry.now now ops.now copy).effects) }
+    ensures made { OnOk result (made.new ≡ made.old ++ (outcome entry.now now ops.now copy).made) }
     ensures itself_in_range { IfOk result (λ left. AllByRecursion IsCarriedInRange (option_to_list left)) }
     ensures all_in_range { OnOk result (AllByRecursion IsCarriedInRange made.new) }
     ensures err { OnErr result (Extends effects.old effects.new) }

@@ -2,7 +2,7 @@
 ghost use Rattle.std.specs.Prelude.{◌≡◌, ◌++◌, [], ◌∷◌, OnOk, OnErr, reverse};
 ghost use Rattle.std.specs.List.{AllByRecursion};
 ghost use Rattle.switch_engine.specs.Advance.{Advances, Extends, IsCarriedInRange};
-ghost use Rattle.switch_engine.specs.Gains.{Gains, Keeps};
+ghost use Rattle.switch_engine.specs.Growth.{GainsWalk, KeepsRun};
 ghost use Rattle.switch_engine.specs.Proper.{IsEntry, IsProper};
 ghost use Rattle.switch_engine.specs.Range.{IsInRange};
 ghost use Rattle.switch_engine.specs.Walk.{start, unmatched};
@@ -87,6 +87,7 @@ fn advance<T: Lookup>(
     alloc: Global,
     tables: &T,
     entry: &Entry,
+    now: u64,
     copy: Carried,
     pending: &mut List<Carried>,
     out: &mut RunOut,
@@ -95,9 +96,9 @@ fn advance<T: Lookup>(
     requires entry { IsEntry entry.now }
     requires in_range { IsCarriedInRange copy }
     requires all_in_range { AllByRecursion IsCarriedInRange (reverse pending.old) }
-    ensures ok { OnOk result (Advances (T.flows tables.now) entry.now copy (reverse pending.old) (reverse pending.new) out.old out.new) }
+    ensures ok { OnOk result (Advances (T.flows tables.now) entry.now now copy (reverse pending.old) (reverse pending.new) out.old out.new) }
     ensures all_in_range { OnOk result (AllByRecursion IsCarriedInRange (reverse pending.new)) }
-    ensures err { OnErr result (Keeps out.old out.new) }
+    ensures err { OnErr result (KeepsRun out.old out.new) }
 {
     let Some(flow) = tables.lookup(copy.table, &copy.regs, &copy.packet) else {
         return end_unmatched(entry, &copy, &mut out.effects);
@@ -106,6 +107,7 @@ fn advance<T: Lookup>(
     let mut made = List::new(alloc);
     let itself = run_ops(
         entry,
+        now,
         flow.ops.as_slice(),
         copy,
         &mut out.effects,
@@ -118,7 +120,7 @@ fn advance<T: Lookup>(
     Ok(())
 }
 
-/// Takes the packet from table 0 on through the tables until no copy of it is left, and adds its effects and the flows that
+/// Takes the packet at the time from table 0 on through the tables until no copy of it is left, and adds its effects and the flows that
 /// it matched. Each copy is carried to its end before the next begins: first the one that the actions were done with, then
 /// those that were made of it, in order. Without memory what was there stays, with a part of them.
 pub fn run<T: Lookup>(
@@ -132,14 +134,14 @@ pub fn run<T: Lookup>(
 ) -> Result<(), NoMemory>
     requires proper { IsProper (T.flows tables.now) }
     requires entry { IsEntry entry.now }
-    ensures ok { OnOk result (Gains (T.flows tables.now) entry.now packet out.old out.new) }
-    ensures err { OnErr result (Keeps out.old out.new) }
+    ensures ok { OnOk result (GainsWalk (T.flows tables.now) entry.now now packet out.old out.new) }
+    ensures err { OnErr result (KeepsRun out.old out.new) }
     ensures zones { zones.new ≡ zones.old }
 {
     let mut pending = List::new(alloc);
     pending.push(at_start(entry, packet))?;
     'copies: while let Some(copy) = pending.pop() {
-        advance(alloc, tables, entry, copy, &mut pending, out)?;
+        advance(alloc, tables, entry, now, copy, &mut pending, out)?;
     }
     Ok(())
 }

@@ -6,7 +6,5 @@ pub mod carried;
 pub mod effect;
 pub mod engine;
 pub mod laws;
-#[cfg(test)]
-mod tests;
 pub mod walk;
 pub mod zones;

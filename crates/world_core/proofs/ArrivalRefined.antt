@@ -30,6 +30,7 @@ use Rattle.world_core.specs.declared.crossing.Group.TheVariants.{Flood, Unknown}
 use Rattle.world_core.specs.declared.crossing.Crossing.{Crossing}
 use Rattle.world_core.specs.Effects.{effects_of, crossings_in, spelled, datapath_key, port_key, aim_key}
 use Rattle.world_core.specs.Naming.{IsNumbered}
+use Rattle.world_core.specs.Passing.{clock}
 use Rattle.world_core.specs.Refinement.{IsAmidst, IsRefined, ArrivalRefines}
 use Rattle.world_core.specs.Seen.{AreHeld, frame_of_crossing}
 use Rattle.world_core.specs.Sound.{MayWait, HasAimKey}
@@ -132,7 +133,7 @@ module _ (m : State) (zones : List (Name × ℕ)) (more : ℕ) (a : IsAmidst m z
 
 -- ---- what is told of an arrival
 
-module _ (zones : List (Name × ℕ)) (more : ℕ) (k : State) (z new : sim.State) (a : IsAmidst k zones more) (h : AreHeld k zones z) (n : ℕ) (home : Name) (steps : List engine.Step) (ends : List End) (effects : List Effect)
+module _ (zones : List (Name × ℕ)) (more : ℕ) (k : State) (z new : sim.SimState) (a : IsAmidst k zones more) (h : AreHeld k zones z) (n : ℕ) (home : Name) (steps : List engine.Step) (ends : List End) (effects : List Effect)
     (numbers : AllZip (IsNumbered k.keys) ends effects) (lost : AreLostAs n ends) (none : crossings_in ends ≡ []) (before after : SimOut) (told : IsTold z home (start.Frame n) steps effects before after new) where
   may_none : (x : Crossing) → Among x (crossings_in ends) → MayWait k x
   may_none x m = absurd (among_none x (subst (λ xs. Among x xs) none m))
@@ -156,7 +157,7 @@ record IsCrossing (m : State) (n : ℕ) (frame : WaitingFrame) : Type 0 where
   waits : numbered m.waiting n ≡ Some crossing
   is : frame ≡ (frame_of_crossing m.keys (n, crossing)).1
 
-module _ (law : ArrivalLaw) (m : State) (zones : List (Name × ℕ)) (more : ℕ) (s new : sim.State) (n : ℕ) (before after : SimOut) (a : IsAmidst m zones more) (h : AreHeld m zones s) where
+module _ (law : ArrivalLaw) (m : State) (zones : List (Name × ℕ)) (more : ℕ) (s new : sim.SimState) (n : ℕ) (before after : SimOut) (a : IsAmidst m zones more) (h : AreHeld m zones s) where
   crossing_of : (frame : WaitingFrame) → numbered s.waiting n ≡ Some frame → IsCrossing m n frame
   crossing_of frame e =
       by (numbered m.waiting n) refl (sym (numbered_map (λ x. (frame_of_crossing m.keys (0, x)).1) m.waiting n) ∙ ap (λ ws. numbered ws n) (sym h.waiting) ∙ e)
@@ -191,7 +192,7 @@ module _ (law : ArrivalLaw) (m : State) (zones : List (Name × ℕ)) (more : ℕ
         state = refl;
       })
 
-  arrives : (keep : Bool) → passing.Arrives s n keep before after new → IsRefined zones more before after new (λ es mid. Arrives m n keep es mid)
+  arrives : (keep : Bool) → passing.Arrives s n keep clock before after new → IsRefined zones more before after new (λ es mid. Arrives m n keep es mid)
   arrives keep (passing.Arrives.through frame flows vni in_key out_key packet steps effects waits held carries walk told) =
       let c = crossing_of frame waits in
       let x = c.crossing in
@@ -201,7 +202,7 @@ module _ (law : ArrivalLaw) (m : State) (zones : List (Name × ℕ)) (more : ℕ
       let there : sim.named s.chassis x.home ≡ Some flows = ap (λ d. sim.named s.chassis d) (sym home) ∙ held in
       let known : Among x.home m.chassis = (h.held x.home).0 (is_some_of (sim.named s.chassis x.home) flows there) in
       arrives_so keep x c.waits packet carries.whole read.3 steps effects
-      (law m zones n x flows a.valid a.keys a.bound w known (h.flows x.home flows there) packet carries.whole read.3 steps effects (rw (← read.0, ← read.1, ← read.2) walk))
+      (law m zones n x flows a.valid a.keys a.bound w known (h.flows x.home flows there) clock packet carries.whole read.3 steps effects (rw (← read.0, ← read.1, ← read.2) walk))
       (subst (λ d. IsTold (arrived s n keep) d (start.Frame n) steps effects before after new) home told)
   arrives keep (passing.Arrives.gone frame waits none told) =
       let c = crossing_of frame waits in

@@ -171,7 +171,7 @@ module _ (s : Setting) (n : ℕ) (x : Crossing) (may : MayWait s.m x) (known : A
   -- what becomes of it where it isn't lost
   reaches : is_switch s.m.net x.datapath ≡ true → misses s.m x.aim x.home ≡ false → From s entry 0 33 after packet (Numbered (reached s.m x packet x.aim)) → From s entry 0 33 after packet Arrives
   reaches is found h =
-      comes_by s.flows entry (copy_at 0 33 after packet ∷ []) (Numbered (reached s.m x packet x.aim)) Arrives
+      comes_by s.flows entry s.time (copy_at 0 33 after packet ∷ []) (Numbered (reached s.m x packet x.aim)) Arrives
       (λ effects r. subst (λ v. Numbered (cond v (is_lost n ∷ []) (reached s.m x packet x.aim)) effects) (sym (gone_by is ∙ found)) r) h
 
   -- a port of its switch that has the number of the port of entry is that port
@@ -234,7 +234,7 @@ module _ (s : Setting) (n : ℕ) (x : Crossing) (may : MayWait s.m x) (known : A
         let zone = zone_here s id.name bound in
         let out = home_33 s entry packet 0 after id.name port of.0 of.1 of.2 vni_is key_is zone.0 zone.1 (λ effects. effects ≡ effect.Out id.name packet ∷ [])
         (λ z. leave_34 s entry id.name port of.0 of.1 of.2 packet 33 (record after { z_out = z }) vni_is key_is in_small apart) in
-        comes_by s.flows entry (copy_at 0 33 after packet ∷ []) (λ effects. effects ≡ effect.Out id.name packet ∷ []) (Numbered (reached s.m x packet x.aim))
+        comes_by s.flows entry s.time (copy_at 0 33 after packet ∷ []) (λ effects. effects ≡ effect.Out id.name packet ∷ []) (Numbered (reached s.m x packet x.aim))
         (λ effects e. subst (λ a. Numbered (reached s.m x packet a) effects) (sym aim_is) (subst (λ l. Numbered (leaves id.name packet ∷ []) l) (sym e) (IsNumbered.out, tt))) out
 
     pub to_port : From s entry 0 33 after packet Arrives
@@ -289,7 +289,7 @@ module _ (s : Setting) (n : ℕ) (x : Crossing) (may : MayWait s.m x) (known : A
         let ends : List Name → List End = λ l. map (λ q. leaves q packet) (filter (λ q. not (is_entry q)) l) in
         reaches is (ap (λ a. misses s.m a x.home) aim_is)
         (group_33 s entry packet 0 after x.datapath.name on.0 on.1 g true vni_is out_is refl (Numbered (reached s.m x packet x.aim))
-        (comes_by s.flows entry _ (Numbered (ends here_at)) (Numbered (reached s.m x packet x.aim))
+        (comes_by s.flows entry s.time _ (Numbered (ends here_at)) (Numbered (reached s.m x packet x.aim))
         (λ effects h. subst (λ a. Numbered (reached s.m x packet a) effects) (sym aim_is)
         (subst (λ c. Numbered (ends (members_at s.m.net s.m.bindings x.datapath.name g c)) effects) on_home h))
         (copies_leave s entry on.0 0 after packet vni_is in_small is_entry here_at (member on.0 on.1 vni_is))))
@@ -327,5 +327,5 @@ module _ (s : Setting) (n : ℕ) (x : Crossing) (may : MayWait s.m x) (known : A
   came_out f t (EntryRow.arrival e) = as_row s entry copy Arrives f arrival_row e arrives_33
 
   -- it comes out of a tunnel
-  pub arriving : Comes s.flows entry (copy ∷ []) Arrives
+  pub arriving : Comes s.flows entry s.time (copy ∷ []) Arrives
   arriving = comes_row s entry copy Arrives arrival_row (TableFlow.in_entry (EntryRow.arrival refl)) refl (tunnel_fits (start_regs entry) packet refl) (λ f t. came_out f t (at_0 b f t.row t.in_table))

@@ -46,7 +46,7 @@ module _ (old new : List (KeyPair × Name)) (vni port : ℕ) (name : Name) (give
     | inr other ↦ ap (λ o. unwrap_or o (codes "-")) (given (a, b) ∙ ap (λ t. cond t (Some name) (lookup (same_pair (a, b)) old)) other)
   ]
 
-module _ (net later : Network) (keys after : Keys) (old new : sim.State) (have : HaveKeys net keys) (also : HaveKeys later after) (named : AreNamed keys old) where
+module _ (net later : Network) (keys after : Keys) (old new : sim.SimState) (have : HaveKeys net keys) (also : HaveKeys later after) (named : AreNamed keys old) where
   -- ---- a datapath comes
 
   module _ (name : Name) (birth : Birth) (absent : at net.switches name ≡ None) (gives : GivesKeysAfter keys (Datapath name birth ∷ []) after) (k : DatapathKey) (has : at after.datapaths name ≡ Some k)

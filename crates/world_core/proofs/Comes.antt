@@ -24,30 +24,30 @@ use Rattle.world_core.specs.Tables.{TableFlow}
 abbrev pub copy_at : ℕ → ℕ → Regs → Packet → Carried
 copy_at from table regs packet = record { from = from; table = table; regs = regs; packet = packet }
 
--- whatever walk the copies take, its effects are of this kind
-pub record Comes (flows : List Flow) (entry : Entry) (copies : List Carried) (P : List Effect → Type 0) : Type 0 where
-  pub each : (steps : List Step) (effects : List Effect) → IsWalk flows entry copies steps effects → P effects
+-- whatever walk the copies take at the time, its effects are of this kind
+pub record Comes (flows : List Flow) (entry : Entry) (now : ℕ) (copies : List Carried) (P : List Effect → Type 0) : Type 0 where
+  pub each : (steps : List Step) (effects : List Effect) → IsWalk flows entry now copies steps effects → P effects
 
 -- ---- several copies
 
 -- of no copies there is no effect
-none_left : (flows : List Flow) (entry : Entry) (steps : List Step) (effects : List Effect) → IsWalk flows entry [] steps effects → effects ≡ []
-none_left flows entry _ _ over = refl
+none_left : (flows : List Flow) (entry : Entry) (now : ℕ) (steps : List Step) (effects : List Effect) → IsWalk flows entry now [] steps effects → effects ≡ []
+none_left flows entry now _ _ over = refl
 
-module _ (flows : List Flow) (entry : Entry) where
-  pub comes_none : (P : List Effect → Type 0) → P [] → Comes flows entry [] P
-  comes_none P p = record { each = λ steps effects w. subst P (sym (none_left flows entry steps effects w)) p }
+module _ (flows : List Flow) (entry : Entry) (now : ℕ) where
+  pub comes_none : (P : List Effect → Type 0) → P [] → Comes flows entry now [] P
+  comes_none P p = record { each = λ steps effects w. subst P (sym (none_left flows entry now steps effects w)) p }
 
   -- one copy and then the others
-  pub comes_cons : (copy : Carried) (others : List Carried) (P Q R : List Effect → Type 0) → Comes flows entry (copy ∷ []) P → Comes flows entry others Q → ((own more : List Effect) → P own → Q more → R (own ++ more))
-      → Comes flows entry (copy ∷ others) R
+  pub comes_cons : (copy : Carried) (others : List Carried) (P Q R : List Effect → Type 0) → Comes flows entry now (copy ∷ []) P → Comes flows entry now others Q → ((own more : List Effect) → P own → Q more → R (own ++ more))
+      → Comes flows entry now (copy ∷ others) R
   comes_cons copy others P Q R first rest join = record {
     each = λ steps effects w.
         let s = walk_split (copy ∷ []) others steps effects w in
         subst R (sym s.all_effects) (join s.first_effects s.other_effects (first.each s.first_steps s.first_effects s.first_walk) (rest.each s.other_steps s.other_effects s.other_walk));
   }
 
-  pub comes_by : (copies : List Carried) (P Q : List Effect → Type 0) → ((effects : List Effect) → P effects → Q effects) → Comes flows entry copies P → Comes flows entry copies Q
+  pub comes_by : (copies : List Carried) (P Q : List Effect → Type 0) → ((effects : List Effect) → P effects → Q effects) → Comes flows entry now copies P → Comes flows entry now copies Q
   comes_by copies P Q f h = record { each = λ steps effects w. f effects (h.each steps effects w) }
 
 -- ---- one table
@@ -58,9 +58,10 @@ pub record IsReady (m : State) (zones : List (Name × ℕ)) : Type 0 where
   pub keys : HaveKeys m.net m.keys
   pub bound : AreBound m zones
 
--- a chassis with its flows, in a state
+-- a chassis with its flows, in a state, at a time
 pub record Setting : Type 0 where
   pub m : State
+  pub time : ℕ
   pub zones : List (Name × ℕ)
   pub chassis : Name
   pub flows : List Flow
@@ -89,7 +90,7 @@ module _ (s : Setting) (entry : Entry) where
 
   -- what the copies that a flow brings on come to, after the flow's own effects
   abbrev pub After : Carried → (List Effect → Type 0) → Flow → Type 0
-  After copy P f = Comes s.flows entry (going_on (outcome entry f.ops copy)) (λ more. P ((outcome entry f.ops copy).effects ++ more))
+  After copy P f = Comes s.flows entry s.time (going_on (outcome entry s.time f.ops copy)) (λ more. P ((outcome entry s.time f.ops copy).effects ++ more))
 
   -- where the flow is that row
   pub as_row : (copy : Carried) (P : List Effect → Type 0) (f row : Flow) → f ≡ row → After copy P row → After copy P f
@@ -100,23 +101,23 @@ module _ (s : Setting) (entry : Entry) where
   row_fits copy f t row e = subst (λ (g : Flow). CubeFits g.cube copy.regs copy.packet) e t.fits
 
   takes_one : (copy : Carried) (others : List Carried) (P : List Effect → Type 0) (row : Flow) → TableFlow (basis_of s) row → row.table ≡ copy.table → CubeFits row.cube copy.regs copy.packet
-      → ((f : Flow) → Matched s copy f → (steps : List Step) (more : List Effect) → IsWalk s.flows entry (going_on (outcome entry f.ops copy) ++ others) steps more → P ((outcome entry f.ops copy).effects ++ more))
-      → (steps : List Step) (effects : List Effect) → IsWalk s.flows entry (copy ∷ others) steps effects → P effects
+      → ((f : Flow) → Matched s copy f → (steps : List Step) (more : List Effect) → IsWalk s.flows entry s.time (going_on (outcome entry s.time f.ops copy) ++ others) steps more → P ((outcome entry s.time f.ops copy).effects ++ more))
+      → (steps : List Step) (effects : List Effect) → IsWalk s.flows entry s.time (copy ∷ others) steps effects → P effects
   takes_one _ _ P row is of fits goes _ _ (ends copy others steps more all none walk same) = absurd (none row ((s.exact.same row).1 is) (record { in_table = of; fits = fits }))
   takes_one _ _ P row is of fits goes _ _ (takes copy others step steps more all where_it_is best walk same) = subst P (sym same) (goes step.flow (matched copy step.flow best) steps more walk)
 
   -- a row of the chassis matches the copy, so that it takes a flow
   pub comes_row : (copy : Carried) (P : List Effect → Type 0) (row : Flow) → TableFlow (basis_of s) row → row.table ≡ copy.table → CubeFits row.cube copy.regs copy.packet
-      → ((f : Flow) → Matched s copy f → After copy P f) → Comes s.flows entry (copy ∷ []) P
+      → ((f : Flow) → Matched s copy f → After copy P f) → Comes s.flows entry s.time (copy ∷ []) P
   comes_row copy P row is of fits goes = record {
     each = takes_one copy [] P row is of fits (λ f t steps more w.
-        (goes f t).each steps more (subst (λ copies. IsWalk s.flows entry copies steps more) (append-nil (going_on (outcome entry f.ops copy))) w));
+        (goes f t).each steps more (subst (λ copies. IsWalk s.flows entry s.time copies steps more) (append-nil (going_on (outcome entry s.time f.ops copy))) w));
   }
 
   takes_none : (copy : Carried) (P : List Effect → Type 0) → ((f : Flow) → TableFlow (basis_of s) f → f.table ≡ copy.table → CubeFits f.cube copy.regs copy.packet → ⊥)
-      → P (unmatched entry copy) → (steps : List Step) (effects : List Effect) (others : List Carried) → others ≡ [] → IsWalk s.flows entry (copy ∷ others) steps effects → P effects
+      → P (unmatched entry copy) → (steps : List Step) (effects : List Effect) (others : List Carried) → others ≡ [] → IsWalk s.flows entry s.time (copy ∷ others) steps effects → P effects
   takes_none _ P never p _ _ _ alone (ends copy others steps more all none walk same) =
-      let empty : more ≡ [] = none_left s.flows entry steps more (subst (λ l. IsWalk s.flows entry l steps more) alone walk) in
+      let empty : more ≡ [] = none_left s.flows entry s.time steps more (subst (λ l. IsWalk s.flows entry s.time l steps more) alone walk) in
       subst P (sym (same_all more empty all same)) p
     where
       same_all : (more : List Effect) → more ≡ [] → (all : List Effect) → all ≡ unmatched entry copy ++ more → all ≡ unmatched entry copy
@@ -126,5 +127,5 @@ module _ (s : Setting) (entry : Entry) where
 
   -- no row matches it
   pub comes_unmatched : (copy : Carried) (P : List Effect → Type 0) → ((f : Flow) → TableFlow (basis_of s) f → f.table ≡ copy.table → CubeFits f.cube copy.regs copy.packet → ⊥)
-      → P (unmatched entry copy) → Comes s.flows entry (copy ∷ []) P
+      → P (unmatched entry copy) → Comes s.flows entry s.time (copy ∷ []) P
   comes_unmatched copy P never p = record { each = λ steps effects w. takes_none copy P never p steps effects [] refl w }

@@ -62,7 +62,7 @@ done_so old new event effects own walks count e w n done =
     subst (λ l. IsDone old event l walks count new) (sym e) (subst (λ l. IsDone old event effects l count new) (sym w) (subst (λ k. IsDone old event effects [] k new) (sym n) done))
 
 -- names stay where none is given
-still_named : (keys : Keys) (old new : sim.State) → AreSet same_pair [] old.names new.names → AreNamed keys old → AreNamed keys new
+still_named : (keys : Keys) (old new : sim.SimState) → AreSet same_pair [] old.names new.names → AreNamed keys old → AreNamed keys new
 still_named keys old new same named = record {
   datapaths = λ a k has. ap (λ o. unwrap_or o (codes "-")) (same (k.key, 0)) ∙ named.datapaths a k has;
   ports = λ q p k has under. ap (λ o. unwrap_or o (codes "-")) (same (k.key, p.key)) ∙ named.ports q p k has under;

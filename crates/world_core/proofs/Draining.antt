@@ -23,7 +23,7 @@ use Rattle.world_core.proofs.Found.{is_some_of}
 pub record AreDraining (old : Seen) (before : SimOut) (left : ℕ) (now : Seen) (told : SimOut) : Type 0 where
   pub own : List NetEffect
   pub all : told.effects ≡ before.effects ++ own
-  pub drained : (after : SimOut) (s : sim.State) → AreDrained left now.sim told after s → AreDrained most_arrivals old.sim before after s
+  pub drained : (after : SimOut) (s : sim.SimState) → AreDrained left now.sim told after s → AreDrained most_arrivals old.sim before after s
   pub drains : (effects : List NetEffect) (m : State) → Drains left now.state effects m → Drains most_arrivals old.state (own ++ effects) m
   pub amidst : IsAmidst now.state now.zones most_sent
   pub held : AreHeld now.state now.zones now.sim
@@ -76,7 +76,7 @@ drain_goes_on old before left now next told more n x behind d first p = record {
   rest = p.rest ∙ ap (λ (w : Seen). record w { state = next.state; sim = next.sim }) d.rest;
 }
 
-over_sim : (left : ℕ) (s : sim.State) (told : SimOut) → (left ≡ 0) ⊎ (s.waiting ≡ []) → AreDrained left s told told s
+over_sim : (left : ℕ) (s : sim.SimState) (told : SimOut) → (left ≡ 0) ⊎ (s.waiting ≡ []) → AreDrained left s told told s
 over_sim zero s told e = (refl, refl)
 over_sim (suc left) s told (inl z) = absurd (omega (arith, z))
 over_sim (suc left) s told (inr none) = inl (none, refl, refl)
@@ -86,7 +86,7 @@ over_net zero m e = (refl, refl)
 over_net (suc left) m (inl z) = absurd (omega (arith, z))
 over_net (suc left) m (inr none) = inl (none, refl, refl)
 
-none_held : (m : State) (zones : List (Name × ℕ)) (s : sim.State) → AreHeld m zones s → m.waiting ≡ [] → s.waiting ≡ []
+none_held : (m : State) (zones : List (Name × ℕ)) (s : sim.SimState) → AreHeld m zones s → m.waiting ≡ [] → s.waiting ≡ []
 none_held m zones s h none = h.waiting ∙ ap (λ ws. map (frame_of_crossing m.keys) ws) none
 
 -- none is left, or enough arrived

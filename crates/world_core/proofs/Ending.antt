@@ -31,7 +31,7 @@ may_wait m x w = record {
   no_return = w.no_return;
 }
 
-held_on : (m : State) (zones : List (Name × ℕ)) (s : sim.State) → AreHeld m zones s → AreHeld (one_refused m) zones s
+held_on : (m : State) (zones : List (Name × ℕ)) (s : sim.SimState) → AreHeld m zones s → AreHeld (one_refused m) zones s
 held_on m zones s h = record {
   bindings = h.bindings;
   names = record { datapaths = h.names.datapaths; ports = h.names.ports };
@@ -76,7 +76,6 @@ refused_taken w taken room =
             in_order = now.on_the_way.crossings.in_order;
             below = now.on_the_way.crossings.below;
             may = λ n x among. may_wait m x (now.on_the_way.crossings.may n x among);
-            first = now.on_the_way.crossings.first;
           };
           few = omega (arith, sent);
           none = now.on_the_way.none;

@@ -88,10 +88,10 @@ module _ (s : Setting) (p : Name) (ours : SwitchPort) (dp entered : ℕ) (from :
     within_14 = subst (λ n. n < 2 ^ 24) (sym on) small
 
     -- it has a target
-    to_target : (copies : List Carried) (target : Target) → HasTarget s.m.net ours.switch packet.dst target → Comes s.flows (Vif p) copies (Numbered s p ours dp entered from packet (sent_to s.m (origin s p ours dp entered from packet) packet target))
-        → Comes s.flows (Vif p) copies AreGone
+    to_target : (copies : List Carried) (target : Target) → HasTarget s.m.net ours.switch packet.dst target → Comes s.flows (Vif p) s.time copies (Numbered s p ours dp entered from packet (sent_to s.m (origin s p ours dp entered from packet) packet target))
+        → Comes s.flows (Vif p) s.time copies AreGone
     to_target copies target has h =
-        comes_by s.flows (Vif p) copies (Numbered s p ours dp entered from packet (sent_to s.m (origin s p ours dp entered from packet) packet target)) AreGone
+        comes_by s.flows (Vif p) s.time copies (Numbered s p ours dp entered from packet (sent_to s.m (origin s p ours dp entered from packet) packet target)) AreGone
         (λ effects n. record { ends = sent_to s.m (origin s p ours dp entered from packet) packet target; goes = Goes.sent station untagged target has refl; numbered = n }) h
 
     -- none of the switch's ports has the address where the last row is taken
@@ -140,7 +140,7 @@ module _ (s : Setting) (p : Name) (ours : SwitchPort) (dp entered : ℕ) (from :
             (sent_group s p ours dp entered from packet Unknown 14 after on came refl word))
         by low false few is =
             as_row s (Vif p) copy_14 AreGone f (unknown_row d false) (is ∙ ap (λ w. unknown_row d w) few)
-            (comes_none s.flows (Vif p) (λ more. AreGone (effect.Drop regs.dp regs.in_port UnknownAddress ∷ more))
+            (comes_none s.flows (Vif p) s.time (λ more. AreGone (effect.Drop regs.dp regs.in_port UnknownAddress ∷ more))
             (dropped regs on came UnknownAddress (Goes.sent station untagged none (HasTarget.nobody (not_many f t low) (nobody f t low) (none_there (members s.m.net ours.switch Unknown) few)) refl)))
 
     -- it goes to the port that has its address, or to those of a group
@@ -190,12 +190,12 @@ module _ (s : Setting) (p : Name) (ours : SwitchPort) (dp entered : ℕ) (from :
     admit f t (AdmitRow.bad_source o d theirs e) =
         let fits = fits_from_group regs packet d within_8 (row_fits s (Vif p) copy_8 f t (bad_source_row d) e) in
         as_row s (Vif p) copy_8 AreGone f (bad_source_row d) e
-        (comes_none s.flows (Vif p) (λ more. AreGone (effect.Drop regs.dp regs.in_port BadSource ∷ more)) (dropped regs on came BadSource (Goes.bad_source (fits_multicast packet.src whole.src fits.1) refl)))
+        (comes_none s.flows (Vif p) s.time (λ more. AreGone (effect.Drop regs.dp regs.in_port BadSource ∷ more)) (dropped regs on came BadSource (Goes.bad_source (fits_multicast packet.src whole.src fits.1) refl)))
     admit f t (AdmitRow.vlan o d theirs e) =
         let fits = fits_tag regs packet d within_8 (type_short packet.body packet.tail whole.body) (row_fits s (Vif p) copy_8 f t (vlan_row d) e) in
         let station = a_station f t (subst (λ (g : Flow). g.priority < 110) (sym e) (omega arith)) in
         as_row s (Vif p) copy_8 AreGone f (vlan_row d) e
-        (comes_none s.flows (Vif p) (λ more. AreGone (effect.Drop regs.dp regs.in_port Vlan ∷ more)) (dropped regs on came Vlan (Goes.tagged station fits.1 refl)))
+        (comes_none s.flows (Vif p) s.time (λ more. AreGone (effect.Drop regs.dp regs.in_port Vlan ∷ more)) (dropped regs on came Vlan (Goes.tagged station fits.1 refl)))
     admit f t (AdmitRow.s_admit_base o d theirs e) =
         let station = a_station f t (subst (λ (g : Flow). g.priority < 110) (sym e) (omega arith)) in
         let untagged : ether_type packet.body ≢ 0x8100 =
@@ -238,13 +238,13 @@ module _ (s : Setting) (p : Name) (packet : Packet) (whole : IsWhole packet) (ho
       let of : IsPort (basis_of s) p port dp key = subst (λ n. IsPort (basis_of s) n port dp key) (ap name_at (sym is)) theirs in
       let after : Regs = record (start_regs (Vif p)) { dp = dp; in_port = key; z_in = zone } in
       as_row s (Vif p) copy IsVisit f (entry_row q dp key zone) e
-      (comes_by s.flows (Vif p) (copy_at 0 8 after packet ∷ []) (AreGone s p port dp key of packet whole) IsVisit (visits port dp key of) (enter_8 s p port dp key of packet whole 0 after refl refl refl refl))
+      (comes_by s.flows (Vif p) s.time (copy_at 0 8 after packet ∷ []) (AreGone s p port dp key of packet whole) IsVisit (visits port dp key of) (enter_8 s p port dp key of packet whole 0 after refl refl refl refl))
   came_in_at f t (EntryRow.arrival e) =
       let is : at_of.Local p ≡ at_of.Tunnel = fits_tunnel (start_regs (Vif p)) packet (row_fits s (Vif p) copy f t arrival_row e) in
       absurd (false≢true (sym (ap is_local is)))
 
   -- it comes in at a port that is at home here
-  pub entering : Comes s.flows (Vif p) (copy ∷ []) IsVisit
+  pub entering : Comes s.flows (Vif p) s.time (copy ∷ []) IsVisit
   entering =
       let port = some_of (at s.m.net.ports p) (s.now.bound.port_there p s.chassis home) in
       let of = port_is s p port.0 port.1 in

@@ -16,7 +16,7 @@ use Rattle.switch_engine.specs.declared.walk.Start.TheVariants as start
 use Rattle.switch_engine.specs.declared.walk.Step as engine
 use Rattle.world_core.specs.Crossing.{numbered_from}
 use Rattle.world_core.specs.Effects.{effects_of, crossings_in}
-use Rattle.world_core.specs.Passing.{GoesIn}
+use Rattle.world_core.specs.Passing.{GoesIn, clock}
 use Rattle.world_core.specs.Refinement.{IsAmidst, IsRefined, EntryRefines}
 use Rattle.world_core.specs.Seen.{AreHeld}
 use Rattle.world_core.specs.State.{State}
@@ -26,7 +26,7 @@ use Rattle.world_core.proofs.Crossings.{visit_ends}
 use Rattle.world_core.proofs.Found.{some_of}
 use Rattle.world_core.proofs.Refining.{told_effects, told_held, amidst_with, crossings_behind}
 
-module _ (law : EntryLaw) (m : State) (zones : List (Name × ℕ)) (more : ℕ) (s new : sim.State) (p : Name) (frame : List ℕ) (before after : SimOut) (a : IsAmidst m zones more) (h : AreHeld m zones s) where
+module _ (law : EntryLaw) (m : State) (zones : List (Name × ℕ)) (more : ℕ) (s new : sim.SimState) (p : Name) (frame : List ℕ) (before after : SimOut) (a : IsAmidst m zones more) (h : AreHeld m zones s) where
   entered : (packet : Packet) → IsWhole packet → frame_of packet ≡ frame → (chassis : Name) (steps : List engine.Step) (effects : List Effect) → AreVisit m p packet chassis effects
       → IsTold s chassis (start.Port p) steps effects before after new → IsRefined zones (more + 64) before after new (λ es mid. Enters m p frame es mid)
   entered packet whole frame_is chassis steps effects v told =
@@ -54,10 +54,10 @@ module _ (law : EntryLaw) (m : State) (zones : List (Name × ℕ)) (more : ℕ) 
   enters : GoesIn s p frame before after new → IsRefined zones (more + 64) before after new (λ es mid. Enters m p frame es mid)
   enters g = by g.injected
     where
-      by : passing.IsInjected s p g.packet before after new → IsRefined zones (more + 64) before after new (λ es mid. Enters m p frame es mid)
+      by : passing.IsInjected s p clock g.packet before after new → IsRefined zones (more + 64) before after new (λ es mid. Enters m p frame es mid)
       by (passing.IsInjected.through chassis flows steps effects bound held walk told) =
           let home : at m.bindings p ≡ Some chassis = sym (h.bindings p) ∙ bound in
-          entered g.packet g.whole g.frame_is chassis steps effects (law m zones chassis flows a.valid a.keys a.bound (h.flows chassis flows held) p home g.packet g.whole steps effects walk) told
+          entered g.packet g.whole g.frame_is chassis steps effects (law m zones chassis flows a.valid a.keys a.bound (h.flows chassis flows held) p home clock g.packet g.whole steps effects walk) told
       by (passing.IsInjected.nowhere chassis bound none told) =
           let home : at m.bindings p ≡ Some chassis = sym (h.bindings p) ∙ bound in
           let there = some_of (sim.named s.chassis chassis) ((h.held chassis).1 (a.bound.chassis_there p chassis home)) in

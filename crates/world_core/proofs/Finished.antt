@@ -28,7 +28,7 @@ counted_births m b = record {
   none = λ z. absurd (omega (arith, z));
 }
 
-module _ (m : State) (zones : List (Name × ℕ)) (more : ℕ) (s : sim.State) (a : IsAmidst m zones more) (few : more ≤ 2 ^ 64) (events : events_of m < 2 ^ 42) (h : AreHeld m zones s) where
+module _ (m : State) (zones : List (Name × ℕ)) (more : ℕ) (s : sim.SimState) (a : IsAmidst m zones more) (few : more ≤ 2 ^ 64) (events : events_of m < 2 ^ 42) (h : AreHeld m zones s) where
   few_sent : m.next ≤ 1 + 2 ^ 64 * events_of (with m m.keys)
   few_sent = let sent = a.few_sent in omega (arith, sent, few)
 
@@ -69,7 +69,7 @@ module _ (m : State) (zones : List (Name × ℕ)) (more : ℕ) (s : sim.State) (
       bound = bound_then m.keys;
       born = counted_births m a.born;
       on_the_way = record {
-        crossings = record { in_order = a.crossings.in_order; below = a.crossings.below; may = λ n x w. may_then x (a.crossings.may n x w); first = a.crossings.first };
+        crossings = record { in_order = a.crossings.in_order; below = a.crossings.below; may = λ n x w. may_then x (a.crossings.may n x w) };
         few = few_sent;
         none = λ z. absurd (omega (arith, z));
       };
@@ -113,7 +113,7 @@ module _ (m : State) (zones : List (Name × ℕ)) (more : ℕ) (s : sim.State) (
       bound = bound_then (settled m.keys);
       born = born_settled;
       on_the_way = record {
-        crossings = record { in_order = a.crossings.in_order; below = a.crossings.below; may = λ n x w. absurd (none_waits e n x w); first = a.crossings.first };
+        crossings = record { in_order = a.crossings.in_order; below = a.crossings.below; may = λ n x w. absurd (none_waits e n x w) };
         few = few_sent;
         none = λ z. absurd (omega (arith, z));
       };

@@ -96,26 +96,26 @@ module _ (s : Setting) (entry : Entry) (dp last : ℕ) (regs : Regs) (packet : P
   others is_entry qs = filter (λ q. not (is_entry q)) qs
 
   module _ (here_on : regs.dp ≡ dp) (narrow : regs.in_port < 2 ^ 16) (is_entry : Name → Bool) where
-    one_more : (q : Name) (qs : List Name) → IsMember is_entry q → (w : Bool) → nat_eq (member_of b q).key regs.in_port ≡ w → is_entry q ≡ w → Comes s.flows entry (copies_for copy (these qs)) (Leaves (others is_entry qs))
-        → Comes s.flows entry (copies_for copy (these (q ∷ qs))) (Leaves (others is_entry (q ∷ qs)))
+    one_more : (q : Name) (qs : List Name) → IsMember is_entry q → (w : Bool) → nat_eq (member_of b q).key regs.in_port ≡ w → is_entry q ≡ w → Comes s.flows entry s.time (copies_for copy (these qs)) (Leaves (others is_entry qs))
+        → Comes s.flows entry s.time (copies_for copy (these (q ∷ qs))) (Leaves (others is_entry (q ∷ qs)))
     one_more q qs r true t i rest =
         let kept : List Member = filter (λ (member : Member). not (nat_eq member.key regs.in_port)) (these qs) in
-        subst (λ v. Comes s.flows entry (map (copy_for copy) (cond (not v) (member_of b q ∷ kept) kept)) (Leaves (others is_entry (q ∷ qs)))) (sym t)
-        (subst (λ v. Comes s.flows entry (copies_for copy (these qs)) (Leaves (cond (not v) (q ∷ others is_entry qs) (others is_entry qs)))) (sym i) rest)
+        subst (λ v. Comes s.flows entry s.time (map (copy_for copy) (cond (not v) (member_of b q ∷ kept) kept)) (Leaves (others is_entry (q ∷ qs)))) (sym t)
+        (subst (λ v. Comes s.flows entry s.time (copies_for copy (these qs)) (Leaves (cond (not v) (q ∷ others is_entry qs) (others is_entry qs)))) (sym i) rest)
     one_more q qs r false t i rest =
         let kept : List Member = filter (λ (member : Member). not (nat_eq member.key regs.in_port)) (these qs) in
         let member : Member = member_of b q in
         let after : Regs = record regs { out_port = member.key; z_out = member.zone } in
         let apart : regs.in_port ≢ r.key = λ same. false≢true (sym i ∙ sym r.entered ∙ (Decides-eqb r.key regs.in_port).1 (sym same)) in
         let first = leave_34 s entry q r.port dp r.key r.of packet 33 after here_on (number_is q r.port r.key r.of) narrow apart in
-        subst (λ v. Comes s.flows entry (map (copy_for copy) (cond (not v) (member ∷ kept) kept)) (Leaves (others is_entry (q ∷ qs)))) (sym t)
-        (subst (λ v. Comes s.flows entry (copy_for copy member ∷ copies_for copy (these qs)) (Leaves (cond (not v) (q ∷ others is_entry qs) (others is_entry qs)))) (sym i)
-        (comes_cons s.flows entry (copy_for copy member) (copies_for copy (these qs)) (λ own. own ≡ effect.Out q packet ∷ []) (Leaves (others is_entry qs)) (Leaves (q ∷ others is_entry qs)) first rest
+        subst (λ v. Comes s.flows entry s.time (map (copy_for copy) (cond (not v) (member ∷ kept) kept)) (Leaves (others is_entry (q ∷ qs)))) (sym t)
+        (subst (λ v. Comes s.flows entry s.time (copy_for copy member ∷ copies_for copy (these qs)) (Leaves (cond (not v) (q ∷ others is_entry qs) (others is_entry qs)))) (sym i)
+        (comes_cons s.flows entry s.time (copy_for copy member) (copies_for copy (these qs)) (λ own. own ≡ effect.Out q packet ∷ []) (Leaves (others is_entry qs)) (Leaves (q ∷ others is_entry qs)) first rest
         (λ own more e h. subst (λ l. Leaves (q ∷ others is_entry qs) (l ++ more)) (sym e) (IsNumbered.out, h))))
 
     -- each member but the port of entry has a copy that leaves by it
-    pub copies_leave : (qs : List Name) → ((q : Name) → Among q qs → IsMember is_entry q) → Comes s.flows entry (copies_for copy (these qs)) (Leaves (others is_entry qs))
-    copies_leave [] each = comes_none s.flows entry (Leaves []) tt
+    pub copies_leave : (qs : List Name) → ((q : Name) → Among q qs → IsMember is_entry q) → Comes s.flows entry s.time (copies_for copy (these qs)) (Leaves (others is_entry qs))
+    copies_leave [] each = comes_none s.flows entry s.time (Leaves []) tt
     copies_leave (q ∷ qs) each =
         let r = each q here in
         one_more q qs r (is_entry q) (ap (λ n. nat_eq n regs.in_port) (number_is q r.port r.key r.of) ∙ r.entered) refl (copies_leave qs (λ n m. each n (there m)))

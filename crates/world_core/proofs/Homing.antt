@@ -95,7 +95,7 @@ module _ (s : Setting) (entry : Entry) (packet : Packet) (last : ℕ) (regs : Re
     pub to_in : regs.out_port < 2 ^ 16
     to_in = subst (λ n. n < 2 ^ 16) (sym aimed) (group_short group)
 
-    made_33 : (P : List Effect → Type 0) → Comes s.flows entry (copies_for copy (members_here b a group)) P → (f : Flow) → Matched s copy f → HomeRow b f → After s entry copy P f
+    made_33 : (P : List Effect → Type 0) → Comes s.flows entry s.time (copies_for copy (members_here b a group)) P → (f : Flow) → Matched s copy f → HomeRow b f → After s entry copy P f
     made_33 P rest f t (HomeRow.home r other d k zone theirs there e) =
         let fits = fits_exit regs packet d k dp_in to_in (row_fits s entry copy f t (home_row d k zone) e) in
         absurd (no_group group k regs.out_port (key_small s r other d k theirs) fits.1 aimed)
@@ -105,10 +105,10 @@ module _ (s : Setting) (entry : Entry) (packet : Packet) (last : ℕ) (regs : Re
         let same : group ≡ also = one_group group also (sym aimed ∙ fits.1) in
         let copies : copies_for copy (members_here b a group) ≡ copies_for copy (members_here b o also) ++ [] =
         (λ i. copies_for copy (members_here b (switch i) (same i))) ∙ sym (append-nil (copies_for copy (members_here b o also))) in
-        as_row s entry copy P f (copies_row d also came (members_here b o also)) e (subst (λ l. Comes s.flows entry l P) copies rest)
+        as_row s entry copy P f (copies_row d also came (members_here b o also)) e (subst (λ l. Comes s.flows entry s.time l P) copies rest)
 
     -- a copy goes on to each member that is here
-    pub group_33 : (P : List Effect → Type 0) → Comes s.flows entry (copies_for copy (members_here b a group)) P → From s entry last 33 regs packet P
+    pub group_33 : (P : List Effect → Type 0) → Comes s.flows entry s.time (copies_for copy (members_here b a group)) P → From s entry last 33 regs packet P
     group_33 P rest =
         comes_row s entry copy P (copies_row dp group arrived (members_here b a group)) (TableFlow.in_home (HomeRow.copies a dp group arrived on_switch refl)) refl
         (group_fits regs packet dp (dp_small s a dp on_switch) on group arrived (group_short group) aimed word) (λ f t. made_33 P rest f t (at_33 b f t.row t.in_table))

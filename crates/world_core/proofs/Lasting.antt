@@ -73,9 +73,8 @@ module _ (m n : State) (born : AreBorn m) (kept : AreKept m n) where
   way_on way waiting next later some = record {
     crossings = record {
       in_order = subst (λ ws. IsStrictlySortedBy nat_cmp (keys_of ws)) (sym waiting) way.crossings.in_order;
-      below = λ k x among. let old = way.crossings.below k x (subst (λ ws. Among (k, x) ws) waiting among) in (old.0, subst (λ t. k < t) (sym next) old.1);
+      below = λ k x among. subst (λ t. k < t) (sym next) (way.crossings.below k x (subst (λ ws. Among (k, x) ws) waiting among));
       may = λ k x among. may_wait x (way.crossings.may k x (subst (λ ws. Among (k, x) ws) waiting among));
-      first = subst (λ t. 1 ≤ t) (sym next) way.crossings.first;
     };
     few = let old : m.next ≤ 1 + 2 ^ 64 * events_of m = way.few in omega (arith, old, next, later);
     none = λ z. absurd (some z);

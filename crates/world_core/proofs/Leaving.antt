@@ -61,7 +61,7 @@ module _ (s : Setting) (entry : Entry) where
 
   -- what a copy comes to that stands before a table
   abbrev pub From : ℕ → ℕ → Regs → Packet → (List Effect → Type 0) → Type 0
-  From last table regs packet P = Comes s.flows entry (copy_at last table regs packet ∷ []) P
+  From last table regs packet P = Comes s.flows entry s.time (copy_at last table regs packet ∷ []) P
 
   pub pass : (table next : ℕ) → ((f : Flow) → TableFlow b f → f.table ≡ table → IsPass table next f) → (a : Name) (dp : ℕ) → IsDatapath b a dp → TableFlow b (pass_row dp table next)
       → (last : ℕ) (regs : Regs) (packet : Packet) → regs.dp ≡ dp → (P : List Effect → Type 0) → From table next regs packet P → From last table regs packet P
@@ -99,7 +99,7 @@ module _ (s : Setting) (entry : Entry) where
     out_64 last regs on aimed f t (OutputRow.output r other d k theirs e) =
         let copy = copy_at last 64 regs packet in
         let fits = fits_exit regs packet d k (dp_within regs on) (to_within regs aimed) (row_fits s entry copy f t (output_row d r k) e) in
-        as_row s entry copy Out f (output_row d r k) e (comes_none s.flows entry (λ more. Out (effect.Out r packet ∷ more)) (ap (λ n. effect.Out n packet ∷ []) (sym (same_exit r other d k theirs regs on aimed fits))))
+        as_row s entry copy Out f (output_row d r k) e (comes_none s.flows entry s.time (λ more. Out (effect.Out r packet ∷ more)) (ap (λ n. effect.Out n packet ∷ []) (sym (same_exit r other d k theirs regs on aimed fits))))
 
     -- table 64: it goes out
     pub leave_64 : (last : ℕ) (regs : Regs) → regs.dp ≡ dp → regs.out_port ≡ key → From last 64 regs packet Out
@@ -150,7 +150,7 @@ module _ (s : Setting) (entry : Entry) where
       turned : regs.in_port ≡ key → bit_and regs.flags.0 1 ≡ 0 → (f : Flow) → Matched s copy f → ReturnRow b f → After s entry copy Back f
       turned entered off f t (ReturnRow.back r other d k theirs e) =
           as_row s entry copy Back f (return_row d k) e
-          (comes_none s.flows entry (λ more. Back (effect.Drop regs.dp regs.out_port Loopback ∷ more)) (λ i. effect.Drop (on i) (aimed i) Loopback ∷ []))
+          (comes_none s.flows entry s.time (λ more. Back (effect.Drop regs.dp regs.out_port Loopback ∷ more)) (λ i. effect.Drop (on i) (aimed i) Loopback ∷ []))
       turned entered off f t (ReturnRow.leave e) =
           absurd (t.unbeaten (return_row dp key) (TableFlow.in_back (ReturnRow.back q port dp key of refl)) refl (return_fits regs packet dp small on key short aimed entered off)
           (subst (λ (g : Flow). g.priority < 100) (sym e) (omega arith)))

@@ -29,7 +29,7 @@ abbrev pub AreLostAs : ℕ → List End → Type 0
 AreLostAs n [] = Unit {0}
 AreLostAs n (e ∷ es) = IsLostAs n e × AreLostAs n es
 
-module _ (keys : Keys) (s : sim.State) (named : AreNamed keys s) (chassis : Name) (from : Start) where
+module _ (keys : Keys) (s : sim.SimState) (named : AreNamed keys s) (chassis : Name) (from : Start) where
   datapath_name : (a : Name) (vni : ℕ) → HasDatapathKey keys a vni → name_of s.names vni 0 ≡ a
   datapath_name a vni h = ap (λ n. name_of s.names n 0) (sym h.number) ∙ named.datapaths a h.live h.has
 

@@ -15,7 +15,7 @@ use Rattle.ovn_base.proofs.AmongLaws.{among_append, among_cases, among_none, amo
 use Rattle.ovn_base.proofs.MacLemmas.{same_mac_number}
 use Rattle.ovn_base.specs.Once.{EachOnce}
 use Rattle.ovn_base.specs.ByName.{at}
-use Rattle.flow_table.proofs.ChangeLaws.{once_append, once_map}
+use Rattle.flow_table.proofs.OnceLaws.{once_append, once_map}
 use Rattle.flow_table.specs.declared.flow.Flow.{Flow}
 use Rattle.flow_table.specs.declared.flow.FlowOp.{FlowOp}
 use Rattle.flow_table.specs.declared.flow.FlowOp.TheVariants.{Set, Go, Drop, Header, Frame, Copies, Output}

@@ -12,7 +12,7 @@ use Rattle.ovn_base.specs.declared.name.Name.{Name}
 use Rattle.ovn_base.proofs.AmongLaws.{among_map, map_among, flat_map_among, among_all}
 use Rattle.ovn_base.specs.Once.{EachOnce}
 use Rattle.ovn_base.specs.ByName.{IsByName}
-use Rattle.flow_table.proofs.ChangeLaws.{once_append}
+use Rattle.flow_table.proofs.OnceLaws.{once_append}
 use Rattle.ovn_base.proofs.Puts.{below_apart}
 
 module _ {X Y : Type 0} where

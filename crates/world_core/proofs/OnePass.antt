@@ -30,7 +30,7 @@ use Rattle.chassis_sim.specs.declared.out.SimOut.{SimOut}
 use Rattle.chassis_sim.specs.declared.underlay.WaitingFrame.{WaitingFrame}
 use Rattle.edit_reader.specs.declared.event.Event.{Event}
 use Rattle.edit_reader.specs.declared.event.Event.TheVariants as event_of
-use Rattle.world_core.specs.Passing.{GoesIn, AreDrained, Passes, no_out}
+use Rattle.world_core.specs.Passing.{GoesIn, AreDrained, Passes, clock, no_out}
 use Rattle.world_core.specs.Step.{most_arrivals}
 use Rattle.world_core.specs.Seen.{Seen, IsSound, AreHeld}
 use Rattle.world_core.proofs.Found.{some_of, is_some_of}
@@ -40,10 +40,10 @@ use Rattle.world_core.proofs.OneWalk as walk
 -- through the first flows and through the others a packet takes one walk
 abbrev HaveOneWalk : List Flow → List Flow → Type 0
 HaveOneWalk flows more =
-    (entry : Entry) (packet : inet.Packet) (steps others : List Step) (effects last : List Effect) → IsWalkOf flows entry packet steps effects → IsWalkOf more entry packet others last → (steps ≡ others) × (effects ≡ last)
+    (entry : Entry) (now : ℕ) (packet : inet.Packet) (steps others : List Step) (effects last : List Effect) → IsWalkOf flows entry now packet steps effects → IsWalkOf more entry now packet others last → (steps ≡ others) × (effects ≡ last)
 
 -- both hold the same chassis, bindings and waiting frames, and flows that give one walk
-record AreAlike (a b : sim.State) : Type 0 where
+record AreAlike (a b : sim.SimState) : Type 0 where
   bindings : (q : Name) → named a.bindings q ≡ named b.bindings q
   held : (c : Name) → IsSome (named a.chassis c) → IsSome (named b.chassis c)
   held_too : (c : Name) → IsSome (named b.chassis c) → IsSome (named a.chassis c)
@@ -74,12 +74,12 @@ same_frames names others chassis start next (Drop vni port cause ∷ effects) = 
 same_frames names others chassis start next (Lost ∷ effects) = same_frames names others chassis start next effects
 
 -- the same walks came, and what is held is alike
-record Same (after later : SimOut) (new other : sim.State) : Type 0 where
+record Same (after later : SimOut) (new other : sim.SimState) : Type 0 where
   walks : after.walks ≡ later.walks
   alike : AreAlike new other
 
-module _ (a b : sim.State) (alike : AreAlike a b) where
-  told_alike : (chassis : Name) (start : Start) (steps : List Step) (effects : List Effect) (before then after later : SimOut) (new other : sim.State) → before.walks ≡ then.walks
+module _ (a b : sim.SimState) (alike : AreAlike a b) where
+  told_alike : (chassis : Name) (start : Start) (steps : List Step) (effects : List Effect) (before then after later : SimOut) (new other : sim.SimState) → before.walks ≡ then.walks
       → IsTold a chassis start steps effects before after new → IsTold b chassis start steps effects then later other → Same after later new other
   told_alike chassis start steps effects before then after later new other walks h k =
       let first : List NetEffect = all_in_names a.names chassis start a.next effects in
@@ -101,7 +101,7 @@ module _ (a b : sim.State) (alike : AreAlike a b) where
       }
 
   -- the second is told what the first is
-  told_as : (chassis home : Name) (start : Start) (steps others : List Step) (effects last : List Effect) (then later : SimOut) (other : sim.State) → chassis ≡ home → (steps ≡ others) × (effects ≡ last)
+  told_as : (chassis home : Name) (start : Start) (steps others : List Step) (effects last : List Effect) (then later : SimOut) (other : sim.SimState) → chassis ≡ home → (steps ≡ others) × (effects ≡ last)
       → IsTold b home start others last then later other → IsTold b chassis start steps effects then later other
   told_as chassis home start steps others effects last then later other same walks k =
       subst (λ c. IsTold b c start steps effects then later other) (sym same)
@@ -117,11 +117,11 @@ module _ (a b : sim.State) (alike : AreAlike a b) where
       let s = some_of (named a.chassis d) (alike.held_too d (is_some_of (named b.chassis d) flows is)) in
       none-some s.0 (sym none ∙ ap (λ n. named a.chassis n) same ∙ s.1)
 
-  injected_alike : (p : Name) (packet : inet.Packet) (before then after later : SimOut) (new other : sim.State) → before.walks ≡ then.walks
-      → IsInjected a p packet before after new → IsInjected b p packet then later other → Same after later new other
+  injected_alike : (p : Name) (packet : inet.Packet) (before then after later : SimOut) (new other : sim.SimState) → before.walks ≡ then.walks
+      → IsInjected a p clock packet before after new → IsInjected b p clock packet then later other → Same after later new other
   injected_alike p packet before then after later new other walks (IsInjected.through c flows steps effects home held walked told) (IsInjected.through d more others last there kept again said) =
       let same : c ≡ d = same_Some c d (sym home ∙ alike.bindings p ∙ there) in
-      let one = alike.walks c flows more held (ap (λ n. named b.chassis n) same ∙ kept) (Vif p) packet steps others effects last walked again in
+      let one = alike.walks c flows more held (ap (λ n. named b.chassis n) same ∙ kept) (Vif p) clock packet steps others effects last walked again in
       told_alike c (start_at.Port p) steps effects before then after later new other walks told (told_as c d (start_at.Port p) steps others effects last then later other same one said)
   injected_alike p packet before then after later new other walks (IsInjected.through c flows steps effects home held walked told) (IsInjected.nowhere d there none said) =
       absurd (both_held c d flows (same_Some c d (sym home ∙ alike.bindings p ∙ there)) held none)
@@ -131,10 +131,10 @@ module _ (a b : sim.State) (alike : AreAlike a b) where
       let same : c ≡ d = same_Some c d (sym home ∙ alike.bindings p ∙ there) in
       told_alike c (start_at.Port p) [] [] before then after later new other walks told (told_as c d (start_at.Port p) [] [] [] [] then later other same (refl, refl) said)
 
-  goes_in_alike : (p : Name) (frame : List ℕ) (before then after later : SimOut) (new other : sim.State) → before.walks ≡ then.walks → GoesIn a p frame before after new → GoesIn b p frame then later other → Same after later new other
+  goes_in_alike : (p : Name) (frame : List ℕ) (before then after later : SimOut) (new other : sim.SimState) → before.walks ≡ then.walks → GoesIn a p frame before after new → GoesIn b p frame then later other → Same after later new other
   goes_in_alike p frame before then after later new other walks h k =
       let packet : h.packet ≡ k.packet = one_packet_at_most h.packet k.packet h.whole k.whole (h.frame_is ∙ sym k.frame_is) in
-      injected_alike p k.packet before then after later new other walks (subst (λ x. IsInjected a p x before after new) packet h.injected) k.injected
+      injected_alike p k.packet before then after later new other walks (subst (λ x. IsInjected a p clock x before after new) packet h.injected) k.injected
 
   arrived_still : (n : ℕ) (keep : Bool) → AreAlike (arrived a n keep) (arrived b n keep)
   arrived_still n keep = record {
@@ -159,18 +159,18 @@ one_carried bytes vni in_key out_key packet other_vni other_in other_out other h
     let same = one_spelled bytes vni in_key out_key (frame_of packet) other_vni other_in other_out (frame_of other) h.spelled k.spelled in
     record { vnis = same.0; in_keys = same.1; out_keys = same.2; packets = one_packet_at_most packet other h.whole k.whole same.3 }
 
-module _ (a b : sim.State) (alike : AreAlike a b) (n : ℕ) (keep : Bool) where
+module _ (a b : sim.SimState) (alike : AreAlike a b) (n : ℕ) (keep : Bool) where
   one_frame : (f g : WaitingFrame) → numbered a.waiting n ≡ Some f → numbered b.waiting n ≡ Some g → f ≡ g
   one_frame f g h k = same_Some f g (sym h ∙ ap (λ ws. numbered ws n) alike.waiting ∙ k)
 
-  arrives_alike : (before then after later : SimOut) (new other : sim.State) → before.walks ≡ then.walks → Arrives a n keep before after new → Arrives b n keep then later other → Same after later new other
+  arrives_alike : (before then after later : SimOut) (new other : sim.SimState) → before.walks ≡ then.walks → Arrives a n keep clock before after new → Arrives b n keep clock then later other → Same after later new other
   arrives_alike before then after later new other walks (Arrives.through f flows v i o packet steps effects waits held carried walked told) (Arrives.through g more w j p own others last waits_too kept carries again said) =
       let frame : f ≡ g = one_frame f g waits waits_too in
       let to : f.to ≡ g.to = ap (λ (x : WaitingFrame). x.to) frame in
       let same = one_carried g.bytes v i o packet w j p own (subst (λ (x : WaitingFrame). Carries x.bytes v i o packet) frame carried) carries in
       let entry : Tunnel v i o ≡ Tunnel w j p = λ t. Tunnel (same.vnis t) (same.in_keys t) (same.out_keys t) in
-      let moved : IsWalkOf flows (Tunnel w j p) own steps effects = subst (λ x. IsWalkOf flows (Tunnel w j p) x steps effects) same.packets (subst (λ e. IsWalkOf flows e packet steps effects) entry walked) in
-      let one = alike.walks f.to flows more held (ap (λ c. named b.chassis c) to ∙ kept) (Tunnel w j p) own steps others effects last moved again in
+      let moved : IsWalkOf flows (Tunnel w j p) clock own steps effects = subst (λ x. IsWalkOf flows (Tunnel w j p) clock x steps effects) same.packets (subst (λ e. IsWalkOf flows e clock packet steps effects) entry walked) in
+      let one = alike.walks f.to flows more held (ap (λ c. named b.chassis c) to ∙ kept) (Tunnel w j p) clock own steps others effects last moved again in
       told_alike (arrived a n keep) (arrived b n keep) (arrived_still a b alike n keep) f.to (start_at.Frame n) steps effects before then after later new other walks told
       (told_as (arrived a n keep) (arrived b n keep) (arrived_still a b alike n keep) f.to g.to (start_at.Frame n) steps others effects last then later other to one said)
   arrives_alike before then after later new other walks (Arrives.through f flows v i o packet steps effects waits held carried walked told) (Arrives.gone g waits_too none said) =
@@ -184,17 +184,17 @@ module _ (a b : sim.State) (alike : AreAlike a b) (n : ℕ) (keep : Bool) where
 
 -- ---- all that wait
 
-drained_alike : (most : ℕ) (a b : sim.State) → AreAlike a b → (before then after later : SimOut) (new other : sim.State) → before.walks ≡ then.walks → AreDrained most a before after new → AreDrained most b then later other → after.walks ≡ later.walks
+drained_alike : (most : ℕ) (a b : sim.SimState) → AreAlike a b → (before then after later : SimOut) (new other : sim.SimState) → before.walks ≡ then.walks → AreDrained most a before after new → AreDrained most b then later other → after.walks ≡ later.walks
 drained_alike zero a b alike before then after later new other walks h k = ap (λ (o : SimOut). o.walks) h.0 ∙ walks ∙ ap (λ (o : SimOut). o.walks) (sym k.0)
 drained_alike (suc most) a b alike before then after later new other walks (inl h) (inl k) = ap (λ (o : SimOut). o.walks) h.1 ∙ walks ∙ ap (λ (o : SimOut). o.walks) (sym k.1)
 drained_alike (suc most) a b alike before then after later new other walks (inl h) (inr k) = absurd (some_wait (k.n, k.frame) k.behind a.waiting (alike.waiting ∙ k.first) h.0)
 drained_alike (suc most) a b alike before then after later new other walks (inr h) (inl k) = absurd (some_wait (h.n, h.frame) h.behind a.waiting h.first (alike.waiting ∙ k.0))
 drained_alike (suc most) a b alike before then after later new other walks (inr h) (inr k) =
     let number : h.n ≡ k.n = ap first_number (sym h.first ∙ alike.waiting ∙ k.first) in
-    let first = arrives_alike a b alike k.n false before then h.between k.between h.mid k.mid walks (subst (λ n. Arrives a n false before h.between h.mid) number h.arrives) k.arrives in
+    let first = arrives_alike a b alike k.n false before then h.between k.between h.mid k.mid walks (subst (λ n. Arrives a n false clock before h.between h.mid) number h.arrives) k.arrives in
     drained_alike most h.mid k.mid first.alike h.between k.between after later new other first.walks h.others k.others
 
-through_alike : (most : ℕ) (a b : sim.State) → AreAlike a b → (p : Name) (frame : List ℕ) (between amid after later : SimOut) (mid half new other : sim.State) → GoesIn a p frame no_out between mid → AreDrained most mid between after new
+through_alike : (most : ℕ) (a b : sim.SimState) → AreAlike a b → (p : Name) (frame : List ℕ) (between amid after later : SimOut) (mid half new other : sim.SimState) → GoesIn a p frame no_out between mid → AreDrained most mid between after new
     → GoesIn b p frame no_out amid half → AreDrained most half amid later other → after.walks ≡ later.walks
 through_alike most a b alike p frame between amid after later mid half new other h d k e =
     let first = goes_in_alike a b alike p frame no_out no_out between amid mid half refl h k in
@@ -202,7 +202,7 @@ through_alike most a b alike p frame between amid after later mid half new other
 
 -- ---- events
 
-pub same_walks : (one two : Seen) (event : Event) (out more : SimOut) (new other : sim.State) → IsSound one → IsSound two → one.state ≡ two.state → one.zones ≡ two.zones
+pub same_walks : (one two : Seen) (event : Event) (out more : SimOut) (new other : sim.SimState) → IsSound one → IsSound two → one.state ≡ two.state → one.zones ≡ two.zones
     → Passes one.sim event out new → Passes two.sim event more other → out.walks ≡ more.walks
 same_walks one two (event_of.Edit ops) out more new other sound also states zones h k = h ∙ sym k
 same_walks one two (event_of.Bind p chassis) out more new other sound also states zones h k = h ∙ sym k

@@ -11,7 +11,7 @@ use Rattle.switch_engine.specs.declared.walk.Walk.{Walk}
 use Rattle.world_core.specs.Outcome.{matched}
 use Rattle.world_core.specs.Packets.{AreGone, HasArrived, HasEntered, most_sent}
 use Rattle.world_core.specs.Parts.{IsDone, IsTaken}
-use Rattle.world_core.specs.Passing.{AreDrained, GoesIn, Passes, no_out}
+use Rattle.world_core.specs.Passing.{AreDrained, GoesIn, Passes, clock, no_out}
 use Rattle.world_core.specs.Refinement.{IsAmidst}
 use Rattle.world_core.specs.Seen.{Seen, AreHeld}
 use Rattle.world_core.specs.State.{State, events_of, finished}
@@ -74,11 +74,11 @@ pub arrival_done : (old : Seen) (n : ℕ) (keep : Bool) (before after : SimOut) 
 arrival_done old n true before after mid new count t room none h then counts =
     let own : after.effects ≡ h.effects = h.all ∙ ap (λ l. l ++ h.effects) none.effects in
     finish_done old (event_of.Repeat n) after.effects after.walks mid new count t room (arrives_events old.state n true h.effects mid.state h.happens) (subst (λ es. Arrives old.state n true es mid.state) (sym own) h.happens)
-    (subst (λ b. passing.Arrives old.sim n true b after mid.sim) (nothing before none) h.passed) h.amidst h.held h.rest then refl counts
+    (subst (λ b. passing.Arrives old.sim n true clock b after mid.sim) (nothing before none) h.passed) h.amidst h.held h.rest then refl counts
 arrival_done old n false before after mid new count t room none h then counts =
     let own : after.effects ≡ h.effects = h.all ∙ ap (λ l. l ++ h.effects) none.effects in
     finish_done old (event_of.Deliver n) after.effects after.walks mid new count t room (arrives_events old.state n false h.effects mid.state h.happens) (subst (λ es. Arrives old.state n false es mid.state) (sym own) h.happens)
-    (subst (λ b. passing.Arrives old.sim n false b after mid.sim) (nothing before none) h.passed) h.amidst h.held h.rest then refl counts
+    (subst (λ b. passing.Arrives old.sim n false clock b after mid.sim) (nothing before none) h.passed) h.amidst h.held h.rest then refl counts
 
 pub drain_done : (old : Seen) (before after : SimOut) (mid new : Seen) (count : ℕ) → IsTaken old → events_of old.state < 2 ^ 42 → IsNothing before → AreGone most_arrivals old before after mid
     → new ≡ record mid { state = finished mid.state } → count ≡ matched after.walks → IsDone old event_of.Drain after.effects after.walks count new

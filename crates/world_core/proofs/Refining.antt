@@ -66,7 +66,7 @@ from_sorted n (x ∷ xs) = behind_sorted ((n, x) ∷ []) (numbered_from (n + 1) 
 
 -- ---- what is told
 
-module _ (k : State) (zones : List (Name × ℕ)) (z new : sim.State) (h : AreHeld k zones z) (chassis : Name) (from : Start) (steps : List engine.Step) (ends : List End) (effects : List Effect)
+module _ (k : State) (zones : List (Name × ℕ)) (z new : sim.SimState) (h : AreHeld k zones z) (chassis : Name) (from : Start) (steps : List engine.Step) (ends : List End) (effects : List Effect)
     (numbers : AllZip (IsNumbered k.keys) ends effects) (lost : AreLostAs (arrived_as from) ends) (before after : SimOut) (told : IsTold z chassis from steps effects before after new) where
   names_are : all_in_names z.names chassis from z.next effects ≡ effects_of k.keys chassis k.next ends
   names_are = all_named k.keys z h.names chassis from z.next ends effects numbers lost ∙ ap (λ n. effects_of k.keys chassis n ends) h.next
@@ -76,22 +76,22 @@ module _ (k : State) (zones : List (Name × ℕ)) (z new : sim.State) (h : AreHe
 
   new_waiting : new.waiting ≡ map (frame_of_crossing k.keys) (sent_on k ends).waiting
   new_waiting =
-      ap (λ (s : sim.State). s.waiting) told.state ∙ ap (λ es. z.waiting ++ frames_sent es) names_are ∙ ap (λ fs. z.waiting ++ fs) (frames_named k.keys chassis k.next ends)
+      ap (λ (s : sim.SimState). s.waiting) told.state ∙ ap (λ es. z.waiting ++ frames_sent es) names_are ∙ ap (λ fs. z.waiting ++ fs) (frames_named k.keys chassis k.next ends)
       ∙ ap (λ ws. ws ++ map (frame_of_crossing k.keys) (numbered_from k.next (crossings_in ends))) h.waiting
       ∙ sym (map_both (frame_of_crossing k.keys) k.waiting (numbered_from k.next (crossings_in ends)))
 
   new_next : new.next ≡ (sent_on k ends).next
-  new_next = ap (λ (s : sim.State). s.next) told.state ∙ next_named k.keys z h.names chassis from z.next ends effects numbers ∙ ap (λ n. n + length (crossings_in ends)) h.next
+  new_next = ap (λ (s : sim.SimState). s.next) told.state ∙ next_named k.keys z h.names chassis from z.next ends effects numbers ∙ ap (λ n. n + length (crossings_in ends)) h.next
 
   flows_then : (c : Name) (flows : List Flow) → sim.named z.chassis c ≡ Some flows → AreFlowsOf (sent_on k ends) zones c flows
   flows_then c flows is = h.flows c flows is
 
   pub told_held : AreHeld (sent_on k ends) zones new
   told_held = record {
-    bindings = λ q. ap (λ (s : sim.State). sim.named s.bindings q) told.state ∙ h.bindings q;
-    names = subst (λ (s : sim.State). AreNamed k.keys s) (sym told.state) (record { datapaths = h.names.datapaths; ports = h.names.ports });
-    held = λ c. subst (λ (s : sim.State). IsSome (sim.named s.chassis c) ↔ Among c k.chassis) (sym told.state) (h.held c);
-    flows = λ c flows is. flows_then c flows (sym (ap (λ (s : sim.State). sim.named s.chassis c) told.state) ∙ is);
+    bindings = λ q. ap (λ (s : sim.SimState). sim.named s.bindings q) told.state ∙ h.bindings q;
+    names = subst (λ (s : sim.SimState). AreNamed k.keys s) (sym told.state) (record { datapaths = h.names.datapaths; ports = h.names.ports });
+    held = λ c. subst (λ (s : sim.SimState). IsSome (sim.named s.chassis c) ↔ Among c k.chassis) (sym told.state) (h.held c);
+    flows = λ c flows is. flows_then c flows (sym (ap (λ (s : sim.SimState). sim.named s.chassis c) told.state) ∙ is);
     waiting = new_waiting;
     next = new_next;
   }
@@ -142,16 +142,15 @@ amidst_with m zones more most waiting next a crossings few = record {
 -- new crossings come behind those that wait
 pub crossings_behind : (m : State) (ends : List End) → AreCrossings m → ((x : Crossing) → Among x (crossings_in ends) → MayWait m x) → AreCrossings (sent_on m ends)
 crossings_behind m ends c may = record {
-  in_order = behind_sorted m.waiting new m.next c.in_order (λ n x w. (c.below n x w).1) (from_sorted m.next (crossings_in ends)) (λ n x w. (from_among m.next (crossings_in ends) n x w).0);
+  in_order = behind_sorted m.waiting new m.next c.in_order (λ n x w. c.below n x w) (from_sorted m.next (crossings_in ends)) (λ n x w. (from_among m.next (crossings_in ends) n x w).0);
   below = λ n x w. elim (among_append (n, x) m.waiting new w) [
-    | inl old ↦ let b = c.below n x old in let low = b.0 in let high = b.1 in (omega (arith, low), omega (arith, high))
-    | inr own ↦ let b = from_among m.next (crossings_in ends) n x own in let low = b.0 in let high = b.1 in let first = c.first in (omega (arith, low, first), omega (arith, high))
+    | inl old ↦ let b = c.below n x old in omega (arith, b)
+    | inr own ↦ let b = from_among m.next (crossings_in ends) n x own in let high = b.1 in omega (arith, high)
   ];
   may = λ n x w. elim (among_append (n, x) m.waiting new w) [
     | inl old ↦ may_still m (m.waiting ++ new) next x (c.may n x old)
     | inr own ↦ may_still m (m.waiting ++ new) next x (may x (from_among m.next (crossings_in ends) n x own).2)
   ];
-  first = let first = c.first in omega (arith, first);
 }
   where
     new : List (ℕ × Crossing)
@@ -167,14 +166,13 @@ crossings_kept false m n c = record {
   in_order = removed_sorted m.waiting n c.in_order;
   below = λ k x w. c.below k x (removed_among m.waiting n (k, x) w);
   may = λ k x w. may_still m (remove_entry (is_at (nat_cmp n)) m.waiting) m.next x (c.may k x (removed_among m.waiting n (k, x) w));
-  first = c.first;
 }
 
 pub amidst_kept : (keep : Bool) (m : State) (zones : List (Name × ℕ)) (more n : ℕ) → IsAmidst m zones more → IsAmidst (with_kept keep m n) zones more
 amidst_kept true m zones more n a = a
 amidst_kept false m zones more n a = amidst_with m zones more more (remove_entry (is_at (nat_cmp n)) m.waiting) m.next a (crossings_kept false m n a.crossings) a.few_sent
 
-pub held_kept : (keep : Bool) (m : State) (zones : List (Name × ℕ)) (s : sim.State) (n : ℕ) → AreHeld m zones s → AreHeld (with_kept keep m n) zones (arrived s n keep)
+pub held_kept : (keep : Bool) (m : State) (zones : List (Name × ℕ)) (s : sim.SimState) (n : ℕ) → AreHeld m zones s → AreHeld (with_kept keep m n) zones (arrived s n keep)
 held_kept true m zones s n h = h
 held_kept false m zones s n h = record {
   bindings = h.bindings;

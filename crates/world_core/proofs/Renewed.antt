@@ -59,7 +59,7 @@ module _ {T : Type 0} (flows_of : T → List Flow) where
         ]
   ]
 
-  module _ (m : State) (zones : List (Name × ℕ)) (old new : sim.State) (change : SimChange T) (added : keys_of change.added ≡ m.chassis)
+  module _ (m : State) (zones : List (Name × ℕ)) (old new : sim.SimState) (change : SimChange T) (added : keys_of change.added ≡ m.chassis)
       (all : AllByRecursion (λ e. AreFlowsOf m zones e.0 (flows_of e.1)) change.added) (none_go : change.removed ≡ []) (none_change : change.tables ≡ []) (made : IsApplied flows_of old change new) where
     flows_then : (c : Name) → named new.chassis c ≡ then' change.added c (named old.chassis c)
     flows_then c =
@@ -113,7 +113,7 @@ settled_frames : (ws : List (ℕ × Crossing)) (keys : Keys) → map (frame_of_c
 settled_frames [] keys = refl
 settled_frames (w ∷ ws) keys = refl
 
-settled_names : (ws : List (ℕ × Crossing)) (keys : Keys) (s : sim.State) → AreNamed keys s → AreNamed (settled_where_none_waits ws keys) s
+settled_names : (ws : List (ℕ × Crossing)) (keys : Keys) (s : sim.SimState) → AreNamed keys s → AreNamed (settled_where_none_waits ws keys) s
 settled_names [] keys s names = record { datapaths = names.datapaths; ports = names.ports }
 settled_names (w ∷ ws) keys s names = names
 

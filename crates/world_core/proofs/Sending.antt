@@ -87,9 +87,9 @@ module _ (s : Setting) (p : Name) (ours : SwitchPort) (dp entered : ℕ) (from :
   )
 
   -- ends that are known
-  exactly_numbered : (copies : List Carried) (own : List Effect) (ends all : List End) → all ≡ ends → Numbered ends own → Comes s.flows (Vif p) copies (λ effects. effects ≡ own) → Comes s.flows (Vif p) copies (Numbered all)
+  exactly_numbered : (copies : List Carried) (own : List Effect) (ends all : List End) → all ≡ ends → Numbered ends own → Comes s.flows (Vif p) s.time copies (λ effects. effects ≡ own) → Comes s.flows (Vif p) s.time copies (Numbered all)
   exactly_numbered copies own ends all same are h =
-      comes_by s.flows (Vif p) copies (λ effects. effects ≡ own) (Numbered all) (λ effects e. subst (λ l. Numbered l effects) (sym same) (subst (λ l. Numbered ends l) (sym e) are)) h
+      comes_by s.flows (Vif p) s.time copies (λ effects. effects ≡ own) (Numbered all) (λ effects e. subst (λ l. Numbered l effects) (sym same) (subst (λ l. Numbered ends l) (sym e) are)) h
 
   -- ---- one port
 
@@ -106,14 +106,14 @@ module _ (s : Setting) (p : Name) (ours : SwitchPort) (dp entered : ℕ) (from :
     sent_by home here own =
         cond here (cond own (is_dropped ours.switch q Loopback ∷ []) (leaves q packet ∷ [])) (crosses (crossing_to origin packet (ToPort (identity q port.birth)) home) ∷ [])
 
-    unbound : at s.m.bindings q ≡ None → Comes s.flows (Vif p) start (Numbered (sent_home origin packet q port (at s.m.bindings q)))
+    unbound : at s.m.bindings q ≡ None → Comes s.flows (Vif p) s.time start (Numbered (sent_home origin packet q port (at s.m.bindings q)))
     unbound free =
         let own = effect.Drop dp key Unbound ∷ [] in
         exactly_numbered start own (is_dropped ours.switch q Unbound ∷ []) (sent_home origin packet q port (at s.m.bindings q)) (ap (λ o. sent_home origin packet q port o) free) (drop_numbered q port key of together Unbound)
         (stay_32 s (Vif p) packet last regs q port dp key of on aimed (λ home is. absurd (none-some home (sym free ∙ is))) (λ effects. effects ≡ own)
         (away_33 s (Vif p) packet 32 regs q port dp key of on aimed (λ is. none-some s.chassis (sym free ∙ is)) (λ effects. effects ≡ own) (λ i. effect.Drop (on i) (aimed i) Unbound ∷ [])))
 
-    remote : (home : Name) → at s.m.bindings q ≡ Some home → same_name home s.chassis ≡ false → Comes s.flows (Vif p) start (Numbered (sent_home origin packet q port (at s.m.bindings q)))
+    remote : (home : Name) → at s.m.bindings q ≡ Some home → same_name home s.chassis ≡ false → Comes s.flows (Vif p) s.time start (Numbered (sent_home origin packet q port (at s.m.bindings q)))
     remote home bound apart =
         let other : home ≢ s.chassis = λ same. false≢true (sym apart ∙ (bytes_decides home s.chassis).1 same) in
         let own = effect.Frame home dp regs.in_port key packet ∷ [] in
@@ -129,20 +129,20 @@ module _ (s : Setting) (p : Name) (ours : SwitchPort) (dp entered : ℕ) (from :
       bound_here = bound ∙ ap (λ n. Some n) ((bytes_decides home s.chassis).0 is_here)
 
       -- what follows from table 34
-      through : (P : List Effect → Type 0) → ((zone : ℕ) → From s (Vif p) 33 34 (record regs { z_out = zone }) packet P) → Comes s.flows (Vif p) start P
+      through : (P : List Effect → Type 0) → ((zone : ℕ) → From s (Vif p) 33 34 (record regs { z_out = zone }) packet P) → Comes s.flows (Vif p) s.time start P
       through P rest =
           let zone = zone_here s q bound_here in
           stay_32 s (Vif p) packet last regs q port dp key of on aimed (λ n is. same_Some n s.chassis (sym is ∙ bound_here)) P
           (home_33 s (Vif p) packet 32 regs q port dp key of on aimed zone.0 zone.1 P rest)
 
-      turned : same_name q p ≡ true → Comes s.flows (Vif p) start (Numbered (sent_home origin packet q port (at s.m.bindings q)))
+      turned : same_name q p ≡ true → Comes s.flows (Vif p) s.time start (Numbered (sent_home origin packet q port (at s.m.bindings q)))
       turned own =
           let equal : key ≡ entered = one_key s q p port ours dp dp key entered of from ((bytes_decides q p).0 own) in
           exactly_numbered start (effect.Drop dp key Loopback ∷ []) (is_dropped ours.switch q Loopback ∷ []) (sent_home origin packet q port (at s.m.bindings q))
           (ap (λ o. sent_home origin packet q port o) bound ∙ ap (λ v. sent_by home v (same_name q p)) is_here ∙ ap (λ v. sent_by home true v) own) (drop_numbered q port key of together Loopback)
           (through (λ effects. effects ≡ effect.Drop dp key Loopback ∷ []) (λ zone. back_34 s (Vif p) q port dp key of packet 33 (record regs { z_out = zone }) on aimed (came ∙ sym equal) off))
 
-      out : same_name q p ≡ false → Comes s.flows (Vif p) start (Numbered (sent_home origin packet q port (at s.m.bindings q)))
+      out : same_name q p ≡ false → Comes s.flows (Vif p) s.time start (Numbered (sent_home origin packet q port (at s.m.bindings q)))
       out other =
           let apart : regs.in_port ≢ key = λ same. false≢true (sym other ∙ (bytes_decides q p).1 (one_port s q p port ours dp dp key entered of from refl (sym same ∙ came))) in
           exactly_numbered start (effect.Out q packet ∷ []) (leaves q packet ∷ []) (sent_home origin packet q port (at s.m.bindings q))
@@ -153,7 +153,7 @@ module _ (s : Setting) (p : Name) (ours : SwitchPort) (dp entered : ℕ) (from :
     pub sent_one : From s (Vif p) last 32 regs packet (Numbered (sent_home origin packet q port (at s.m.bindings q)))
     sent_one = by (at s.m.bindings q) refl
       where
-        by : (o : Option Name) → at s.m.bindings q ≡ o → Comes s.flows (Vif p) start (Numbered (sent_home origin packet q port (at s.m.bindings q)))
+        by : (o : Option Name) → at s.m.bindings q ≡ o → Comes s.flows (Vif p) s.time start (Numbered (sent_home origin packet q port (at s.m.bindings q)))
         by None free = unbound free
         by (Some home) bound = elim (cases_Bool (same_name home s.chassis)) [
           | inl is_here ↦ elim (cases_Bool (same_name q p)) [ inl own ↦ turned home bound is_here own | inr other ↦ out home bound is_here other ]
@@ -194,5 +194,5 @@ module _ (s : Setting) (p : Name) (ours : SwitchPort) (dp entered : ℕ) (from :
         let homes = homes_of b ours.switch g in
         spread_32 s (Vif p) packet last regs ours.switch dp from.on g on aimed word P
         (group_33 s (Vif p) packet 32 regs ours.switch dp from.on g false on aimed word (λ more. P (map (λ home. frame_to home copy) homes ++ more))
-        (comes_by s.flows (Vif p) _ (Numbered others) (λ more. P (map (λ home. frame_to home copy) homes ++ more)) (λ more h. frames_numbered g homes others more copy refl on came aimed h)
+        (comes_by s.flows (Vif p) s.time _ (Numbered others) (λ more. P (map (λ home. frame_to home copy) homes ++ more)) (λ more h. frames_numbered g homes others more copy refl on came aimed h)
         (copies_leave s (Vif p) dp 32 regs packet on within (λ n. same_name n p) here_at member)))

@@ -56,7 +56,6 @@ module _ (c : State) (zones : List (Name × ℕ)) (old : IsConsistent c zones) w
         in_order = old.on_the_way.crossings.in_order;
         below = old.on_the_way.crossings.below;
         may = λ k x among. absurd (none_waits e k x among);
-        first = old.on_the_way.crossings.first;
       };
       few = old.on_the_way.few;
       none = old.on_the_way.none;

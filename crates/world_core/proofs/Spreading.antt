@@ -31,9 +31,9 @@ use Rattle.world_core.proofs.RowFits.{everything_fits, exit_fits, group_fits, fi
 abbrev spread : Carried → List Name → Outcome
 spread copy homes = record { effects = map (λ home. frame_to home copy) homes; itself = gone_on 33 copy ∷ []; made = [] }
 
-spreads : (entry : Entry) (copy : Carried) (homes : List Name) → outcome entry (map (λ home. Frame home) homes ++ Go 33 ∷ []) copy ≡ spread copy homes
-spreads entry copy [] = refl
-spreads entry copy (home ∷ homes) = ap (λ o. with_effect (frame_to home copy) o) (spreads entry copy homes)
+spreads : (entry : Entry) (now : ℕ) (copy : Carried) (homes : List Name) → outcome entry now (map (λ home. Frame home) homes ++ Go 33 ∷ []) copy ≡ spread copy homes
+spreads entry now copy [] = refl
+spreads entry now copy (home ∷ homes) = ap (λ o. with_effect (frame_to home copy) o) (spreads entry now copy homes)
 
 module _ (s : Setting) (entry : Entry) (packet : Packet) (last : ℕ) (regs : Regs) where
   abbrev b : Basis
@@ -67,7 +67,7 @@ module _ (s : Setting) (entry : Entry) (packet : Packet) (last : ℕ) (regs : Re
       away_32 f t (RemoteRow.remote r other d k there theirs is other_home e) =
           let same : there ≡ home = same_Some there home (sym (its_home f t r other d k there theirs is e) ∙ bound) in
           as_row s entry copy Sent f (remote_row d k there) e
-          (comes_none s.flows entry (λ more. Sent (frame_to there copy ∷ more)) (λ i. effect.Frame (same i) (on i) regs.in_port (aimed i) packet ∷ []))
+          (comes_none s.flows entry s.time (λ more. Sent (frame_to there copy ∷ more)) (λ i. effect.Frame (same i) (on i) regs.in_port (aimed i) packet ∷ []))
       away_32 f t (RemoteRow.spread a d group theirs e) = absurd (not_spread f t d group (homes_of b a group) e)
       away_32 f t (RemoteRow.stay e) =
           absurd (t.unbeaten (remote_row dp key home) (TableFlow.in_remote (RemoteRow.remote q port dp key home of bound apart refl)) refl
@@ -109,7 +109,7 @@ module _ (s : Setting) (entry : Entry) (packet : Packet) (last : ℕ) (regs : Re
         where
           brings : (homes : List Name) → homes_of b a group ≡ homes → After s entry copy P (spread_row d also homes)
           brings homes are =
-              subst (λ (o : Outcome). Comes s.flows entry (going_on o) (λ more. P (o.effects ++ more))) (sym (spreads entry copy homes))
+              subst (λ (o : Outcome). Comes s.flows entry s.time (going_on o) (λ more. P (o.effects ++ more))) (sym (spreads entry s.time copy homes))
               (subst (λ l. From s entry 32 33 regs packet (λ more. P (map (λ home. frame_to home copy) l ++ more))) are rest)
       out_32 f t (RemoteRow.stay e) =
           absurd (t.unbeaten (spread_row dp group (homes_of b a group)) (TableFlow.in_remote (RemoteRow.spread a dp group on_switch refl)) refl

@@ -97,7 +97,6 @@ new_crossings = record {
   in_order = tt;
   below = λ n x among. absurd (among_none (n, x) among);
   may = λ n x among. absurd (among_none (n, x) among);
-  first = omega arith;
 }
 
 new_consistent : IsConsistent empty []
@@ -125,7 +124,7 @@ pub new_sound : IsSound new_world
 new_sound = record { whole = refl; consistent = new_consistent; held = new_held }
 
 -- and so is one that is made of empty parts
-pub starts_sound : (net : Network) (chassis : List Name) (bindings : List (Name × Name)) (keys : Keys) (zones : List (Name × ℕ)) (s : sim.State) (crossings : List (ℕ × Crossing)) (walks : List Walk)
+pub starts_sound : (net : Network) (chassis : List Name) (bindings : List (Name × Name)) (keys : Keys) (zones : List (Name × ℕ)) (s : sim.SimState) (crossings : List (ℕ × Crossing)) (walks : List Walk)
     → net ≡ empty_network → chassis ≡ [] → bindings ≡ [] → keys ≡ first_keys → zones ≡ [] → s ≡ nothing_held → crossings ≡ [] → walks ≡ []
     → IsSound (record { state = record { net = net; chassis = chassis; bindings = bindings; keys = keys; waiting = crossings; next = s.next; accepted = 0; refused = 0 }; zones = zones; sim = s; walks = walks; whole = true })
 starts_sound net chassis bindings keys zones s crossings walks e f g h i j k l = rw (e, f, g, h, i, j, k, l) new_sound

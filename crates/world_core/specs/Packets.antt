@@ -17,7 +17,7 @@ use Rattle.switch_engine.specs.declared.effect.NetEffect.{NetEffect}
 use Rattle.world_core.specs.Crossing.{group_key}
 use Rattle.world_core.specs.Effects.{spelled}
 use Rattle.world_core.specs.Naming.{HasPortKey}
-use Rattle.world_core.specs.Passing.{AreDrained, GoesIn}
+use Rattle.world_core.specs.Passing.{AreDrained, GoesIn, clock}
 use Rattle.world_core.specs.Refinement.{IsAmidst}
 use Rattle.world_core.specs.Seen.{Seen, AreHeld, frame_of_crossing}
 use Rattle.world_core.specs.Sound.{MayWait}
@@ -33,7 +33,7 @@ most_sent = 64
 
 -- The packets did this on the simulated chassis, and the effects are those of the network; the world holds the state that the network
 -- is in then, and nothing else of it changed.
-pub record HasPassed (old : Seen) (before after : SimOut) (new : Seen) (Passed : held.State → SimOut → SimOut → held.State → Type 0) (Happens : State → List NetEffect → State → Type 0) : Type 0 where
+pub record HasPassed (old : Seen) (before after : SimOut) (new : Seen) (Passed : held.SimState → SimOut → SimOut → held.SimState → Type 0) (Happens : State → List NetEffect → State → Type 0) : Type 0 where
   pub passed : Passed old.sim before after new.sim
   pub effects : List NetEffect
   pub all : after.effects ≡ before.effects ++ effects
@@ -48,7 +48,7 @@ HasEntered old p frame before after new = HasPassed old before after new (λ s b
 
 -- a frame arrived
 abbrev pub HasArrived : Seen → ℕ → Bool → SimOut → SimOut → Seen → Type 0
-HasArrived old n keep before after new = HasPassed old before after new (λ s b a t. sim.Arrives s n keep b a t) (λ m effects k. Arrives m n keep effects k)
+HasArrived old n keep before after new = HasPassed old before after new (λ s b a t. sim.Arrives s n keep clock b a t) (λ m effects k. Arrives m n keep effects k)
 
 -- the waiting frames arrived, up to so many
 abbrev pub AreGone : ℕ → Seen → SimOut → SimOut → Seen → Type 0

@@ -12,49 +12,53 @@ use Rattle.edit_reader.specs.declared.event.Event.{Event}
 use Rattle.edit_reader.specs.declared.event.Event.TheVariants.{Edit, Bind, AddChassis, Inject, Deliver, Lose, Repeat, Drain, Packet, Unread, NotBuilt}
 use Rattle.world_core.specs.Step.{most_arrivals}
 
+-- the time of every event: no event moves the clock yet
+abbrev pub clock : ℕ
+clock = 0
+
 -- nothing came of it yet
 abbrev pub no_out : SimOut
 no_out = record { effects = []; walks = [] }
 
 -- the packet of the frame goes in at the port
-pub record GoesIn (s : sim.State) (p : Name) (frame : List ℕ) (before after : SimOut) (new : sim.State) : Type 0 where
+pub record GoesIn (s : sim.SimState) (p : Name) (frame : List ℕ) (before after : SimOut) (new : sim.SimState) : Type 0 where
   pub packet : inet.Packet
   pub whole : IsWhole packet
   pub frame_is : frame_of packet ≡ frame
-  pub injected : IsInjected s p packet before after new
+  pub injected : IsInjected s p clock packet before after new
 
 -- the frame of the lowest number arrives, and then the others do
-pub record ArrivesFirst (s : sim.State) (before : SimOut) (Others : sim.State → SimOut → Type 0) : Type 0 where
+pub record ArrivesFirst (s : sim.SimState) (before : SimOut) (Others : sim.SimState → SimOut → Type 0) : Type 0 where
   pub n : ℕ
   pub frame : WaitingFrame
   pub behind : List (ℕ × WaitingFrame)
   pub first : s.waiting ≡ (n, frame) ∷ behind
   pub between : SimOut
-  pub mid : sim.State
-  pub arrives : Arrives s n false before between mid
+  pub mid : sim.SimState
+  pub arrives : Arrives s n false clock before between mid
   pub others : Others mid between
 
 -- the lowest frame arrives again and again, until none waits or so many arrived
-abbrev pub AreDrained : ℕ → sim.State → SimOut → SimOut → sim.State → Type 0
+abbrev pub AreDrained : ℕ → sim.SimState → SimOut → SimOut → sim.SimState → Type 0
 AreDrained zero s before after new = (after ≡ before) × (new ≡ s)
 AreDrained (suc k) s before after new = ((s.waiting ≡ []) × (after ≡ before) × (new ≡ s)) ⊎ ArrivesFirst s before (λ mid between. AreDrained k mid between after new)
 
 -- the packet goes in, and then all that wait arrive
-pub record GoesThrough (s : sim.State) (p : Name) (frame : List ℕ) (after : SimOut) (new : sim.State) : Type 0 where
+pub record GoesThrough (s : sim.SimState) (p : Name) (frame : List ℕ) (after : SimOut) (new : sim.SimState) : Type 0 where
   pub between : SimOut
-  pub mid : sim.State
+  pub mid : sim.SimState
   pub goes_in : GoesIn s p frame no_out between mid
   pub drained : AreDrained most_arrivals mid between after new
 
 -- what came of the packets of the event on the chassis: other events have none
-abbrev pub Passes : sim.State → Event → SimOut → sim.State → Type 0
+abbrev pub Passes : sim.SimState → Event → SimOut → sim.SimState → Type 0
 Passes s (Edit ops) out new = out.walks ≡ []
 Passes s (Bind port chassis) out new = out.walks ≡ []
 Passes s (AddChassis chassis) out new = out.walks ≡ []
 Passes s (Inject port frame) out new = GoesIn s port frame no_out out new
-Passes s (Deliver n) out new = Arrives s n false no_out out new
+Passes s (Deliver n) out new = Arrives s n false clock no_out out new
 Passes s (Lose n) out new = out.walks ≡ []
-Passes s (Repeat n) out new = Arrives s n true no_out out new
+Passes s (Repeat n) out new = Arrives s n true clock no_out out new
 Passes s Drain out new = AreDrained most_arrivals s no_out out new
 Passes s (Packet port frame) out new = GoesThrough s port frame out new
 Passes s (Unread fault) out new = ⊥

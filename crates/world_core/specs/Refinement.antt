@@ -6,7 +6,7 @@ use Rattle.chassis_sim.specs.State as held
 use Rattle.chassis_sim.specs.declared.out.SimOut.{SimOut}
 use Rattle.switch_engine.specs.declared.effect.NetEffect.{NetEffect}
 use Rattle.world_core.specs.Consistent.{IsConsistent}
-use Rattle.world_core.specs.Passing.{GoesIn}
+use Rattle.world_core.specs.Passing.{GoesIn, clock}
 use Rattle.world_core.specs.Seen.{AreHeld}
 use Rattle.world_core.specs.Sound.{IsValid, IsWithin, HaveKeys, AreBound, AreBorn, AreCrossings}
 use Rattle.world_core.specs.State.{State, events_of, finished}
@@ -25,7 +25,7 @@ pub record IsAmidst (m : State) (zones : List (Name × ℕ)) (more : ℕ) : Type
   pub few_sent : m.next ≤ 1 + 2 ^ 64 * events_of m + more
 
 -- these effects came, which the network has too; the chassis hold the state that it leaves, and `more` frames were sent beyond those of earlier events
-pub record IsRefined (zones : List (Name × ℕ)) (more : ℕ) (before after : SimOut) (new : held.State) (Happens : List NetEffect → State → Type 0) : Type 0 where
+pub record IsRefined (zones : List (Name × ℕ)) (more : ℕ) (before after : SimOut) (new : held.SimState) (Happens : List NetEffect → State → Type 0) : Type 0 where
   pub effects : List NetEffect
   pub all : after.effects ≡ before.effects ++ effects
   pub mid : State
@@ -36,7 +36,7 @@ pub record IsRefined (zones : List (Name × ℕ)) (more : ℕ) (before after : S
 -- a packet that goes in enters the network; it is sent to at most 64 chassis
 abbrev pub EntryRefines : Type 0
 EntryRefines =
-    (m : State) (zones : List (Name × ℕ)) (more : ℕ) (s new : held.State) (p : Name) (frame : List ℕ) (before after : SimOut)
+    (m : State) (zones : List (Name × ℕ)) (more : ℕ) (s new : held.SimState) (p : Name) (frame : List ℕ) (before after : SimOut)
     → IsAmidst m zones more
     → AreHeld m zones s
     → GoesIn s p frame before after new
@@ -45,16 +45,16 @@ EntryRefines =
 -- a frame that arrives is its crossing, that arrives; no frame is sent for it
 abbrev pub ArrivalRefines : Type 0
 ArrivalRefines =
-    (m : State) (zones : List (Name × ℕ)) (more : ℕ) (s new : held.State) (n : ℕ) (keep : Bool) (before after : SimOut)
+    (m : State) (zones : List (Name × ℕ)) (more : ℕ) (s new : held.SimState) (n : ℕ) (keep : Bool) (before after : SimOut)
     → IsAmidst m zones more
     → AreHeld m zones s
-    → sim.Arrives s n keep before after new
+    → sim.Arrives s n keep clock before after new
     → IsRefined zones more before after new (λ effects mid. Arrives m n keep effects mid)
 
 -- the event is over
 abbrev pub Finishes : Type 0
 Finishes =
-    (m : State) (zones : List (Name × ℕ)) (more : ℕ) (s : held.State)
+    (m : State) (zones : List (Name × ℕ)) (more : ℕ) (s : held.SimState)
     → IsAmidst m zones more
     → more ≤ 2 ^ 64
     → events_of m < 2 ^ 42

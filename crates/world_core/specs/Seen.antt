@@ -23,14 +23,14 @@ pub record Seen : Type 0 where
   -- the number of the zone of each bound port on its chassis, in order of name
   pub zones : List (Name × ℕ)
   -- the simulated chassis: the flows of each, the bindings, the names of keys, and the frames that wait
-  pub sim : sim.State
+  pub sim : sim.SimState
   -- the flows that the packets of the last event matched
   pub walks : List Walk
   -- no event was left half done
   pub whole : Bool
 
 -- each live key has its owner's name
-pub record AreNamed (keys : Keys) (s : sim.State) : Type 0 where
+pub record AreNamed (keys : Keys) (s : sim.SimState) : Type 0 where
   pub datapaths : (a : Name) (k : DatapathKey) → at keys.datapaths a ≡ Some k → name_of s.names k.key 0 ≡ a
   pub ports : (q : Name) (p : PortKey) (k : DatapathKey) → at keys.ports q ≡ Some p → at keys.datapaths p.datapath ≡ Some k → name_of s.names k.key p.key ≡ q
 
@@ -39,7 +39,7 @@ abbrev pub frame_of_crossing : Keys → ℕ × Crossing → ℕ × WaitingFrame
 frame_of_crossing keys w = (w.0, record { to = w.1.home; bytes = spelled keys w.1 })
 
 -- The simulated chassis are those of the state: each holds exactly its flows, and the frames that wait are those of the crossings.
-pub record AreHeld (m : State) (zones : List (Name × ℕ)) (s : sim.State) : Type 0 where
+pub record AreHeld (m : State) (zones : List (Name × ℕ)) (s : sim.SimState) : Type 0 where
   pub bindings : (q : Name) → named s.bindings q ≡ at m.bindings q
   pub names : AreNamed m.keys s
   pub held : (c : Name) → IsSome (named s.chassis c) ↔ Among c m.chassis

@@ -121,9 +121,8 @@ pub record MayWait (m : State) (x : Crossing) : Type 0 where
 -- the crossings that wait have numbers below the next one, each of its own
 pub record AreCrossings (m : State) : Type 0 where
   pub in_order : IsStrictlySortedBy nat_cmp (keys_of m.waiting)
-  pub below : (n : ℕ) (x : Crossing) → Among (n, x) m.waiting → (1 ≤ n) × (n < m.next)
+  pub below : (n : ℕ) (x : Crossing) → Among (n, x) m.waiting → n < m.next
   pub may : (n : ℕ) (x : Crossing) → Among (n, x) m.waiting → MayWait m x
-  pub first : 1 ≤ m.next
 
 -- between events: there weren't many, and where no event was accepted, none waits
 pub record AreOnTheWay (m : State) : Type 0 where

@@ -37,10 +37,10 @@ EntryLaw =
     → AreFlowsOf m zones c flows
     → (p : Name)
     → at m.bindings p ≡ Some c
-    → (packet : Packet)
+    → (now : ℕ) (packet : Packet)
     → IsWhole packet
     → (steps : List Step) (effects : List Effect)
-    → IsWalkOf flows (Vif p) packet steps effects
+    → IsWalkOf flows (Vif p) now packet steps effects
     → AreVisit m p packet c effects
 
 -- how the frame of a crossing comes in
@@ -58,11 +58,11 @@ ArrivalLaw =
     → MayWait m x
     → Among x.home m.chassis
     → AreFlowsOf m zones x.home flows
-    → (packet : Packet)
+    → (now : ℕ) (packet : Packet)
     → IsWhole packet
     → frame_of packet ≡ x.frame
     → (steps : List Step) (effects : List Effect)
-    → IsWalkOf flows (entry_of m.keys x) packet steps effects
+    → IsWalkOf flows (entry_of m.keys x) now packet steps effects
     → AllZip (IsNumbered m.keys) (arrival m n x packet) effects
 
 -- through whatever lists of exactly the flows of one chassis, a packet takes one walk
@@ -74,8 +74,8 @@ OneWalkLaw =
     → AreBound m zones
     → AreFlowsOf m zones c flows
     → AreFlowsOf m zones c more
-    → (entry : Entry) (packet : Packet)
+    → (entry : Entry) (now : ℕ) (packet : Packet)
     → (steps others : List Step) (effects last : List Effect)
-    → IsWalkOf flows entry packet steps effects
-    → IsWalkOf more entry packet others last
+    → IsWalkOf flows entry now packet steps effects
+    → IsWalkOf more entry now packet others last
     → (steps ≡ others) × (effects ≡ last)

@@ -4,21 +4,19 @@ use Rattle.indexmap.specs.IndexMap.{spare}
 use Rattle.ovn_base.specs.Once.{EachOnce}
 use Rattle.ovn_base.specs.declared.name.Name.{Name}
 use Rattle.flow_table.specs.declared.flow.Flow.{Flow}
-use Rattle.chassis_sim.specs.Changing.{AreReplaced, AllFit, AllAreDeltas}
+use Rattle.chassis_sim.specs.Changing.{AreReplaced, AreReady}
 use Rattle.chassis_sim.specs.State.{named}
-use Rattle.chassis_sim.specs.Tables.{flows_held, rooms_held}
+use Rattle.chassis_sim.specs.Tables.{flows_held}
 use Rattle.chassis_sim.proofs.chassis.replace_each.Given as goal
 
 -- what the deltas that are left make of the flows now, all deltas make of those at the beginning
 abbrev pub invariant-deltas : goal.invariant-deltas
 invariant-deltas g l =
     let flows = g.T.Lookup.flows in
-    let room = g.T.Lookup.room in
     let left = l.name-iterator.rest.items in
     record {
       once : EachOnce (keys_of left);
-      fit : AllFit (rooms_held room l.held.entries) left;
-      deltas : AllAreDeltas (flows_held flows l.held.entries) left;
+      ready : AreReady g.T.Lookup.ready l.held.entries left;
       replaced : (name : Name) (after : Option (List Flow)) → AreReplaced (named left name) (named (flows_held flows l.held.entries) name) after → AreReplaced (named l.fn.deltas name) (named (flows_held flows l.fn.held.entries) name) after;
       spare : spare l.held ≡ spare l.fn.held;
     }

@@ -1,18 +1,12 @@
-use Rattle.std.proofs.Common.{◌≡◌, Some, None, sym, ap, subst, ◌∙◌, refl}
-use Rattle.ovn_base.specs.SameName.{same_name}
-use Rattle.chassis_sim.specs.Changing.{AreReplaced, FitsIn, IsDeltaOfAny}
+use Rattle.std.proofs.Common.{◌≡◌, Some, sym, subst, refl}
+use Rattle.chassis_sim.specs.Changing.{AreReplaced, IsReadyFor}
 use Rattle.chassis_sim.specs.State.{named}
 use Rattle.chassis_sim.specs.Tables.{flows_held}
-use Rattle.chassis_sim.proofs.Lookups.{seen_found, seen_none, seen_same, is_found}
+use Rattle.chassis_sim.proofs.Lookups.{seen_found, seen_none, is_found}
 use Rattle.chassis_sim.proofs.chassis.replace_one.Goals as goal
 
-pub replace-requires-clause-room : goal.replace-requires-clause-room
-replace-requires-clause-room g c =
-    subst (FitsIn c.args.delta) (seen_found g.T.Lookup.room c.args.held.now.entries c.args.name.now c.in-Some.tables.now (sym c.in-Some.ensures.value)) c.requires.fits
-
-pub replace-requires-clause-delta : goal.replace-requires-clause-delta
-replace-requires-clause-delta g c =
-    subst (IsDeltaOfAny c.args.delta) (seen_found g.T.Lookup.flows c.args.held.now.entries c.args.name.now c.in-Some.tables.now (sym c.in-Some.ensures.value)) c.requires.delta
+pub replace-requires : goal.replace-requires
+replace-requires g c = subst (IsReadyFor g.T.Lookup.ready c.args.delta) (sym c.in-Some.ensures.value) c.requires
 
 pub returns-in-Some-clause-replaced : goal.returns-in-Some-clause-replaced
 returns-in-Some-clause-replaced g c =
@@ -28,13 +22,7 @@ pub returns-in-Some-clause-others : goal.returns-in-Some-clause-others
 returns-in-Some-clause-others g c other apart =
     let written = c.get_mut.follows.holds c.replace.new.self in
     let updates = written.3 (is_found _ c.in-Some.tables.now (sym c.in-Some.ensures.value)) in
-    seen_same g.T.Lookup.flows c.args.held.now.entries (c.get_mut.follows.lender c.replace.new.self).entries other (updates.2 other apart)
-
-pub returns-in-Some-clause-rooms : goal.returns-in-Some-clause-rooms
-returns-in-Some-clause-rooms g c other apart =
-    let written = c.get_mut.follows.holds c.replace.new.self in
-    let updates = written.3 (is_found _ c.in-Some.tables.now (sym c.in-Some.ensures.value)) in
-    seen_same g.T.Lookup.room c.args.held.now.entries (c.get_mut.follows.lender c.replace.new.self).entries other (updates.2 other apart)
+    updates.2 other apart
 
 pub returns-in_default-clause-replaced : goal.returns-in_default-clause-replaced
 returns-in_default-clause-replaced g c =

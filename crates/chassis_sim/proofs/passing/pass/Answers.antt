@@ -10,4 +10,4 @@ returns-clause-can g c =
     let gained = c.in_ok-run.ensures.ok in
     let effects : c.run.new.out.effects ≡ gained.effects = gained.all_effects ∙ ap (λ (l : List Effect). l ++ gained.effects) c.new-out.ensures.effects in
     subst (AllByRecursion CanBeSent) (sym effects)
-    (c.walks_can_be_sent.ensures flows c.args.entry.now c.args.packet gained.steps gained.effects c.requires.proper c.requires.entry c.requires.whole gained.is_walk)
+    (c.walks_can_be_sent.ensures flows c.args.entry.now c.args.now c.args.packet gained.steps gained.effects c.requires.proper c.requires.entry c.requires.whole gained.is_walk)

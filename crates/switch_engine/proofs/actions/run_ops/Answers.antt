@@ -12,9 +12,9 @@ pub ops-preserved : goal.ops-preserved
 ops-preserved c =
     let rest = drop (c.ops.op-index + 1) c.args.ops.now in
     let ops : drop c.ops.op-index c.args.ops.now ≡ c.op-item.result ∷ rest = drop_more c.args.ops.now c.ops.op-index c.op-item.result c.ops-test.true ∙ ap (λ op. op ∷ rest) (sym c.op-item.is) in
-    let doing : Doing c.args.entry.now c.args.ops.now c.args.copy c.args.effects.now c.args.made.now (c.op-item.result ∷ rest) c.ops.copy c.ops.effects c.ops.made =
-    subst (λ os. Doing c.args.entry.now c.args.ops.now c.args.copy c.args.effects.now c.args.made.now os c.ops.copy c.ops.effects c.ops.made) ops c.ops.invariant in
-    let with : (op : FlowOp) → c.op-item.result ≡ op → Doing c.args.entry.now c.args.ops.now c.args.copy c.args.effects.now c.args.made.now (op ∷ rest) c.ops.copy c.ops.effects c.ops.made = λ op e. subst (λ o. Doing c.args.entry.now c.args.ops.now c.args.copy c.args.effects.now c.args.made.now (o ∷ rest) c.ops.copy c.ops.effects c.ops.made) e doing in
+    let doing : Doing c.args.entry.now c.args.now c.args.ops.now c.args.copy c.args.effects.now c.args.made.now (c.op-item.result ∷ rest) c.ops.copy c.ops.effects c.ops.made =
+    subst (λ os. Doing c.args.entry.now c.args.now c.args.ops.now c.args.copy c.args.effects.now c.args.made.now os c.ops.copy c.ops.effects c.ops.made) ops c.ops.invariant in
+    let with : (op : FlowOp) → c.op-item.result ≡ op → Doing c.args.entry.now c.args.now c.args.ops.now c.args.copy c.args.effects.now c.args.made.now (op ∷ rest) c.ops.copy c.ops.effects c.ops.made = λ op e. subst (λ o. Doing c.args.entry.now c.args.now c.args.ops.now c.args.copy c.args.effects.now c.args.made.now (o ∷ rest) c.ops.copy c.ops.effects c.ops.made) e doing in
     elim c.match-op.branch [
       | in-Set w ↦
           doing_same (w.copy-is ∙ ap (λ regs. record c.ops.copy { regs = regs }) w.set.ensures) w.effects-is w.made-is (did_set w.in-Set.reg w.in-Set.value (with _ w.in-Set.is))

@@ -26,7 +26,7 @@ run_ops-requires-clause-sets g c = subst (AllByRecursion Sets) (sym c.as_slice.e
 
 pub returns-in_ok-push-2-clause-ok : goal.returns-in_ok-push-2-clause-ok
 returns-in_ok-push-2-clause-ok g c =
-    let brought = outcome c.args.entry.now c.as_slice.result.now c.args.copy in
+    let brought = outcome c.args.entry.now c.args.now c.as_slice.result.now c.args.copy in
     let these : c.run_ops.new.made ≡ brought.made = c.in_ok-itself.ensures.made ∙ ap (λ l. l ++ brought.made) c.new-made.ensures in
     advanced c.in-Some.flow.now c.in-Some.ensures.found c.as_slice.result.now c.as_slice.ensures (reverse c.args.pending.now) (reverse c.push-in-Some-itself.new.self)
     (stacked_some brought c.args.pending.now c.put_all.new.pending c.push-in-Some-itself.new.self c.run_ops.new.made c.in_ok-itself.itself c.in-Some-itself.copy c.in_ok-itself.ensures.itself c.in-Some-itself.is these c.in_ok-put_all.ensures c.in_ok-push-2.ensures.ok)
@@ -34,7 +34,7 @@ returns-in_ok-push-2-clause-ok g c =
 
 pub returns-in_ok-push-2-clause-all_in_range : goal.returns-in_ok-push-2-clause-all_in_range
 returns-in_ok-push-2-clause-all_in_range g c =
-    let brought = outcome c.args.entry.now c.as_slice.result.now c.args.copy in
+    let brought = outcome c.args.entry.now c.args.now c.as_slice.result.now c.args.copy in
     let these : c.run_ops.new.made ≡ brought.made = c.in_ok-itself.ensures.made ∙ ap (λ l. l ++ brought.made) c.new-made.ensures in
     let stacked = stacked_some brought c.args.pending.now c.put_all.new.pending c.push-in-Some-itself.new.self c.run_ops.new.made c.in_ok-itself.itself c.in-Some-itself.copy c.in_ok-itself.ensures.itself c.in-Some-itself.is these c.in_ok-put_all.ensures c.in_ok-push-2.ensures.ok in
     subst (AllByRecursion IsCarriedInRange) (sym stacked)
@@ -42,7 +42,7 @@ returns-in_ok-push-2-clause-all_in_range g c =
 
 pub returns-in_default-itself-clause-ok : goal.returns-in_default-itself-clause-ok
 returns-in_default-itself-clause-ok g c =
-    let brought = outcome c.args.entry.now c.as_slice.result.now c.args.copy in
+    let brought = outcome c.args.entry.now c.args.now c.as_slice.result.now c.args.copy in
     let these : c.run_ops.new.made ≡ brought.made = c.in_ok-itself.ensures.made ∙ ap (λ l. l ++ brought.made) c.new-made.ensures in
     advanced c.in-Some.flow.now c.in-Some.ensures.found c.as_slice.result.now c.as_slice.ensures (reverse c.args.pending.now) (reverse c.put_all.new.pending)
     (stacked_none brought c.args.pending.now c.put_all.new.pending c.run_ops.new.made c.in_ok-itself.itself c.in_ok-itself.ensures.itself c.in_default-itself.is these c.in_ok-put_all.ensures)

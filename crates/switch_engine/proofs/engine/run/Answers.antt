@@ -16,7 +16,7 @@ pub copies-init : goal.copies-init
 copies-init g c =
     let one : reverse c.push.new.self ≡ start c.args.entry.now c.args.packet ∷ [] = ap reverse (c.in_ok-push.ensures.ok ∙ ap (λ l. l ++ c.at_start.result ∷ []) c.new-pending.ensures ∙ ap (λ copy. copy ∷ []) c.at_start.ensures) in
     record {
-      going = subst (Going (g.T.Lookup.flows c.args.tables.now) c.args.entry.now c.args.packet c.args.out.now c.args.out.now) (sym one) (going_first c.args.out.now);
+      going = subst (Going (g.T.Lookup.flows c.args.tables.now) c.args.entry.now c.args.now c.args.packet c.args.out.now c.args.out.now) (sym one) (going_first c.args.out.now);
       proper = c.requires.proper;
       entry = c.requires.entry;
       in_range = subst (AllByRecursion IsCarriedInRange) (sym one) (record { table = omega arith; regs = start_in_range c.args.entry.now }, tt);
@@ -33,11 +33,11 @@ pub copies-preserved : goal.copies-preserved
 copies-preserved g c =
     let top : reverse c.copies.pending ≡ c.in-Some.copy ∷ reverse c.pop.new.self = on_top c.pop.new.self c.copies.pending c.in-Some.copy c.in-Some.ensures in
     record {
-      going = going_next (subst (Going (g.T.Lookup.flows c.args.tables.now) c.args.entry.now c.args.packet c.args.out.now c.copies.out) top c.copies.invariant.going) c.in_ok-advance.ensures.ok;
+      going = going_next (subst (Going (g.T.Lookup.flows c.args.tables.now) c.args.entry.now c.args.now c.args.packet c.args.out.now c.copies.out) top c.copies.invariant.going) c.in_ok-advance.ensures.ok;
       proper = c.copies.invariant.proper;
       entry = c.copies.invariant.entry;
       in_range = c.in_ok-advance.ensures.all_in_range;
     }
 
 pub returns-clause-ok : goal.returns-clause-ok
-returns-clause-ok g c = going_over (subst (Going (g.T.Lookup.flows c.args.tables.now) c.args.entry.now c.args.packet c.args.out.now c.copies.out) (ap reverse c.in_default.ensures.0) c.copies.invariant.going)
+returns-clause-ok g c = going_over (subst (Going (g.T.Lookup.flows c.args.tables.now) c.args.entry.now c.args.now c.args.packet c.args.out.now c.copies.out) (ap reverse c.in_default.ensures.0) c.copies.invariant.going)

@@ -8,7 +8,7 @@ use Rattle.switch_engine.proofs.engine.run.Given as goal
 
 abbrev pub invariant-copies : goal.invariant-copies
 invariant-copies g l = record {
-  going : Going (g.T.Lookup.flows l.tables) l.fn.entry l.fn.packet l.fn.out l.out (reverse l.pending);
+  going : Going (g.T.Lookup.flows l.tables) l.fn.entry l.fn.now l.fn.packet l.fn.out l.out (reverse l.pending);
   proper : IsProper (g.T.Lookup.flows l.tables);
   entry : IsEntry l.entry;
   in_range : AllByRecursion IsCarriedInRange (reverse l.pending);

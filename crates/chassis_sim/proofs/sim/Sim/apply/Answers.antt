@@ -1,16 +1,13 @@
 use Rattle.std.proofs.Common.{◌≡◌, sym, ap, subst, ◌∙◌, refl}
 use Rattle.ovn_base.specs.declared.name.Name.{Name}
-use Rattle.chassis_sim.specs.Changing.{IsApplied, IsChanged, AllFit, AllAreDeltas}
-use Rattle.chassis_sim.specs.State.{Seen, State, named}
+use Rattle.chassis_sim.specs.Changing.{IsApplied, AreReady}
+use Rattle.chassis_sim.specs.State.{SimView, SimState, named}
 use Rattle.chassis_sim.specs.Tables.{flows_held}
-use Rattle.chassis_sim.proofs.Held.{changed, changed_proper}
+use Rattle.chassis_sim.proofs.ChassisLaws.{changed, changed_proper}
 use Rattle.chassis_sim.proofs.sim.Sim.apply.Goals as goal
 
-pub replace_each-requires-clause-fit : goal.replace_each-requires-clause-fit
-replace_each-requires-clause-fit g c = subst (λ (s : Seen). AllFit s.room.flows c.args.change.tables) (sym c.self.view_is) c.requires.ready.room.flows
-
-pub replace_each-requires-clause-deltas : goal.replace_each-requires-clause-deltas
-replace_each-requires-clause-deltas g c = subst (λ (s : Seen). AllAreDeltas s.state.chassis c.args.change.tables) (sym c.self.view_is) c.requires.ready.deltas
+pub replace_each-requires-clause-ready : goal.replace_each-requires-clause-ready
+replace_each-requires-clause-ready g c = subst (λ (s : SimView g.row.T.Denot). AreReady g.T.Lookup.ready s.room.tables c.args.change.tables) (sym c.self.view_is) c.requires.prepared.tables
 
 pub invariant_of-self : goal.invariant_of-self
 invariant_of-self g c =
@@ -28,8 +25,8 @@ returns g c =
     let replaced = flows_held flows c.replace_each.new.held.entries in
     let left = flows_held flows c.remove_each.new.held.entries in
     let new = flows_held flows c.add_each.new.held.entries in
-    let after : State = record { chassis = new; bindings = c.bind_each.new.bindings.entries; names = c.name_each.new.names.entries; waiting = c.self.inside.underlay.waiting; next = c.self.inside.underlay.next } in
-    subst (λ (s : Seen). IsApplied flows s.state c.args.change after) c.self.view_is (record {
+    let after : SimState = record { chassis = new; bindings = c.bind_each.new.bindings.entries; names = c.name_each.new.names.entries; waiting = c.self.inside.underlay.waiting; next = c.self.inside.underlay.next } in
+    subst (λ (s : SimView g.row.T.Denot). IsApplied flows s.state c.args.change after) c.self.view_is (record {
       chassis = λ name. changed flows c.args.change old replaced left new name (c.replace_each.ensures.replaced name) (c.remove_each.ensures.gone name) (c.add_each.ensures name);
       bindings = c.bind_each.ensures;
       names = c.name_each.ensures;

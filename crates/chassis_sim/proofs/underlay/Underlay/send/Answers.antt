@@ -14,7 +14,6 @@ invariant_of-self-2 c =
     let frame : WaitingFrame = record { to = c.args.to; bytes = c.args.bytes } in
     record {
       ordered = c.in_ok-insert.ensures.ordered;
-      some_next = omega arith;
       each = subst (AllByRecursion (IsWaiting (next + 1))) (sym (c.in_ok-insert.ensures.entries ∙ behind held next frame c.self.invariant.each))
           (all_append (IsWaiting (next + 1)) held ((next, frame) ∷ []) (waits_on next (next + 1) held (omega arith) c.self.invariant.each) (record { below = omega arith; sent = c.requires.sent }, tt));
     }

@@ -7,6 +7,5 @@ use Rattle.chassis_sim.proofs.underlay.Underlay.take.Goals as goal
 pub invariant_of-self : goal.invariant_of-self
 invariant_of-self c = record {
   ordered = c.remove.ensures.ordered;
-  some_next = c.self.invariant.some_next;
   each = subst (AllByRecursion (IsWaiting c.self.inside.next)) (sym c.remove.ensures.entries) (all_left (IsWaiting c.self.inside.next) _ c.self.inside.waiting.entries c.self.invariant.each);
 }

@@ -43,7 +43,7 @@ returns c =
     let old = c.self.inside.sim.state in
     let new = c.apply.new.self.state in
     let change_made : IsApplied flows_of c.prepare.new.self.state change new = c.apply.ensures in
-    let made : IsApplied flows_of old change new = subst (λ (s : sim.State). IsApplied flows_of s change new) c.prepare.ensures.kept change_made in
+    let made : IsApplied flows_of old change new = subst (λ (s : sim.SimState). IsApplied flows_of s change new) c.prepare.ensures.kept change_made in
     subst (λ (v : Seen). IsRecompiled c.args.bound c.args.names v (seen_of w)) c.self.view_is (record {
       kept = ap (λ n. record (seen_of w) { state = record m { next = n } }) made.next;
       held = λ d among. all_held flows_of m zones old new change names all c.new.ensures c.new-2.ensures made d among;

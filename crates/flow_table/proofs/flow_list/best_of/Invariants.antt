@@ -1,7 +1,7 @@
 use Rattle.std.proofs.Common.{take}
 use Rattle.std.specs.Option.{option_copied}
 use Rattle.flow_table.proofs.Best.{IsAnswer}
-use Rattle.flow_table.proofs.tables.best_of.Given as goal
+use Rattle.flow_table.proofs.flow_list.best_of.Given as goal
 
 -- the best of the flows so far
 abbrev pub invariant-loop-flow : goal.invariant-loop-flow

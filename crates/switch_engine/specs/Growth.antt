@@ -1,5 +1,5 @@
 -- What a run adds to what came before.
-use Rattle.std.specs.Prelude.{◌≡◌, ◌++◌, List}
+use Rattle.std.specs.Prelude.{◌≡◌, ◌++◌, ℕ, List}
 use Rattle.inet_packet.specs.declared.packet.Packet.{Packet}
 use Rattle.flow_table.specs.declared.flow.Flow.{Flow}
 use Rattle.switch_engine.specs.declared.effect.Effect.{Effect}
@@ -9,15 +9,15 @@ use Rattle.switch_engine.specs.declared.walk.Step.{Step}
 use Rattle.switch_engine.specs.Walk.{IsWalkOf}
 
 -- to what was there came the walk of the packet from table 0 on, and its effects
-pub record Gains (flows : List Flow) (entry : Entry) (packet : Packet) (old new : RunOut) : Type 0 where
+pub record GainsWalk (flows : List Flow) (entry : Entry) (now : ℕ) (packet : Packet) (old new : RunOut) : Type 0 where
   pub steps : List Step
   pub effects : List Effect
   pub all_steps : new.walk ≡ old.walk ++ steps
   pub all_effects : new.effects ≡ old.effects ++ effects
-  pub is_walk : IsWalkOf flows entry packet steps effects
+  pub is_walk : IsWalkOf flows entry now packet steps effects
 
 -- what was there stands at the front of what is there now
-pub record Keeps (old new : RunOut) : Type 0 where
+pub record KeepsRun (old new : RunOut) : Type 0 where
   pub more_steps : List Step
   pub more_effects : List Effect
   pub all_steps : new.walk ≡ old.walk ++ more_steps

@@ -2,8 +2,8 @@ use Rattle.std.proofs.Common.{◌≡◌, rules, not, filter}
 use Rattle.std.proofs.lemmas.Fn.{filter_same}
 use Rattle.std.specs.List.{list_any}
 use Rattle.flow_table.specs.contracts.flow.FlowPartialEq.TheImpl.{ghosts}
-use Rattle.flow_table.proofs.ChangeLaws.{kept_outside, once_filter}
-use Rattle.flow_table.proofs.tables.take_out.Goals as goal
+use Rattle.flow_table.proofs.OnceLaws.{kept_outside, once_filter}
+use Rattle.flow_table.proofs.flow_list.take_out.Goals as goal
 
 pub returns-clause-kept : goal.returns-clause-kept
 returns-clause-kept c = λ f.

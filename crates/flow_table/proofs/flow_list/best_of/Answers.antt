@@ -4,8 +4,8 @@ use Rattle.std.proofs.lemmas.Bool.{false≢true}
 use Rattle.std.specs.Option.{option_copied}
 use Rattle.std.proofs.lemmas.List.{take_all, take_more}
 use Rattle.flow_table.proofs.Best.{IsAnswer, answer_skips, answer_first, answer_stays, answer_next, none_answered}
-use Rattle.flow_table.proofs.tables.best_of.Goals as goal
-use Rattle.flow_table.proofs.tables.best_of.Goals.{then-matches+in-Some, then-matches+in_default, in_default-via-in-Some+else-not-beats, in_default-via-in_default, else-matches}
+use Rattle.flow_table.proofs.flow_list.best_of.Goals as goal
+use Rattle.flow_table.proofs.flow_list.best_of.Goals.{then-matches+in-Some, then-matches+in_default, in_default-via-in-Some+else-not-beats, in_default-via-in_default, else-matches}
 
 pub loop-flow-preserved : goal.loop-flow-preserved
 loop-flow-preserved c =
