@@ -1,0 +1,211 @@
+//! Tables of proper flows, and what comes of a packet in them.
+ghost use Rattle.std.specs.Prelude.{IsTrue, IfOk};
+ghost use Rattle.std.specs.List.{AllByRecursion};
+ghost use Rattle.switch_engine.specs.Proper.{IsEntry, IsProper, IsProperFlow, Rises};
+
+use flow_table::flow::{Flow, FlowOp};
+use flow_table::lookup::Lookup;
+use flow_table::tables::Tables;
+use inet_packet::cube::{Bits, Cube};
+use inet_packet::packet::{Body, Packet};
+use inet_packet::regs::{At, Reg};
+use ovn_base::address::Mac;
+use ovn_base::delta::Delta;
+use ovn_base::list::List;
+use ovn_base::memory::NoMemory;
+use ovn_base::name::Name;
+use std::alloc::Global;
+use std::process::Abort;
+use switch_engine::effect::Entry;
+use switch_engine::engine::run;
+use switch_engine::walk::RunOut;
+use switch_engine::zones::Zones;
+
+const ANY: Bits = Bits { value: 0, mask: 0 };
+
+/// Every packet.
+pub const EVERY: Cube = Cube {
+    at: None,
+    dp: ANY,
+    in_port: ANY,
+    out_port: ANY,
+    next: ANY,
+    z_in: ANY,
+    z_out: ANY,
+    z_dnat: ANY,
+    z_snat: ANY,
+    state: ANY,
+    verdict: ANY,
+    tier: ANY,
+    flags: ANY,
+    eth_src: ANY,
+    eth_dst: ANY,
+    eth_type: ANY,
+    ip4_src: ANY,
+    ip4_dst: ANY,
+    ip_proto: ANY,
+    ip_ttl: ANY,
+    tcp_src: ANY,
+    tcp_dst: ANY,
+    udp_src: ANY,
+    udp_dst: ANY,
+    icmp4_type: ANY,
+    icmp4_code: ANY,
+    arp_op: ANY,
+    arp_spa: ANY,
+    arp_tpa: ANY,
+    arp_sha: ANY,
+    arp_tha: ANY,
+};
+
+/// Every packet that enters there.
+pub fn at(entry: At) -> Cube {
+    let mut cube = EVERY;
+    cube.at = Some(entry);
+    cube
+}
+
+/// The packets for the port or group of the key.
+pub fn to(key: u16) -> Cube {
+    let mut cube = EVERY;
+    cube.out_port = Bits {
+        value: u64::from(key),
+        mask: 0xffff,
+    };
+    cube
+}
+
+/// A packet for an address that no port has.
+pub fn stranger(alloc: Global) -> Packet {
+    Packet {
+        dst: Mac([10, 0, 0, 0, 0, 9]),
+        src: Mac([10, 0, 0, 0, 0, 1]),
+        body: Body::Other { ether_type: 0x88b5 },
+        tail: List::new(alloc),
+    }
+}
+
+/// The action that sets the register.
+pub fn set(reg: Reg, value: u32) -> FlowOp {
+    FlowOp::Set { reg, value }
+}
+
+/// The row of the table that does the actions.
+pub fn row<const N: usize>(
+    alloc: Global,
+    table: u8,
+    cube: Cube,
+    ops: [FlowOp; N],
+) -> Result<Flow, NoMemory> {
+    Ok(Flow {
+        table,
+        priority: 100,
+        rank: 0,
+        cube,
+        ops: List::from_vec(Vec::from_array(alloc, ops)?),
+        cookie: 0,
+    })
+}
+
+// Whether the action may stand in a flow of the table.
+fn rises(table: u8, op: &FlowOp) -> bool
+    ensures { IsTrue result → Rises table op.now }
+{
+    match op {
+        FlowOp::Set { reg, value } => match reg {
+            Reg::Dp => *value < 1 << 24,
+            Reg::InPort => *value < 1 << 15,
+            Reg::OutPort | Reg::ZIn | Reg::ZOut | Reg::ZDnat | Reg::ZSnat => *value < 1 << 16,
+            _ => *value < 2,
+        },
+        FlowOp::Go(next) => *next > table,
+        FlowOp::Copies(_) => table < 34,
+        _ => true,
+    }
+}
+
+// Whether all of them may.
+fn all_rise(table: u8, ops: &[FlowOp]) -> bool
+    ensures { IsTrue result → AllByRecursion (Rises table) ops.now }
+{
+    'ops: for op in ops {
+        if !rises(table, op) {
+            return false;
+        }
+    }
+    true
+}
+
+// Adds a proper flow.
+fn put(tables: &mut Tables, flow: Flow) -> Result<(), NoMemory>
+    requires tables { IsProper tables.old.flows }
+    requires flow { IsProperFlow flow }
+    ensures { IsProper tables.new.flows }
+{
+    let mut added = List::new(flow.ops.allocator());
+    let mut removed = List::new(flow.ops.allocator());
+    removed.push(flow.copy()?)?;
+    added.push(flow)?;
+    let delta = Delta { added, removed };
+    tables.prepare(&delta)?;
+    tables.replace(delta);
+    Ok(())
+}
+
+// The flows whose actions may stand in their tables.
+fn put_all(alloc: Global, flows: Vec<Flow>) -> Result<Tables, NoMemory>
+    ensures { IfOk result (λ t. IsProper t.flows) }
+{
+    let mut tables = Tables::new(alloc)?;
+    'flows: for flow in flows {
+        if all_rise(flow.table, flow.ops.as_slice()) {
+            put(&mut tables, flow)?;
+        }
+    }
+    Ok(tables)
+}
+
+/// Tables with the rows, and with one for each pair of tables on the way, which takes every packet from the one to the other.
+pub fn tables<const N: usize>(
+    alloc: Global,
+    way: &[(u8, u8)],
+    rows: [Flow; N],
+) -> Result<Tables, NoMemory>
+    ensures { IfOk result (λ t. IsProper t.flows) }
+{
+    let mut flows = Vec::from_array(alloc, rows)?;
+    for &(table, next) in way {
+        flows.push(row(alloc, table, EVERY, [FlowOp::Go(next)])?)?;
+    }
+    put_all(alloc, flows)
+}
+
+/// What the packet comes to.
+pub fn sent(alloc: Global, tables: &Tables, entry: Entry) -> Result<RunOut, NoMemory>
+    requires tables { IsProper tables.now.flows }
+    requires entry { IsEntry entry }
+{
+    let mut out = RunOut::new(alloc);
+    let mut zones = Zones::new();
+    run(
+        alloc,
+        tables,
+        &mut zones,
+        &entry,
+        stranger(alloc),
+        0,
+        &mut out,
+    )?;
+    Ok(out)
+}
+
+/// Whether the steps are of these tables.
+pub fn visits(out: &RunOut, way: &[u8]) -> bool {
+    let mut steps = out.walk.as_slice().iter().map(|step| step.table);
+    steps.eq(way.iter().copied())
+}
+
+/// The name of a test.
+pub fn name(rt: &impl Abort, text: &[u8]) -> Name {
+    Name::read(text).expect(rt, "a name")
+}
