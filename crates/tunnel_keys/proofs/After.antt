@@ -1,12 +1,15 @@
 -- What `plan` makes, step by step, is what an edit does.
-use Rattle.std.specs.Prelude.{◌≡◌, ◌≤◌, ◌<◌, not, List, ◌++◌, length, map}
+use Rattle.std.specs.Prelude.{◌≡◌, ◌≤◌, ◌<◌, ◌↔◌, not, List, ◌++◌, length, map}
 use mathlib.Core.Path.{sym, ap, subst, ◌∙◌}
 use Rattle.std.specs.List.{AllByRecursion, filter, filter_map}
+use Rattle.std.specs.List.Sorted.{IsStrictlySortedBy}
+use Rattle.ovn_base.specs.Among.{Among}
 use Rattle.ovn_base.specs.declared.name.Name.{Name}
 use Rattle.ovn_base.specs.ByName.{put_all, in_order, IsByName}
 use Rattle.tunnel_keys.specs.Owners.{is_listed, datapaths_in}
+use Rattle.tunnel_keys.specs.Order.{IsInOrder}
 use Rattle.tunnel_keys.specs.Keys.{Keys, IsKeys, retire, datapath_owner, port_owner, held_datapath, held_port, free_datapath_keys}
-use Rattle.tunnel_keys.specs.Edits.{IsEdit, GivesKeys, GivesLeastKeys}
+use Rattle.tunnel_keys.specs.Edits.{IsEdit, IsAfter}
 use Rattle.tunnel_keys.specs.Causes.{IsCause, HasKeys}
 use Rattle.tunnel_keys.specs.Giving.{given_ports, HasEnough, IsDatapathFault, IsPortFault, IsFirstShort}
 use Rattle.tunnel_keys.specs.declared.fault.KeyFault.{KeyFault}
@@ -18,7 +21,8 @@ use Rattle.tunnel_keys.specs.declared.owner.HeldPort.{HeldPort}
 use Rattle.tunnel_keys.specs.declared.owner.KeyOwner.{KeyOwner}
 use Rattle.tunnel_keys.proofs.Lists.{in_order_same}
 use Rattle.tunnel_keys.proofs.Planned.{all_datapaths, new_ports, planned, HasRoom, between_sorted, between_ports_sorted, all_datapaths_sorted, planned_gives, planned_least}
-use Rattle.tunnel_keys.proofs.Invariant.{planned_hold}
+use Rattle.tunnel_keys.proofs.Invariant.{planned_hold, retired_datapaths_once, retired_ports_once}
+use Rattle.tunnel_keys.proofs.Ordered.{held_datapath_cmp, held_port_cmp, datapaths_in_order, ports_in_order}
 use Rattle.tunnel_keys.proofs.Faults.{lacks_datapaths, has_datapaths, first_lacks, has_keys}
 
 -- the keys with other entries
@@ -76,17 +80,23 @@ module _ (before : Keys) (added removed : List KeyOwner) (keys : IsKeys before) 
           ∙ ap (λ l. put_all po (given_ports before.port_range po rp added l)) datapaths_are
           ∙ ap (λ (k : Keys). put_all k.ports (given_ports k.port_range k.ports k.retired_ports added (all_datapaths (retire before removed) added))) between_is
 
-      after_is : with_entries before ds ps rd rp ≡ planned (retire before removed) added
-      after_is = λ i. with_entries before (datapaths_are i) (ports_are i) (r.retired i) (r.retired_ports i)
+      module _ (od : List HeldDatapath) (op : List HeldPort) (od_sorted : IsStrictlySortedBy held_datapath_cmp od) (op_sorted : IsStrictlySortedBy held_port_cmp op)
+          (od_same : (h : HeldDatapath) → Among h od ↔ Among h rd) (op_same : (h : HeldPort) → Among h op ↔ Among h rp) where
+        after_is : with_entries before ds ps od op ≡ record (planned (retire before removed) added) { retired_datapaths = od; retired_ports = op }
+        after_is = λ i. with_entries before (datapaths_are i) (ports_are i) od op
 
-      pub made_hold : IsKeys (with_entries before ds ps rd rp)
-      made_hold = subst IsKeys (sym after_is) (planned_hold before added removed keys edit room)
+        in_order_datapaths : IsInOrder (λ (h : HeldDatapath). h.owner) (retire before removed).retired_datapaths od
+        in_order_datapaths = datapaths_in_order (retire before removed).retired_datapaths od (retired_datapaths_once before added removed keys edit) od_sorted (λ h. subst (λ l. Among h od ↔ Among h l) r.retired (od_same h))
 
-      pub made_gives : GivesKeys before added removed (with_entries before ds ps rd rp)
-      made_gives = subst (λ k. GivesKeys before added removed k) (sym after_is) (planned_gives before added removed keys edit room)
+        in_order_ports : IsInOrder (λ (h : HeldPort). h.owner) (retire before removed).retired_ports op
+        in_order_ports = ports_in_order (retire before removed).retired_ports op (retired_ports_once before added removed keys edit room) op_sorted (λ h. subst (λ l. Among h op ↔ Among h l) r.retired_ports (op_same h))
 
-      pub made_least : GivesLeastKeys before added removed (with_entries before ds ps rd rp)
-      made_least = subst (λ k. GivesLeastKeys before added removed k) (sym after_is) (planned_least before added removed keys edit room)
+        pub made_after : IsAfter before added removed (with_entries before ds ps od op)
+        made_after = subst (IsAfter before added removed) (sym after_is) (record {
+          hold = planned_hold before added removed keys edit room od op in_order_datapaths in_order_ports;
+          gives = planned_gives before added removed keys edit room od op in_order_datapaths in_order_ports;
+          least = planned_least before added removed keys edit room od op;
+        })
 
       pub made_has : HasKeys before added removed
       made_has = has_keys before added removed keys edit room

@@ -15,16 +15,19 @@ use Rattle.ovn_base.specs.declared.address.Birth.{Birth}
 use Rattle.ovn_base.specs.ByName.{at, IsByName}
 use Rattle.tunnel_keys.specs.Owners.{is_listed}
 use Rattle.tunnel_keys.specs.Keys.{Keys, IsKeys, retire, port_owner, datapath_owner, free_datapath_keys, free_port_keys}
-use Rattle.tunnel_keys.specs.Edits.{IsLive, IsThereAfter, GivesKeys, GivesLeastKeys, GivesLeastDatapathKeys, GivesLeastPortKeys}
+use Rattle.tunnel_keys.specs.Edits.{IsAfter, IsLive, IsThereAfter, GivesKeys, GivesLeastKeys, GivesLeastDatapathKeys, GivesLeastPortKeys}
 use Rattle.tunnel_keys.specs.Giving.{with_keys, datapath_key, port_key}
 use Rattle.tunnel_keys.specs.declared.owner.Identity.{Identity}
 use Rattle.tunnel_keys.specs.declared.owner.DatapathKey.{DatapathKey}
 use Rattle.tunnel_keys.specs.declared.owner.PortKey.{PortKey}
+use Rattle.tunnel_keys.specs.declared.owner.HeldDatapath.{HeldDatapath}
+use Rattle.tunnel_keys.specs.declared.owner.HeldPort.{HeldPort}
 use Rattle.tunnel_keys.specs.declared.owner.KeyOwner.{KeyOwner}
 use Rattle.tunnel_keys.specs.declared.owner.KeyOwner.TheVariants.{Datapath, Port}
 use Rattle.ovn_base.proofs.Puts.{at_among, among_at, above_among, below_apart}
 use Rattle.tunnel_keys.proofs.Lists.{at_filter, filter_at}
 use Rattle.tunnel_keys.proofs.Faults.{not_both}
+use Rattle.tunnel_keys.proofs.Ordered.{one_order}
 use Rattle.tunnel_keys.proofs.OwnerLaws.{unlisted_not, not_unlisted}
 
 -- ---- lists in order of name
@@ -126,7 +129,7 @@ module _ {X : Type 0} (make : Birth → ℕ → X) (birth_of : X → Birth) (key
 -- ---- one result
 
 module _ (keys : Keys) (added removed : List KeyOwner) where
-  datapath_same : (a b : Keys) → GivesKeys keys added removed a → GivesLeastKeys keys added removed a → GivesKeys keys added removed b → GivesLeastKeys keys added removed b
+  datapath_same : (a b : Keys) → GivesKeys keys added removed a → GivesLeastKeys (retire keys removed) added a → GivesKeys keys added removed b → GivesLeastKeys (retire keys removed) added b
       → (n : Name) (d : DatapathKey) → at a.datapaths n ≡ Some d → at b.datapaths n ≡ Some d
   datapath_same a b ga la gb lb n d f = elim (ga.datapath_cases n d f) [
     | inl old ↦ gb.datapath_kept n d old
@@ -145,7 +148,7 @@ module _ (keys : Keys) (added removed : List KeyOwner) where
           let w : DatapathKey = record { birth = v.birth; key = g.0 } in
           (w, (lb.who (n, w)).1 (who.0, g.1), refl)
 
-  port_same : (a b : Keys) → a.datapaths ≡ b.datapaths → GivesKeys keys added removed a → GivesLeastKeys keys added removed a → GivesKeys keys added removed b → GivesLeastKeys keys added removed b
+  port_same : (a b : Keys) → a.datapaths ≡ b.datapaths → GivesKeys keys added removed a → GivesLeastKeys (retire keys removed) added a → GivesKeys keys added removed b → GivesLeastKeys (retire keys removed) added b
       → (n : Name) (p : PortKey) → at a.ports n ≡ Some p → at b.ports n ≡ Some p
   port_same a b datapaths ga la gb lb n p f = elim (ga.port_cases n p f) [
     | inl old ↦ gb.port_kept n p old
@@ -172,14 +175,20 @@ module _ (keys : Keys) (added removed : List KeyOwner) where
           let w : PortKey = record { birth = v.birth; datapath = v.datapath; key = g.0 } in
           (w, (pb.who (n, w)).1 (who.0, who.1, g.2), refl)
 
-  pub one_result : (a b : Keys) → IsKeys a → GivesKeys keys added removed a → GivesLeastKeys keys added removed a → IsKeys b → GivesKeys keys added removed b → GivesLeastKeys keys added removed b → a ≡ b
-  one_result a b ha ga la hb gb lb =
+  pub one_result : (a b : Keys) → IsAfter keys added removed a → IsAfter keys added removed b → a ≡ b
+  one_result a b one two =
+      let ha = one.hold in
+      let ga = one.gives in
+      let la = one.least in
+      let hb = two.hold in
+      let gb = two.gives in
+      let lb = two.least in
       let datapaths = same_found a.datapaths b.datapaths ha.datapaths_in_order hb.datapaths_in_order (datapath_same a b ga la gb lb) (datapath_same b a gb lb ga la) in
       let ports = same_found a.ports b.ports ha.ports_in_order hb.ports_in_order (port_same a b datapaths ga la gb lb) (port_same b a (sym datapaths) gb lb ga la) in
       let first = ga.datapath_range ∙ sym gb.datapath_range in
       let second = ga.port_range ∙ sym gb.port_range in
-      let third = ga.retired_datapaths ∙ sym gb.retired_datapaths in
-      let fourth = ga.retired_ports ∙ sym gb.retired_ports in
+      let third = one_order (λ (h : HeldDatapath). h.owner) (retire keys removed).retired_datapaths a.retired_datapaths b.retired_datapaths ga.retired_datapaths gb.retired_datapaths in
+      let fourth = one_order (λ (h : HeldPort). h.owner) (retire keys removed).retired_ports a.retired_ports b.retired_ports ga.retired_ports gb.retired_ports in
       λ i. record { datapath_range = first i; port_range = second i; datapaths = datapaths i; ports = ports i; retired_datapaths = third i; retired_ports = fourth i }
 
 -- ---- who has a live key

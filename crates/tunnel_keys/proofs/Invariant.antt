@@ -1,19 +1,20 @@
 -- What always holds of the keys holds after an edit, too.
-use Rattle.std.specs.Prelude.{◌≡◌, ◌≢◌, ◌≤◌, ◌⊎◌, Bool, true, false, not, List, [], map, Some, IsSome, refl}
+use Rattle.std.specs.Prelude.{◌≡◌, ◌≢◌, ◌≤◌, ◌⊎◌, ℕ, Bool, true, false, not, List, [], ◌++◌, map, Some, IsSome, refl}
 use mathlib.Core.Path.{sym, ap, subst, ◌∙◌}
 use mathlib.Core.Logic.{inl, inr}
 use Rattle.std.specs.List.{filter, filter_map}
-use Rattle.std.proofs.lemmas.Bool.{true≢false}
+use Rattle.std.specs.List.Sorted.{IsStrictlySortedBy}
 use Rattle.std.proofs.lemmas.Option.{same_Some}
 use Rattle.ovn_base.specs.Among.{Among}
 use Rattle.ovn_base.proofs.AmongLaws.{among_none, among_left, among_right, among_append, among_map, map_among, among_filter, filter_among, among_filter_map, filter_map_among}
 use Rattle.ovn_base.specs.declared.name.Name.{Name}
-use Rattle.ovn_base.specs.ByName.{at}
+use Rattle.ovn_base.specs.ByName.{at, IsByName}
 use Rattle.ovn_base.specs.SameName.{same_name}
 use Rattle.tunnel_keys.specs.Same.{same_identity, name_own, identity_own}
 use Rattle.tunnel_keys.specs.Owners.{is_listed, ports_in}
 use Rattle.ovn_base.specs.ByName.{in_order}
-use Rattle.tunnel_keys.specs.Keys.{Keys, IsKeys, settled, retire, datapath_owner, port_owner, held_datapath, held_port, held_datapaths, held_ports, free_datapath_keys, free_port_keys, taken_datapaths, taken_ports, IsFreeIn}
+use Rattle.tunnel_keys.specs.Order.{IsByIdentity, IsInOrder}
+use Rattle.tunnel_keys.specs.Keys.{Keys, IsKeys, no_keys, settled, retire, datapath_owner, port_owner, held_datapath, held_port, held_datapaths, held_ports, free_datapath_keys, free_port_keys, taken_datapaths, taken_ports, IsFreeIn}
 use Rattle.tunnel_keys.specs.Edits.{IsEdit}
 use Rattle.tunnel_keys.specs.Giving.{port_key, datapath_key}
 use Rattle.tunnel_keys.specs.Owners.{datapaths_in}
@@ -29,9 +30,40 @@ use Rattle.tunnel_keys.proofs.Held.{found, is_found, on_datapath_key, held_port_
 use Rattle.tunnel_keys.proofs.Lists.{put_all_sorted}
 use Rattle.tunnel_keys.proofs.FreeKeys.{free_is_free, free_once, with_keys_apart}
 use Rattle.tunnel_keys.proofs.OwnerLaws.{listed_among, among_listed}
-use Rattle.tunnel_keys.proofs.Planned.{new_datapaths, new_datapaths_sorted, all_datapaths, new_ports_on, new_ports, planned, HasRoom, one_entry, stays_datapath, datapath_stays, datapath_kept, stays_port, between_ports_sorted, all_datapaths_sorted, new_datapath_who, datapath_cases, found_datapath, new_port_who, port_cases, new_port_on, new_port_owner}
+use Rattle.tunnel_keys.proofs.Planned.{new_datapaths, new_datapaths_sorted, all_datapaths, new_ports_on, new_ports, planned, HasRoom, one_entry, stays_datapath, stays_port, between_ports_sorted, all_datapaths_sorted, new_datapath_who, datapath_cases, found_datapath, new_port_who, port_cases, new_port_on, new_port_owner}
 
--- ---- settled keys
+-- in one of two lists, the second of which has other members
+among_either : {X : Type 0} (a : X) (xs ys zs : List X) → (Among a ys → Among a zs) → Among a (xs ++ ys) → Among a (xs ++ zs)
+among_either a xs ys zs f m = elim (among_append a xs ys m) [ inl p ↦ among_left a xs zs p | inr q ↦ among_right a xs zs (f q) ]
+
+none_ordered : (X : Type 0) (owner : X → Identity) → IsByIdentity owner []
+unfolding IsStrictlySortedBy
+none_ordered X owner = tt
+
+-- ---- no key, and settled keys
+
+none_by_name : (X : Type 0) → IsByName {X = X} []
+unfolding IsStrictlySortedBy
+none_by_name X = tt
+
+pub none_hold : (datapath_range port_range : ℕ) → (1 ≤ datapath_range) × (datapath_range ≤ 16777215) → (1 ≤ port_range) × (port_range ≤ 32767) → IsKeys (no_keys datapath_range port_range)
+none_hold datapath_range port_range d p = record {
+  datapath_ranges = d;
+  port_ranges = p;
+  datapaths_in_order = none_by_name DatapathKey;
+  ports_in_order = none_by_name PortKey;
+  retired_datapaths_in_order = none_ordered HeldDatapath (λ h. h.owner);
+  retired_ports_in_order = none_ordered HeldPort (λ h. h.owner);
+  on_datapath = λ e m. absurd (among_none e m);
+  datapath_keys = λ a m. absurd (among_none a m);
+  port_keys = λ a m. absurd (among_none a m);
+  datapaths_apart = λ a b m. absurd (among_none a m);
+  ports_apart = λ a b m. absurd (among_none a m);
+  datapath_once = λ a b m. absurd (among_none a m);
+  port_once = λ a b m. absurd (among_none a m);
+  datapath_live = λ e a m. absurd (among_none e m);
+  port_live = λ e a m. absurd (among_none e m);
+}
 
 module _ (keys : Keys) where
   pub settled_datapath : (a : HeldDatapath) → Among a (held_datapaths (settled keys)) → Among a (held_datapaths keys)
@@ -47,7 +79,8 @@ module _ (keys : Keys) where
     datapaths_in_order = k.datapaths_in_order;
     ports_in_order = k.ports_in_order;
     on_datapath = k.on_datapath;
-    on_held = λ a m. absurd (among_none a m);
+    retired_datapaths_in_order = none_ordered HeldDatapath (λ h. h.owner);
+    retired_ports_in_order = none_ordered HeldPort (λ h. h.owner);
     datapath_keys = λ x m. k.datapath_keys x (settled_datapath x m);
     port_keys = λ x m. k.port_keys x (settled_port x m);
     datapaths_apart = λ x y m n. k.datapaths_apart x y (settled_datapath x m) (settled_datapath y n);
@@ -90,6 +123,10 @@ module _ (before : Keys) (added removed : List KeyOwner) (keys : IsKeys before) 
     | inl p ↦ retired_held a p
     | inr r ↦ subst (λ x. Among x (held_datapaths before)) (sym r.3) (live_held r.0 r.1)
   ]
+
+  -- no two retired keys have one owner
+  pub retired_datapaths_once : (a b : HeldDatapath) → Among a (retire before removed).retired_datapaths → Among b (retire before removed).retired_datapaths → a.owner ≡ b.owner → a ≡ b
+  retired_datapaths_once a b m n same = keys.datapath_once a b (between_held a m) (between_held b n) same
 
   -- a live datapath afterwards stays, or gets a key
   abbrev LiveDatapathCase : Name × DatapathKey → Type 0
@@ -269,8 +306,7 @@ module _ (before : Keys) (added removed : List KeyOwner) (keys : IsKeys before) 
     kept_retired n p d b m f (inl r) on same = elim (datapath_cases before added removed keys edit p.datapath d f) [
       | inl k ↦ keys.ports_apart (on_datapath_key n p d) b (live_port_held n p d m (stays_datapath before added removed keys edit p.datapath d k).0) (retired_port_held b r) on same
       | inr k ↦
-          let h = keys.on_held b r in
-          absurd (edit.added_new (Datapath p.datapath d.birth) (new_datapath_who before added removed keys edit (p.datapath, d) k).0 h.0 h.1 (h.2 ∙ sym on))
+          absurd (edit.added_bare p.datapath d.birth (new_datapath_who before added removed keys edit (p.datapath, d) k).0 b r (sym on))
     ]
     kept_retired n p d b m f (inr r) on same =
         let names : p.datapath ≡ r.0.1.datapath = ap (λ (i : Identity). i.name) (on ∙ ap (λ (x : HeldPort). x.datapath) r.5) in
@@ -356,47 +392,34 @@ module _ (before : Keys) (added removed : List KeyOwner) (keys : IsKeys before) 
         is_found (at (all_datapaths (retire before removed) added) p.datapath) q.0 q.1
     on_datapath n p (inr k) = let r = new_port_on before added removed keys edit room n p k in is_found (at (all_datapaths (retire before removed) added) p.datapath) r.0 r.1
 
-    -- and so is, or was, that of a retired port
+    -- ---- what holds, where the retired keys were put in order
 
-    after_live : (e : Name × DatapathKey) → Among e (all_datapaths (retire before removed) added) → Among (held_datapath e) (held_datapaths (planned (retire before removed) added))
-    after_live e m = among_left (held_datapath e) (map held_datapath (all_datapaths (retire before removed) added)) (retire before removed).retired_datapaths (among_map held_datapath e (all_datapaths (retire before removed) added) m)
+    -- no two retired keys have one owner
+    pub retired_ports_once : (a b : HeldPort) → Among a (retire before removed).retired_ports → Among b (retire before removed).retired_ports → a.owner ≡ b.owner → a ≡ b
+    retired_ports_once a b m n same = keys.port_once a b (between_port_held a (retired_port_cases a m)) (between_port_held b (retired_port_cases b n)) same
 
-    after_retired : (a : HeldDatapath) → Among a (retire before removed).retired_datapaths → Among a (held_datapaths (planned (retire before removed) added))
-    after_retired a m = among_right a (map held_datapath (all_datapaths (retire before removed) added)) (retire before removed).retired_datapaths m
+    module _ (rd : List HeldDatapath) (rp : List HeldPort) (datapaths_are : IsInOrder (λ (h : HeldDatapath). h.owner) (retire before removed).retired_datapaths rd) (ports_are : IsInOrder (λ (h : HeldPort). h.owner) (retire before removed).retired_ports rp) where
+      datapath_case : (a : HeldDatapath) → Among a (map held_datapath (all_datapaths (retire before removed) added) ++ rd) → HeldDatapathCase a
+      datapath_case a m = held_datapath_cases a (among_either a (map held_datapath (all_datapaths (retire before removed) added)) rd (retire before removed).retired_datapaths (datapaths_are.same a).0 m)
 
-    stays_held : (a : HeldDatapath) → Among a (held_datapaths before) → Among a (held_datapaths (planned (retire before removed) added))
-    stays_held a m = elim (among_append a (map held_datapath before.datapaths) before.retired_datapaths m) [
-      | inl p ↦ let r = map_among held_datapath a before.datapaths p in subst (λ x. Among x (held_datapaths (planned (retire before removed) added))) (sym r.2) (by r.0 r.1 (is_listed removed (datapath_owner r.0)) refl)
-      | inr q ↦ after_retired a (among_left a before.retired_datapaths (map held_datapath (filter (λ e. is_listed removed (datapath_owner e)) before.datapaths)) q)
-    ]
-      where
-        by : (e : Name × DatapathKey) → Among e before.datapaths → (b : Bool) → is_listed removed (datapath_owner e) ≡ b → Among (held_datapath e) (held_datapaths (planned (retire before removed) added))
-        by e k true is = after_retired (held_datapath e) (among_right (held_datapath e) before.retired_datapaths (map held_datapath (filter (λ e. is_listed removed (datapath_owner e)) before.datapaths))
-            (among_map held_datapath e (filter (λ e. is_listed removed (datapath_owner e)) before.datapaths) (among_filter (λ e. is_listed removed (datapath_owner e)) e before.datapaths k is)))
-        by e k false is =
-            let stays = datapath_stays before added removed keys edit e.0 e.1 (among_at e.0 e.1 before.datapaths keys.datapaths_in_order k) (λ m. true≢false (sym (among_listed removed (datapath_owner e) m) ∙ is)) in
-            after_live e (at_among (all_datapaths (retire before removed) added) e.0 e.1 (datapath_kept before added removed keys edit e.0 e.1 stays))
+      port_case : (a : HeldPort) → Among a (filter_map (held_port (all_datapaths (retire before removed) added)) (planned (retire before removed) added).ports ++ rp) → IsLiveAfter a ⊎ RetiredPortCase a
+      port_case a m = held_port_cases a (among_either a (filter_map (held_port (all_datapaths (retire before removed) added)) (planned (retire before removed) added).ports) rp (retire before removed).retired_ports (ports_are.same a).0 m)
 
-    on_held : (a : HeldPort) → RetiredPortCase a → (b : HeldDatapath) × Among b (held_datapaths (planned (retire before removed) added)) × (b.owner ≡ a.datapath)
-    on_held a (inl p) = let h = keys.on_held a p in (h.0, stays_held h.0 h.1, h.2)
-    on_held a (inr r) =
-        let e : Name × DatapathKey = (r.0.1.datapath, r.1) in
-        (held_datapath e, stays_held (held_datapath e) (live_held e (at_among before.datapaths r.0.1.datapath r.1 r.4)), ap (λ (x : HeldPort). x.datapath) (sym r.5))
-
-    pub planned_hold : IsKeys (planned (retire before removed) added)
-    planned_hold = record {
-      datapath_ranges = keys.datapath_ranges;
-      port_ranges = keys.port_ranges;
-      datapaths_in_order = all_datapaths_sorted before added removed keys edit;
-      ports_in_order = put_all_sorted (retire before removed).ports (new_ports (retire before removed) added) (between_ports_sorted before added removed keys edit);
-      on_datapath = λ e m. on_datapath e.0 e.1 (live_port_cases e.0 e.1 m);
-      on_held = λ a m. on_held a (retired_port_cases a m);
-      datapath_keys = λ a m. datapath_range a (held_datapath_cases a m);
-      port_keys = λ a m. port_range a (held_port_cases a m);
-      datapaths_apart = λ a b m n same. datapaths_apart a b (held_datapath_cases a m) (held_datapath_cases b n) same;
-      ports_apart = λ a b m n on same. ports_apart a b (held_port_cases a m) (held_port_cases b n) on same;
-      datapath_once = λ a b m n same. datapath_once a b (held_datapath_cases a m) (held_datapath_cases b n) same;
-      port_once = λ a b m n same. port_once a b (held_port_cases a m) (held_port_cases b n) same;
-      datapath_live = λ e a m n. datapath_live e a (live_datapath_cases e m) (retired_datapath_cases a n);
-      port_live = λ e a m n. port_live e.0 e.1 a (live_port_cases e.0 e.1 m) (retired_port_cases a n);
-    }
+      pub planned_hold : IsKeys (record (planned (retire before removed) added) { retired_datapaths = rd; retired_ports = rp })
+      planned_hold = record {
+        datapath_ranges = keys.datapath_ranges;
+        port_ranges = keys.port_ranges;
+        datapaths_in_order = all_datapaths_sorted before added removed keys edit;
+        ports_in_order = put_all_sorted (retire before removed).ports (new_ports (retire before removed) added) (between_ports_sorted before added removed keys edit);
+        retired_datapaths_in_order = datapaths_are.order;
+        retired_ports_in_order = ports_are.order;
+        on_datapath = λ e m. on_datapath e.0 e.1 (live_port_cases e.0 e.1 m);
+        datapath_keys = λ a m. datapath_range a (datapath_case a m);
+        port_keys = λ a m. port_range a (port_case a m);
+        datapaths_apart = λ a b m n same. datapaths_apart a b (datapath_case a m) (datapath_case b n) same;
+        ports_apart = λ a b m n on same. ports_apart a b (port_case a m) (port_case b n) on same;
+        datapath_once = λ a b m n same. datapath_once a b (datapath_case a m) (datapath_case b n) same;
+        port_once = λ a b m n same. port_once a b (port_case a m) (port_case b n) same;
+        datapath_live = λ e a m n. datapath_live e a (live_datapath_cases e m) (retired_datapath_cases a ((datapaths_are.same a).0 n));
+        port_live = λ e a m n. port_live e.0 e.1 a (live_port_cases e.0 e.1 m) (retired_port_cases a ((ports_are.same a).0 n));
+      }

@@ -1,5 +1,6 @@
 -- Lemmas.
 pub mod Lists
+pub mod Ordered
 pub mod UnderLaws
 pub mod FreeKeys
 pub mod Taken
@@ -11,6 +12,7 @@ pub mod Invariant
 pub mod Faults
 pub mod Determined
 pub mod Listed
-pub mod Fits
 pub mod After
 pub mod Staying
+pub mod Births
+pub mod Single

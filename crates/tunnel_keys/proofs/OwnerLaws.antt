@@ -1,11 +1,12 @@
 -- Owners in lists, and an edit's owners.
 use Rattle.std.specs.Prelude.{◌≡◌, ◌≢◌, Bool, true, false, cond, not, List, [], ◌∷◌, Option, Some, None, refl}
 use mathlib.Core.Path.{sym, ap, subst, ◌∙◌}
+use mathlib.Core.Logic.{inl, inr}
 use Rattle.std.specs.List.{cons_option}
 use Rattle.std.proofs.lemmas.Bool.{true≢false}
 use Rattle.std.proofs.lemmas.Option.{none-some, same_Some}
 use Rattle.ovn_base.specs.Among.{Among, here, there}
-use Rattle.ovn_base.proofs.AmongLaws.{among_any, any_among, filter_map_among, among_filter_map}
+use Rattle.ovn_base.proofs.AmongLaws.{among_cases, among_none, among_any, any_among, filter_map_among, among_filter_map}
 use Rattle.ovn_base.specs.declared.name.Name.{Name}
 use Rattle.ovn_base.specs.declared.address.Birth.{Birth}
 use Rattle.ovn_base.specs.SameName.{same_name}
@@ -16,6 +17,18 @@ use Rattle.tunnel_keys.specs.declared.owner.KeyOwner.{KeyOwner}
 use Rattle.tunnel_keys.specs.declared.owner.KeyOwner.TheVariants.{Datapath, Port}
 use Rattle.tunnel_keys.proofs.Lists.{NamesOnce}
 use Rattle.tunnel_keys.proofs.FreeKeys.{not_true}
+
+-- ---- one owner
+
+abbrev is_port : KeyOwner → Bool
+is_port (Datapath name birth) = false
+is_port (Port datapath name birth) = true
+
+pub not_port : (a : Name) (b : Birth) (d q : Name) (c : Birth) → Datapath a b ≢ Port d q c
+not_port a b d q c e = true≢false (sym (ap is_port e))
+
+pub the_one : {X : Type 0} (x y : X) → Among x (y ∷ []) → x ≡ y
+the_one x y m = elim (among_cases x y [] m) [ inl e ↦ e | inr n ↦ absurd (among_none x n) ]
 
 -- ---- the test
 

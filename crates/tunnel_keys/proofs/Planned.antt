@@ -10,11 +10,14 @@ use Rattle.ovn_base.specs.declared.name.Name.{Name}
 use Rattle.ovn_base.specs.declared.address.Birth.{Birth}
 use Rattle.ovn_base.specs.ByName.{at, put_all, in_order, IsByName}
 use Rattle.tunnel_keys.specs.Owners.{is_listed, datapaths_in, ports_in}
+use Rattle.tunnel_keys.specs.Order.{IsInOrder}
 use Rattle.tunnel_keys.specs.Keys.{Keys, IsKeys, retire, datapath_owner, port_owner, held_datapath, free_datapath_keys, free_port_keys, taken_datapaths, taken_ports}
-use Rattle.tunnel_keys.specs.Edits.{IsEdit, IsThereAfter, GivesKeysAfter, GivesLeastDatapathKeys, GivesLeastPortKeys, GivesLeastKeysAfter}
+use Rattle.tunnel_keys.specs.Edits.{IsEdit, IsThereAfter, GivesKeysAfter, GivesLeastDatapathKeys, GivesLeastPortKeys, GivesLeastKeys}
 use Rattle.tunnel_keys.specs.Giving.{datapath_key, port_key, given_datapaths, given_ports_on, given_ports, HasEnough}
 use Rattle.tunnel_keys.specs.declared.owner.DatapathKey.{DatapathKey}
 use Rattle.tunnel_keys.specs.declared.owner.PortKey.{PortKey}
+use Rattle.tunnel_keys.specs.declared.owner.HeldDatapath.{HeldDatapath}
+use Rattle.tunnel_keys.specs.declared.owner.HeldPort.{HeldPort}
 use Rattle.tunnel_keys.specs.declared.owner.KeyOwner.{KeyOwner}
 use Rattle.tunnel_keys.specs.declared.owner.KeyOwner.TheVariants.{Datapath, Port}
 use Rattle.ovn_base.proofs.Puts.{at_among, among_at}
@@ -218,12 +221,13 @@ module _ (before : Keys) (added removed : List KeyOwner) (keys : IsKeys before) 
 
     -- ---- the edit
 
-    pub planned_gives : GivesKeysAfter (retire before removed) added (planned (retire before removed) added)
-    planned_gives = record {
+    pub planned_gives : (rd : List HeldDatapath) (rp : List HeldPort) → IsInOrder (λ (h : HeldDatapath). h.owner) (retire before removed).retired_datapaths rd → IsInOrder (λ (h : HeldPort). h.owner) (retire before removed).retired_ports rp
+        → GivesKeysAfter (retire before removed) added (record (planned (retire before removed) added) { retired_datapaths = rd; retired_ports = rp })
+    planned_gives rd rp datapaths_are ports_are = record {
       datapath_range = refl;
       port_range = refl;
-      retired_datapaths = refl;
-      retired_ports = refl;
+      retired_datapaths = datapaths_are;
+      retired_ports = ports_are;
       datapath_kept = datapath_kept;
       port_kept = port_kept;
       datapath_given = λ n b m.
@@ -236,8 +240,8 @@ module _ (before : Keys) (added removed : List KeyOwner) (keys : IsKeys before) 
       port_cases = λ n p f. elim (port_cases n p f) [ inl k ↦ inl k | inr m ↦ inr (new_port_owner n p m) ];
     }
 
-    least_datapaths : GivesLeastDatapathKeys (retire before removed) added (planned (retire before removed) added)
-    least_datapaths = record {
+    least_datapaths : (rd : List HeldDatapath) (rp : List HeldPort) → GivesLeastDatapathKeys (retire before removed) added (record (planned (retire before removed) added) { retired_datapaths = rd; retired_ports = rp })
+    least_datapaths rd rp = record {
       given = new_datapaths (retire before removed) added;
       order = new_datapaths_sorted;
       who = λ e. (
@@ -250,8 +254,9 @@ module _ (before : Keys) (added removed : List KeyOwner) (keys : IsKeys before) 
       least = with_keys_first datapath_key (λ d. d.key) (λ b k. refl) (in_order (datapaths_in added)) (free_datapath_keys (retire before removed));
     }
 
-    least_ports : (n : Name) (d : DatapathKey) → at (all_datapaths (retire before removed) added) n ≡ Some d → GivesLeastPortKeys (retire before removed) added (planned (retire before removed) added) (record { name = n; birth = d.birth })
-    least_ports n d f = record {
+    least_ports : (rd : List HeldDatapath) (rp : List HeldPort) (n : Name) (d : DatapathKey) → at (all_datapaths (retire before removed) added) n ≡ Some d
+        → GivesLeastPortKeys (retire before removed) added (record (planned (retire before removed) added) { retired_datapaths = rd; retired_ports = rp }) (record { name = n; birth = d.birth })
+    least_ports rd rp n d f = record {
       given = new_ports_on (retire before removed) added (n, d);
       order = new_ports_sorted (n, d);
       who = λ e. (
@@ -271,5 +276,5 @@ module _ (before : Keys) (added removed : List KeyOwner) (keys : IsKeys before) 
       least = with_keys_first (port_key n) (λ p. p.key) (λ b k. refl) (in_order (ports_in n added)) (free_port_keys (retire before removed) (record { name = n; birth = d.birth }));
     }
 
-    pub planned_least : GivesLeastKeysAfter (retire before removed) added (planned (retire before removed) added)
-    planned_least = record { to_datapaths = least_datapaths; to_ports = least_ports }
+    pub planned_least : (rd : List HeldDatapath) (rp : List HeldPort) → GivesLeastKeys (retire before removed) added (record (planned (retire before removed) added) { retired_datapaths = rd; retired_ports = rp })
+    planned_least rd rp = record { to_datapaths = least_datapaths rd rp; to_ports = least_ports rd rp }

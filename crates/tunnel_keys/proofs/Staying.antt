@@ -26,7 +26,7 @@ module _ (keys : Keys) (added removed : List KeyOwner) (after : Keys) (hold : Is
   -- ---- datapaths
 
   retired_datapath : (a : HeldDatapath) → Among a (retire keys removed).retired_datapaths → Among a (held_datapaths after)
-  retired_datapath a m = among_right a (map held_datapath after.datapaths) after.retired_datapaths (subst (λ l. Among a l) (sym gives.retired_datapaths) m)
+  retired_datapath a m = among_right a (map held_datapath after.datapaths) after.retired_datapaths ((gives.retired_datapaths.same a).1 m)
 
   stays_datapath : (e : Name × DatapathKey) → Among e keys.datapaths → Among (held_datapath e) (held_datapaths after)
   stays_datapath e m = by (is_listed removed (datapath_owner e)) refl
@@ -51,7 +51,7 @@ module _ (keys : Keys) (added removed : List KeyOwner) (after : Keys) (hold : Is
 
   module _ (also : IsKeys after) where
     retired_port : (a : HeldPort) → Among a (retire keys removed).retired_ports → Among a (held_ports after)
-    retired_port a m = among_right a (filter_map (held_port after.datapaths) after.ports) after.retired_ports (subst (λ l. Among a l) (sym gives.retired_ports) m)
+    retired_port a m = among_right a (filter_map (held_port after.datapaths) after.ports) after.retired_ports ((gives.retired_ports.same a).1 m)
 
     live_port : (q : Name) (p : PortKey) (d : DatapathKey) → at after.ports q ≡ Some p → at after.datapaths p.datapath ≡ Some d → Among (on_datapath_key q p d) (held_ports after)
     live_port q p d has under =

@@ -5,7 +5,8 @@ use Rattle.ovn_base.specs.declared.name.Name.{Name}
 use Rattle.ovn_base.specs.declared.address.Birth.{Birth}
 use Rattle.ovn_base.specs.ByName.{at, IsByName}
 use Rattle.ovn_base.specs.Once.{EachOnce}
-use Rattle.tunnel_keys.specs.Keys.{Keys, retire, held_datapaths, held_ports, IsLegalDatapathKey, IsLegalPortKey, free_datapath_keys, free_port_keys}
+use Rattle.tunnel_keys.specs.Order.{IsInOrder}
+use Rattle.tunnel_keys.specs.Keys.{Keys, IsKeys, retire, held_datapaths, held_ports, IsLegalDatapathKey, IsLegalPortKey, free_datapath_keys, free_port_keys}
 use Rattle.tunnel_keys.specs.declared.owner.Identity.{Identity}
 use Rattle.tunnel_keys.specs.declared.owner.DatapathKey.{DatapathKey}
 use Rattle.tunnel_keys.specs.declared.owner.PortKey.{PortKey}
@@ -38,6 +39,8 @@ pub record IsEdit (keys : Keys) (added removed : List KeyOwner) : Type 0 where
   -- those that go are there, and those that come never had a key
   pub removed_live : (owner : KeyOwner) → Among owner removed → IsLive keys owner
   pub added_new : (owner : KeyOwner) → Among owner added → IsNew keys owner
+  -- and no retired key is one of a datapath that comes
+  pub added_bare : (name : Name) (birth : Birth) → Among (Datapath name birth) added → (a : HeldPort) → Among a keys.retired_ports → a.datapath ≢ record { name = name; birth = birth }
   -- afterwards no two datapaths and no two ports have one name, and the datapath of each port is there
   pub one_datapath : (name : Name) (b c : Birth) → IsThereAfter keys added removed (Datapath name b) → IsThereAfter keys added removed (Datapath name c) → b ≡ c
   pub one_port : (d e name : Name) (b c : Birth) → IsThereAfter keys added removed (Port d name b) → IsThereAfter keys added removed (Port e name c) → (d ≡ e) × (b ≡ c)
@@ -50,8 +53,8 @@ pub record GivesKeysAfter (between : Keys) (added : List KeyOwner) (after : Keys
   pub datapath_range : after.datapath_range ≡ between.datapath_range
   pub port_range : after.port_range ≡ between.port_range
   -- the removed owners' keys are retired, beside those that were
-  pub retired_datapaths : after.retired_datapaths ≡ between.retired_datapaths
-  pub retired_ports : after.retired_ports ≡ between.retired_ports
+  pub retired_datapaths : IsInOrder (λ (h : HeldDatapath). h.owner) between.retired_datapaths after.retired_datapaths
+  pub retired_ports : IsInOrder (λ (h : HeldPort). h.owner) between.retired_ports after.retired_ports
   -- who stays keeps its key
   pub datapath_kept : (name : Name) (d : DatapathKey) → at between.datapaths name ≡ Some d → at after.datapaths name ≡ Some d
   pub port_kept : (name : Name) (p : PortKey) → at between.ports name ≡ Some p → at after.ports name ≡ Some p
@@ -82,12 +85,15 @@ pub record GivesLeastPortKeys (between : Keys) (added : List KeyOwner) (after : 
   pub least : map (λ e. e.1.key) given ≡ take (length given) (free_port_keys between datapath)
 
 -- of the free keys the least is taken, in order of datapath name, and in order of port name on each datapath
-pub record GivesLeastKeysAfter (between : Keys) (added : List KeyOwner) (after : Keys) : Type 0 where
+pub record GivesLeastKeys (between : Keys) (added : List KeyOwner) (after : Keys) : Type 0 where
   pub to_datapaths : GivesLeastDatapathKeys between added after
   pub to_ports : (name : Name) (d : DatapathKey) → at after.datapaths name ≡ Some d → GivesLeastPortKeys between added after (record { name = name; birth = d.birth })
 
-abbrev pub GivesLeastKeys : Keys → List KeyOwner → List KeyOwner → Keys → Type 0
-GivesLeastKeys before added removed after = GivesLeastKeysAfter (retire before removed) added after
+-- the keys after an edit: each added owner has the least key that is free
+pub record IsAfter (keys : Keys) (added removed : List KeyOwner) (after : Keys) : Type 0 where
+  pub hold : IsKeys after
+  pub gives : GivesKeys keys added removed after
+  pub least : GivesLeastKeys (retire keys removed) added after
 
 -- the port keeps its key where its datapath goes and one of that name comes: the key is then one of the new datapath
 pub record IsMoved (keys : Keys) (added removed : List KeyOwner) (after : Keys) (a : HeldPort) : Type 0 where

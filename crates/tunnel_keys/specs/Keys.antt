@@ -9,6 +9,7 @@ use Rattle.ovn_base.specs.declared.name.Name.{Name}
 use Rattle.ovn_base.specs.ByName.{at, IsByName}
 use Rattle.ovn_base.specs.SameName.{same_name}
 use Rattle.tunnel_keys.specs.Same.{same_identity}
+use Rattle.tunnel_keys.specs.Order.{IsByIdentity}
 use Rattle.tunnel_keys.specs.Owners.{is_listed}
 use Rattle.tunnel_keys.specs.declared.owner.Identity.{Identity}
 use Rattle.tunnel_keys.specs.declared.owner.DatapathKey.{DatapathKey}
@@ -18,8 +19,8 @@ use Rattle.tunnel_keys.specs.declared.owner.HeldPort.{HeldPort}
 use Rattle.tunnel_keys.specs.declared.owner.KeyOwner.{KeyOwner}
 use Rattle.tunnel_keys.specs.declared.owner.KeyOwner.TheVariants.{Datapath, Port}
 
--- the greatest keys, the live keys in order of name, and the retired keys; a live port's key is one of the live datapath
--- that has the name of the port's datapath
+-- the greatest keys, the live keys in order of name, and the retired keys in order of identity; a live port's key is one of
+-- the live datapath that has the name of the port's datapath
 pub record Keys : Type 0 where
   pub datapath_range : ℕ
   pub port_range : ℕ
@@ -64,7 +65,7 @@ held_datapaths keys = map held_datapath keys.datapaths ++ keys.retired_datapaths
 abbrev pub held_ports : Keys → List HeldPort
 held_ports keys = filter_map (held_port keys.datapaths) keys.ports ++ keys.retired_ports
 
--- the owners' keys are retired, and the others stay
+-- the owners' keys are retired, behind those that were, and the others stay
 abbrev pub retire : Keys → List KeyOwner → Keys
 retire keys removed = record keys {
   datapaths = filter (λ e. not (is_listed removed (datapath_owner e))) keys.datapaths;
@@ -125,10 +126,10 @@ pub record IsKeys (keys : Keys) : Type 0 where
   pub port_ranges : (1 ≤ keys.port_range) × (keys.port_range ≤ 32767)
   pub datapaths_in_order : IsByName keys.datapaths
   pub ports_in_order : IsByName keys.ports
+  pub retired_datapaths_in_order : IsByIdentity (λ (h : HeldDatapath). h.owner) keys.retired_datapaths
+  pub retired_ports_in_order : IsByIdentity (λ (h : HeldPort). h.owner) keys.retired_ports
   -- the datapath of a live port is there
   pub on_datapath : (e : Name × PortKey) → Among e keys.ports → IsSome (at keys.datapaths e.1.datapath)
-  -- and that of a retired one has or had a key
-  pub on_held : (a : HeldPort) → Among a keys.retired_ports → (b : HeldDatapath) × Among b (held_datapaths keys) × (b.owner ≡ a.datapath)
   -- all keys are in range
   pub datapath_keys : (a : HeldDatapath) → Among a (held_datapaths keys) → (1 ≤ a.key) × (a.key ≤ keys.datapath_range)
   pub port_keys : (a : HeldPort) → Among a (held_ports keys) → (1 ≤ a.key) × (a.key ≤ keys.port_range)

@@ -1,9 +1,10 @@
 -- Definitions that contracts cite.
 pub mod Grouped
 pub mod Same
+pub mod Order
 pub mod Owners
 pub mod Keys
 pub mod Edits
 pub mod Causes
-pub mod Fitting
+pub mod Births
 pub mod Giving

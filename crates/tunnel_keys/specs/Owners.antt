@@ -1,4 +1,4 @@
--- Lists of owners.
+-- Owners, and lists of them.
 use Rattle.std.specs.Prelude.{Bool, List, Option, Some, None, cond}
 use Rattle.std.specs.List.{list_any, filter_map}
 use Rattle.ovn_base.specs.declared.name.Name.{Name}
@@ -7,6 +7,21 @@ use Rattle.ovn_base.specs.SameName.{same_name}
 use Rattle.tunnel_keys.specs.Same.{same_owner}
 use Rattle.tunnel_keys.specs.declared.owner.KeyOwner.{KeyOwner}
 use Rattle.tunnel_keys.specs.declared.owner.KeyOwner.TheVariants.{Datapath, Port}
+
+-- its name
+abbrev pub name_in : KeyOwner → Name
+name_in (Datapath name birth) = name
+name_in (Port datapath name birth) = name
+
+-- the event that added it
+abbrev pub birth_in : KeyOwner → Birth
+birth_in (Datapath name birth) = birth
+birth_in (Port datapath name birth) = birth
+
+-- the datapath of a port
+abbrev pub place_in : KeyOwner → Name
+place_in (Datapath name birth) = name
+place_in (Port datapath name birth) = datapath
 
 -- the owner is one of them
 abbrev pub is_listed : List KeyOwner → KeyOwner → Bool

@@ -9,5 +9,3 @@ pub mod laws;
 pub mod owner;
 mod retiring;
 pub mod store;
-#[cfg(test)]
-mod tests;

@@ -8,7 +8,7 @@ use ovn_base::address::Birth;
 use ovn_base::name::Name;
 
 /// A record by its name and by the event that added it: one that is removed and added again is another.
-#[derive(Clone, Copy, PartialEq, Eq, Debug)]
+#[derive(Clone, Copy, PartialEq, Eq, PartialOrd, Ord, Debug)]
 pub struct Identity {
     pub name: Name,
     pub birth: Birth,
@@ -76,14 +76,14 @@ pub struct PortKey {
 }
 
 /// A key and the datapath that has or had it.
-#[derive(Clone, Copy, PartialEq, Eq, Debug)]
+#[derive(Clone, Copy, PartialEq, Eq, PartialOrd, Ord, Debug)]
 pub struct HeldDatapath {
     pub owner: Identity,
     pub key: u32,
 }
 
 /// A key, the port that has or had it, and the datapath among whose keys it is or was.
-#[derive(Clone, Copy, PartialEq, Eq, Debug)]
+#[derive(Clone, Copy, PartialEq, Eq, PartialOrd, Ord, Debug)]
 pub struct HeldPort {
     pub owner: Identity,
     pub datapath: Identity,

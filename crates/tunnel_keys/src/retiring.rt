@@ -1,6 +1,9 @@
 //! What becomes of the keys of removed owners.
-ghost use Rattle.std.specs.Prelude.{◌≡◌, ◌++◌, ◌∷◌, [], IfOk, OnOk, cond, map, not};
+ghost use Rattle.std.specs.Prelude.{◌≡◌, ◌↔◌, ◌++◌, ◌∷◌, [], IfOk, OnOk, cond, map, not};
 ghost use Rattle.std.specs.List.{filter, filter_map, cons_option};
+ghost use Rattle.std.specs.List.Sorted.{IsStrictlySortedBy};
+ghost use Rattle.std.specs.declared.cmp.Ordering.TheVariants.{Equal};
+ghost use Rattle.ovn_base.specs.Among.{Among};
 ghost use Rattle.ovn_base.specs.ByName.{put_all, in_order};
 ghost use Rattle.tunnel_keys.specs.Owners.{is_listed};
 ghost use Rattle.tunnel_keys.specs.Keys.{datapath_owner, port_owner, held_datapath, held_port};
@@ -10,7 +13,7 @@ use ovn_base::list::List;
 use ovn_base::memory::NoMemory;
 use ovn_base::name::Name;
 use std::alloc::Global;
-use std::collections::BTreeMap;
+use std::collections::{BTreeMap, BTreeSet};
 
 // Puts each of the others among the entries, in order of name.
 pub(crate) fn put_each<V: Drop>(
@@ -22,6 +25,23 @@ pub(crate) fn put_each<V: Drop>(
     let mut all = entries;
     for (name, value) in others {
         all.insert(name, value)?;
+    }
+    Ok(all)
+}
+
+// The same, the lesser before the greater.
+pub(crate) fn in_order<H: Ord + Copy + Drop>(alloc: Global, held: &[H]) -> Result<List<H>, NoMemory>
+    requires exact { (a b : H) → H.cmp a b ≡ Equal → a ≡ b }
+    ensures order { IfOk result (λ l. IsStrictlySortedBy H.cmp l) }
+    ensures same { IfOk result (λ l. (h : H) → Among h l ↔ Among h held.now) }
+{
+    let mut sorted = BTreeSet::new(alloc);
+    for key in held {
+        sorted.insert(*key)?;
+    }
+    let mut all = List::new(alloc);
+    for key in &sorted {
+        all.push(*key)?;
     }
     Ok(all)
 }

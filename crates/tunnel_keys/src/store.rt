@@ -3,14 +3,14 @@ ghost use Rattle.std.specs.Prelude.{◌≡◌, ◌≤◌, IfOk, IfErr};
 ghost use Rattle.std.specs.Option.{option_copied, option_map};
 ghost use Rattle.ovn_base.specs.ByName.{at};
 ghost use Rattle.tunnel_keys.specs.Keys.{IsKeys, no_keys, settled, ports_on};
-ghost use Rattle.tunnel_keys.specs.Edits.{IsEdit, GivesKeys, GivesLeastKeys, IsPlanFor};
+ghost use Rattle.tunnel_keys.specs.Edits.{IsEdit, IsAfter, IsPlanFor};
 ghost use Rattle.tunnel_keys.specs.Causes.{IsCause, HasKeys};
 
 use crate::fault::KeyFault;
 use crate::giving::{give_datapath_keys, give_port_keys, listed_ports};
 use crate::owner::{DatapathKey, HeldDatapath, HeldPort, KeyOwner, PortKey};
 use crate::retiring::{
-    put_each, retired_datapaths, retired_ports, staying_datapaths, staying_ports,
+    in_order, put_each, retired_datapaths, retired_ports, staying_datapaths, staying_ports,
 };
 use ovn_base::list::List;
 use ovn_base::memory::NoMemory;
@@ -155,9 +155,9 @@ impl KeyStore {
     /// order of their names. A port that is not removed keeps its key, also where the edit removes its datapath and adds one
     /// of that name; the key is then one of the new datapath.
     ///
-    /// The edit must fit the keys ([`IsEdit`]): no owner stands twice in a list, the removed ones are live, and no key, live
-    /// or retired, is or was one of an added one. Afterwards no two datapaths and no two ports have one name, and the
-    /// datapath of each port is there.
+    /// The edit must fit the keys ([`IsEdit`]): no owner stands twice in a list, the removed ones are live, no key, live or
+    /// retired, is or was one of an added one, and no retired key of a port was one of an added datapath. Afterwards no two
+    /// datapaths and no two ports have one name, and the datapath of each port is there.
     ///
     /// The keys stay as they are, whatever the answer. `NoDatapathKey` comes where more datapaths are added than keys of the
     /// range are neither live nor retired, and `NoPortKey` of the first datapath, in order of name, to which more ports are
@@ -165,9 +165,7 @@ impl KeyStore {
     pub fn plan(&mut self, added: &[KeyOwner], removed: &[KeyOwner]) -> Result<KeyPlan, KeyFault>
         requires { IsEdit self.old added.now removed.now }
         ensures kept { self.new ≡ self.old }
-        ensures gives { IfOk result (GivesKeys self.old added.now removed.now) }
-        ensures least { IfOk result (GivesLeastKeys self.old added.now removed.now) }
-        ensures hold { IfOk result IsKeys }
+        ensures after { IfOk result (IsAfter self.old added.now removed.now) }
         ensures enough { IfOk result (λ plan. HasKeys self.old added.now removed.now) }
         ensures fault { IfErr result (IsCause self.old added.now removed.now) }
     {
@@ -188,31 +186,22 @@ impl KeyStore {
     // The keys after an edit.
     fn after(&self, added: &[KeyOwner], removed: &[KeyOwner]) -> Result<KeyStore, KeyFault>
         requires { IsEdit self.now added.now removed.now }
-        ensures gives { IfOk result (GivesKeys self.now added.now removed.now) }
-        ensures least { IfOk result (GivesLeastKeys self.now added.now removed.now) }
-        ensures hold { IfOk result IsKeys }
+        ensures after { IfOk result (IsAfter self.now added.now removed.now) }
         ensures enough { IfOk result (λ keys. HasKeys self.now added.now removed.now) }
         ensures fault { IfErr result (IsCause self.now added.now removed.now) }
     {
         let alloc = self.retired_ports.allocator();
         let staying = staying_datapaths(alloc, &self.datapaths, removed)?;
         let ports = staying_ports(alloc, &self.ports, removed)?;
-        let retired_datapaths = retired_datapaths(
-            &self.retired_datapaths,
-            &self.datapaths,
-            removed,
-        )?;
-        let retired_ports = retired_ports(
-            &self.retired_ports,
-            &self.datapaths,
-            &self.ports,
-            removed,
-        )?;
-        let more = give_datapath_keys(self.datapath_range, &staying, &retired_datapaths, added)?;
+        let gone = retired_datapaths(&self.retired_datapaths, &self.datapaths, removed)?;
+        let gone_ports = retired_ports(&self.retired_ports, &self.datapaths, &self.ports, removed)?;
+        let more = give_datapath_keys(self.datapath_range, &staying, &gone, added)?;
         let datapaths = put_each(staying, more)?;
-        let more = give_port_keys(self.port_range, &ports, &retired_ports, added, &datapaths)?;
+        let more = give_port_keys(self.port_range, &ports, &gone_ports, added, &datapaths)?;
         let ports = put_each(ports, more)?;
         let lists = listed_ports(alloc, &datapaths, &ports)?;
+        let retired_datapaths = in_order(alloc, gone.as_slice())?;
+        let retired_ports = in_order(alloc, gone_ports.as_slice())?;
         Ok(KeyStore {
             datapath_range: self.datapath_range,
             port_range: self.port_range,

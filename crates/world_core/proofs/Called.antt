@@ -24,7 +24,8 @@ use Rattle.tunnel_keys.specs.declared.owner.PortKey.{PortKey}
 use Rattle.world_core.specs.Seen.{AreNamed}
 use Rattle.world_core.specs.Sound.{HaveKeys}
 use Rattle.world_core.proofs.KeyLaws.{datapath_under, datapaths_apart, no_datapath_key, port_fits, ports_apart}
-use Rattle.world_core.proofs.Owning.{name_in, not_port, the_one}
+use Rattle.tunnel_keys.specs.Owners.{name_in}
+use Rattle.tunnel_keys.proofs.OwnerLaws.{not_port, the_one}
 
 -- ---- pairs of keys
 

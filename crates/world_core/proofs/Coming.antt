@@ -18,11 +18,13 @@ use Rattle.world_core.specs.Editing.{with_name}
 use Rattle.world_core.specs.New.{AreNew}
 use Rattle.world_core.specs.State.{State, counted, events_of, finished}
 use Rattle.world_core.specs.Zones.{zone_for}
-use Rattle.world_core.proofs.Given.{given_beside, switch_keys, port_keys, keys_born}
+use Rattle.tunnel_keys.proofs.Births.{born_later, keys_born}
+use Rattle.world_core.proofs.Given.{given_beside, switch_keys, port_keys}
 use Rattle.world_core.proofs.InOrder.{name_kept, names_few, names_sorted}
 use Rattle.world_core.proofs.Kept.{switch_valid, port_valid, some_kept, bound_kept, bound_fresh, born_kept, born_switch, born_port}
 use Rattle.world_core.proofs.Lasting.{port_kept, same_kept, switch_kept, way_on}
-use Rattle.world_core.proofs.Owning.{birth_in, the_one}
+use Rattle.tunnel_keys.specs.Owners.{birth_in}
+use Rattle.tunnel_keys.proofs.OwnerLaws.{the_one}
 use Rattle.world_core.proofs.Settling.{finished_consistent}
 use Rattle.world_core.proofs.Zoning.{zone_is}
 
@@ -56,7 +58,7 @@ module _ (m : State) (zones : List (Name × ℕ)) (old : IsConsistent m zones) (
           keys = switch_keys m.net m.keys after old.keys hold s beside;
           bound = bound_kept m n zones old.bound refl (λ q h. h) (λ c h. h) old.bound.chassis_sorted old.bound.few_chassis;
           born = born_switch m n old.born (omega arith) (λ h. omega arith) s.name s refl (omega (arith, birth))
-              (keys_born m old.born old.keys after hold (events_of n) (omega arith) (Datapath s.name s.birth ∷ []) (λ owner among. in_time owner (Datapath s.name s.birth) among birth) beside);
+              (keys_born m.keys (Datapath s.name s.birth ∷ []) [] after (events_of n) old.keys.hold hold gives (born_later m.keys (events_of m) (events_of n) (omega arith) old.born.keys) (λ owner among. in_time owner (Datapath s.name s.birth) among birth));
           on_the_way = way_on m n old.born (switch_kept m (Datapath s.name s.birth ∷ []) after old.keys.hold hold gives s birth n refl refl) old.on_the_way refl refl (omega arith) (λ h. omega arith);
           few = omega (arith, room);
         })
@@ -74,7 +76,7 @@ module _ (m : State) (zones : List (Name × ℕ)) (old : IsConsistent m zones) (
           keys = port_keys m.net m.keys after old.keys hold p beside;
           bound = bound_kept m n zones old.bound refl (λ q h. some_kept m.net.ports p.name p q h) (λ c h. h) old.bound.chassis_sorted old.bound.few_chassis;
           born = born_port m n old.born (omega arith) (λ h. omega arith) p.name p refl (omega (arith, birth))
-              (keys_born m old.born old.keys after hold (events_of n) (omega arith) (Port p.switch p.name p.birth ∷ []) (λ owner among. in_time owner (Port p.switch p.name p.birth) among birth) beside);
+              (keys_born m.keys (Port p.switch p.name p.birth ∷ []) [] after (events_of n) old.keys.hold hold gives (born_later m.keys (events_of m) (events_of n) (omega arith) old.born.keys) (λ owner among. in_time owner (Port p.switch p.name p.birth) among birth));
           on_the_way = way_on m n old.born (port_kept m (Port p.switch p.name p.birth ∷ []) after old.keys.hold hold gives n refl refl) old.on_the_way refl refl (omega arith) (λ h. omega arith);
           few = omega (arith, room);
         })

@@ -22,6 +22,9 @@ use Rattle.ovn_base.specs.declared.name.Name.{Name}
 use Rattle.ovn_base.proofs.Puts.{put_other, put_there}
 use Rattle.switch_engine.specs.declared.effect.NetEffect.{NetEffect}
 use Rattle.switch_engine.specs.declared.walk.Walk.{Walk}
+use Rattle.tunnel_keys.specs.declared.owner.HeldDatapath.{HeldDatapath}
+use Rattle.tunnel_keys.specs.declared.owner.HeldPort.{HeldPort}
+use Rattle.tunnel_keys.proofs.Ordered.{none_in_order}
 use Rattle.tunnel_keys.specs.Edits.{GivesKeys, GivesKeysAfter}
 use Rattle.tunnel_keys.specs.Keys.{Keys}
 use Rattle.tunnel_keys.specs.declared.owner.DatapathKey.{DatapathKey}
@@ -119,7 +122,10 @@ module _ (old done new : Seen) (mid : State) (names : List (ℕ × ℕ × Name))
     beside = given_beside m.keys added after gives
 
     settled_same : settled_where_none_waits m.waiting after ≡ after
-    settled_same = same_settled m.waiting after (beside.retired_datapaths ∙ taken.consistent.keys.no_retired_datapaths) (beside.retired_ports ∙ taken.consistent.keys.no_retired_ports)
+    settled_same =
+        let have = taken.consistent.keys in
+        same_settled m.waiting after (none_in_order (λ (h : HeldDatapath). h.owner) m.keys.retired_datapaths after.retired_datapaths beside.retired_datapaths have.no_retired_datapaths)
+        (none_in_order (λ (h : HeldPort). h.owner) m.keys.retired_ports after.retired_ports beside.retired_ports have.no_retired_ports)
 
     keys_done : done.state.keys ≡ after
     keys_done = ap (λ (v : Seen). v.state.keys) over ∙ ap (λ (w : State). settled_where_none_waits w.waiting w.keys) is ∙ settled_same

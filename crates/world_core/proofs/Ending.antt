@@ -7,6 +7,7 @@ use Rattle.edit_reader.specs.declared.event.Event.{Event}
 use Rattle.event_lines.specs.declared.refusal.Refusal.{Refusal}
 use Rattle.event_lines.specs.Text.{StartsWith}
 use Rattle.switch_engine.specs.declared.walk.Walk.{Walk}
+use Rattle.tunnel_keys.proofs.Births.{born_later}
 use Rattle.world_core.specs.Outcome.{IsAccepted, IsRefused}
 use Rattle.world_core.specs.Parts.{IsTaken}
 use Rattle.world_core.specs.Seen.{Seen, IsSound, AreHeld}
@@ -67,8 +68,7 @@ refused_taken w taken room =
         born = record {
           switches = λ a switch is. let b = now.born.switches a switch is in omega (arith, b);
           ports = λ q port is. let b = now.born.ports q port is in omega (arith, b);
-          datapath_keys = λ h among. let b = now.born.datapath_keys h among in omega (arith, b);
-          port_keys = λ h among. let b = now.born.port_keys h among in omega (arith, b);
+          keys = born_later m.keys (events_of m) (events_of (record m { refused = m.refused + 1 })) (omega arith) now.born.keys;
           none = now.born.none;
         };
         on_the_way = record {

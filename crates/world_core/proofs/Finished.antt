@@ -5,8 +5,9 @@ use Rattle.ovn_base.specs.Among.{Among}
 use Rattle.ovn_base.specs.declared.name.Name.{Name}
 use Rattle.ovn_base.proofs.AmongLaws.{among_none}
 use Rattle.chassis_sim.specs.State as sim
+use Rattle.tunnel_keys.proofs.Births.{born_later, settled_born}
 use Rattle.tunnel_keys.specs.Keys.{Keys, settled}
-use Rattle.tunnel_keys.proofs.Invariant.{settled_hold, settled_datapath, settled_port}
+use Rattle.tunnel_keys.proofs.Invariant.{settled_hold}
 use Rattle.world_core.specs.declared.crossing.Crossing.{Crossing}
 use Rattle.world_core.specs.Consistent.{IsConsistent}
 use Rattle.world_core.specs.Refinement.{IsAmidst, Finishes}
@@ -23,8 +24,7 @@ counted_births : (m : State) → AreBorn m → AreBorn (with m m.keys)
 counted_births m b = record {
   switches = λ a switch h. let old = b.switches a switch h in omega (arith, old);
   ports = λ q port h. let old = b.ports q port h in omega (arith, old);
-  datapath_keys = λ a h. let old = b.datapath_keys a h in omega (arith, old);
-  port_keys = λ a h. let old = b.port_keys a h in omega (arith, old);
+  keys = born_later m.keys (events_of m) (events_of (with m m.keys)) (omega arith) b.keys;
   none = λ z. absurd (omega (arith, z));
 }
 
@@ -82,8 +82,7 @@ module _ (m : State) (zones : List (Name × ℕ)) (more : ℕ) (s : sim.SimState
   born_settled = let b = counted_births m a.born in record {
     switches = b.switches;
     ports = b.ports;
-    datapath_keys = λ x w. b.datapath_keys x (settled_datapath m.keys x w);
-    port_keys = λ x w. b.port_keys x (settled_port m.keys x w);
+    keys = settled_born m.keys (events_of (with m m.keys)) b.keys;
     none = b.none;
   }
 

@@ -15,9 +15,8 @@ use Rattle.nb_records.specs.Network.{Network}
 use Rattle.ovn_base.proofs.Puts.{put_there, put_other, put_cases, put_sorted, one_or_two}
 use Rattle.nb_records.specs.declared.record.Switch.{Switch}
 use Rattle.nb_records.specs.declared.record.SwitchPort.{SwitchPort}
-use Rattle.tunnel_keys.specs.Keys.{Keys, held_datapaths, held_ports}
-use Rattle.tunnel_keys.specs.declared.owner.HeldDatapath.{HeldDatapath}
-use Rattle.tunnel_keys.specs.declared.owner.HeldPort.{HeldPort}
+use Rattle.tunnel_keys.specs.Births.{AreKeysBorn}
+use Rattle.tunnel_keys.proofs.Births.{born_later}
 use Rattle.world_core.specs.State.{State, events_of}
 use Rattle.world_core.specs.Addresses.{macs_in, HasMac, HasIp}
 use Rattle.world_core.specs.New.{AreNew}
@@ -188,19 +187,13 @@ no_zone m zones p bound free = by (at zones p) refl
 
 -- ---- births
 
--- no owner of a key is younger than the last event
-pub record AreKeysBorn (keys : Keys) (last : ℕ) : Type 0 where
-  pub datapaths : (a : HeldDatapath) → Among a (held_datapaths keys) → a.owner.birth.0 ≤ last
-  pub ports : (a : HeldPort) → Among a (held_ports keys) → a.owner.birth.0 ≤ last
-
 module _ (m n : State) (born : AreBorn m) (later : events_of m ≤ events_of n) where
   pub born_kept : (n.accepted ≡ 0 → m.accepted ≡ 0) → n.net ≡ m.net → n.keys ≡ m.keys → AreBorn n
   born_kept fresh net keys = record {
     none = λ h. net ∙ born.none (fresh h);
     switches = λ a s e. let old : s.birth.0 ≤ events_of m = born.switches a s (ap (λ (w : Network). at w.switches a) (sym net) ∙ e) in omega (arith, old, later);
     ports = λ q p e. let old : p.birth.0 ≤ events_of m = born.ports q p (ap (λ (w : Network). at w.ports q) (sym net) ∙ e) in omega (arith, old, later);
-    datapath_keys = λ a held. let old : a.owner.birth.0 ≤ events_of m = born.datapath_keys a (subst (λ k. Among a (held_datapaths k)) keys held) in omega (arith, old, later);
-    port_keys = λ a held. let old : a.owner.birth.0 ≤ events_of m = born.port_keys a (subst (λ k. Among a (held_ports k)) keys held) in omega (arith, old, later);
+    keys = subst (λ k. AreKeysBorn k (events_of n)) (sym keys) (born_later m.keys (events_of m) (events_of n) later born.keys);
   }
 
   pub born_switch : n.accepted ≢ 0 → (name : Name) (switch : Switch) → n.net ≡ record m.net { switches = put m.net.switches name switch } → switch.birth.0 ≤ events_of n → AreKeysBorn n.keys (events_of n) → AreBorn n
@@ -211,8 +204,7 @@ module _ (m n : State) (born : AreBorn m) (later : events_of m ≤ events_of n) 
       | inr rest ↦ let old : s.birth.0 ≤ events_of m = born.switches a s rest.1 in omega (arith, old, later)
     ];
     ports = λ q p e. let old : p.birth.0 ≤ events_of m = born.ports q p (ap (λ (w : Network). at w.ports q) (sym net) ∙ e) in omega (arith, old, later);
-    datapath_keys = keys.datapaths;
-    port_keys = keys.ports;
+    keys = keys;
   }
 
   pub born_port : n.accepted ≢ 0 → (name : Name) (port : SwitchPort) → n.net ≡ record m.net { ports = put m.net.ports name port } → port.birth.0 ≤ events_of n → AreKeysBorn n.keys (events_of n) → AreBorn n
@@ -223,6 +215,5 @@ module _ (m n : State) (born : AreBorn m) (later : events_of m ≤ events_of n) 
       | inl is ↦ subst (λ (w : SwitchPort). w.birth.0 ≤ events_of n) (sym is.1) in_time
       | inr rest ↦ let old : p.birth.0 ≤ events_of m = born.ports q p rest.1 in omega (arith, old, later)
     ];
-    datapath_keys = keys.datapaths;
-    port_keys = keys.ports;
+    keys = keys;
   }

@@ -42,7 +42,7 @@ pub record AreKept (m n : State) : Type 0 where
 module _ (m n : State) (born : AreBorn m) (kept : AreKept m n) where
   live_on : (datapath port : Identity) → (h : HeldDatapath) × Among h (held_datapaths m.keys) × (h.owner ≡ datapath) → (h : HeldPort) × Among h (held_ports m.keys) × (h.owner ≡ port) → IsOnLive m datapath port → IsOnLive n datapath port
   live_on datapath port d p live now h among owns =
-      let early : datapath.birth.0 ≤ events_of m = subst (λ (o : Identity). o.birth.0 ≤ events_of m) d.2 (born.datapath_keys d.0 d.1) in
+      let early : datapath.birth.0 ≤ events_of m = subst (λ (o : Identity). o.birth.0 ≤ events_of m) d.2 (born.keys.datapaths d.0 d.1) in
       let one : h ≡ p.0 = kept.hold.port_once h p.0 among (kept.ports p.0 p.1) (owns ∙ sym p.2) in
       ap (λ (g : HeldPort). g.datapath) one ∙ live (kept.switches datapath early now) p.0 p.1 p.2
 

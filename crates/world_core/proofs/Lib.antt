@@ -1,7 +1,6 @@
 -- Lemmas.
 pub mod Found
 pub mod Kept
-pub mod Owning
 pub mod Given
 pub mod InOrder
 pub mod KeysFound

@@ -19,6 +19,9 @@ use Rattle.event_lines.specs.declared.refusal.Refusal.{Refusal}
 use Rattle.event_lines.specs.declared.refusal.Refusal.TheVariants as why
 use Rattle.event_lines.specs.Picks.{Pick, datapath_key, port_key, picks_of}
 use Rattle.switch_engine.specs.declared.effect.NetEffect.{NetEffect}
+use Rattle.tunnel_keys.specs.declared.owner.HeldDatapath.{HeldDatapath}
+use Rattle.tunnel_keys.specs.declared.owner.HeldPort.{HeldPort}
+use Rattle.tunnel_keys.proofs.Ordered.{one_order}
 use Rattle.tunnel_keys.specs.Edits.{GivesKeysAfter}
 use Rattle.tunnel_keys.specs.Keys.{Keys, retire}
 use Rattle.tunnel_keys.specs.Owners.{datapaths_in, ports_in}
@@ -162,8 +165,8 @@ module _ (between : Keys) (owners : List KeyOwner) where
         (port_found b a gb ga (λ o among. sym (second.0 o (subst (λ os. Among o os) placed among)))) in
         let datapath_range = ga.datapath_range ∙ sym gb.datapath_range in
         let port_range = ga.port_range ∙ sym gb.port_range in
-        let retired_datapaths = ga.retired_datapaths ∙ sym gb.retired_datapaths in
-        let retired_ports = ga.retired_ports ∙ sym gb.retired_ports in (
+        let retired_datapaths = one_order (λ (h : HeldDatapath). h.owner) between.retired_datapaths a.retired_datapaths b.retired_datapaths ga.retired_datapaths gb.retired_datapaths in
+        let retired_ports = one_order (λ (h : HeldPort). h.owner) between.retired_ports a.retired_ports b.retired_ports ga.retired_ports gb.retired_ports in (
           (λ i. record { datapath_range = datapath_range i; port_range = port_range i; datapaths = datapaths i; ports = ports i; retired_datapaths = retired_datapaths i; retired_ports = retired_ports i }),
           second.1,
         )

@@ -133,7 +133,7 @@ amidst_with m zones more most waiting next a crossings few = record {
     zone_fits = a.bound.zone_fits;
     zones_apart = a.bound.zones_apart;
   };
-  born = record { switches = a.born.switches; ports = a.born.ports; datapath_keys = a.born.datapath_keys; port_keys = a.born.port_keys; none = a.born.none };
+  born = record { switches = a.born.switches; ports = a.born.ports; keys = a.born.keys; none = a.born.none };
   crossings = crossings;
   few = a.few;
   few_sent = few;

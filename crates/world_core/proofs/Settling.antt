@@ -4,11 +4,12 @@ use Rattle.std.proofs.Common.{subst}
 use Rattle.ovn_base.specs.Among.{Among}
 use Rattle.ovn_base.specs.declared.name.Name.{Name}
 use Rattle.ovn_base.proofs.AmongLaws.{among_none}
+use Rattle.tunnel_keys.proofs.Births.{settled_born}
 use Rattle.tunnel_keys.specs.Keys.{Keys, settled}
-use Rattle.tunnel_keys.proofs.Invariant.{settled_hold, settled_datapath, settled_port}
+use Rattle.tunnel_keys.proofs.Invariant.{settled_hold}
 use Rattle.world_core.specs.declared.crossing.Crossing.{Crossing}
 use Rattle.world_core.specs.Consistent.{IsConsistent}
-use Rattle.world_core.specs.State.{State, counted, finished, settled_where_none_waits}
+use Rattle.world_core.specs.State.{State, events_of, counted, finished, settled_where_none_waits}
 
 module _ (c : State) (zones : List (Name × ℕ)) (old : IsConsistent c zones) where
   abbrev under : Keys → State
@@ -47,8 +48,7 @@ module _ (c : State) (zones : List (Name × ℕ)) (old : IsConsistent c zones) w
     born = record {
       switches = old.born.switches;
       ports = old.born.ports;
-      datapath_keys = λ h among. old.born.datapath_keys h (settled_datapath c.keys h among);
-      port_keys = λ h among. old.born.port_keys h (settled_port c.keys h among);
+      keys = settled_born c.keys (events_of (under (settled c.keys))) old.born.keys;
       none = old.born.none;
     };
     on_the_way = record {

@@ -12,6 +12,7 @@ use Rattle.world_core.specs.declared.crossing.Crossing.{Crossing}
 use Rattle.tunnel_keys.specs.Keys.{Keys, IsKeys, no_keys}
 use Rattle.world_core.specs.Consistent.{IsConsistent}
 use Rattle.world_core.specs.Parts.{new_world}
+use Rattle.tunnel_keys.proofs.Invariant.{none_hold}
 use Rattle.world_core.specs.Seen.{IsSound, AreHeld}
 use Rattle.world_core.specs.Sound.{IsValid, HaveKeys, AreBound, AreBorn, AreCrossings}
 use Rattle.world_core.specs.State.{empty}
@@ -21,23 +22,7 @@ abbrev first_keys : Keys
 first_keys = no_keys 16777215 32767
 
 new_keys : IsKeys first_keys
-unfolding IsStrictlySortedBy
-new_keys = record {
-  datapath_ranges = (omega arith, omega arith);
-  port_ranges = (omega arith, omega arith);
-  datapaths_in_order = tt;
-  ports_in_order = tt;
-  on_datapath = λ e among. absurd (among_none e among);
-  on_held = λ a among. absurd (among_none a among);
-  datapath_keys = λ a among. absurd (among_none a among);
-  port_keys = λ a among. absurd (among_none a among);
-  datapaths_apart = λ a b among also same. absurd (among_none a among);
-  ports_apart = λ a b among also on same. absurd (among_none a among);
-  datapath_once = λ a b among also same. absurd (among_none a among);
-  port_once = λ a b among also same. absurd (among_none a among);
-  datapath_live = λ e a among also. absurd (among_none e among);
-  port_live = λ e a among also. absurd (among_none e among);
-}
+new_keys = none_hold 16777215 32767 (omega arith, omega arith) (omega arith, omega arith)
 
 new_valid : IsValid empty.net
 unfolding IsStrictlySortedBy
@@ -86,8 +71,7 @@ new_born : AreBorn empty
 new_born = record {
   switches = λ a switch e. absurd (none-some switch e);
   ports = λ q port e. absurd (none-some port e);
-  datapath_keys = λ a among. absurd (among_none a among);
-  port_keys = λ a among. absurd (among_none a among);
+  keys = record { datapaths = λ a among. absurd (among_none a among); ports = λ a among. absurd (among_none a among); port_datapaths = λ a among. absurd (among_none a among) };
   none = λ _. refl;
 }
 

@@ -18,6 +18,7 @@ use Rattle.flow_table.specs.declared.flow.Flow.{Flow}
 use Rattle.nb_records.specs.Network.{Network, empty_network}
 use Rattle.nb_records.specs.declared.record.Switch.{Switch}
 use Rattle.nb_records.specs.declared.record.SwitchPort.{SwitchPort}
+use Rattle.tunnel_keys.specs.Births.{AreKeysBorn}
 use Rattle.tunnel_keys.specs.Keys.{Keys, IsKeys, held_datapaths, held_ports}
 use Rattle.tunnel_keys.specs.declared.owner.DatapathKey.{DatapathKey}
 use Rattle.tunnel_keys.specs.declared.owner.PortKey.{PortKey}
@@ -85,12 +86,12 @@ pub record AreBound (m : State) (zones : List (Name × ℕ)) : Type 0 where
   pub zone_fits : (q : Name) (z : ℕ) → at zones q ≡ Some z → (1 ≤ z) × (z < 2 ^ 16)
   pub zones_apart : (p q c : Name) (z : ℕ) → at m.bindings p ≡ Some c → at m.bindings q ≡ Some c → at zones p ≡ Some z → at zones q ≡ Some z → p ≡ q
 
--- no record, and no owner of a key, is younger than the last event, and where no event was accepted there is no record
+-- no record, no owner of a key and no datapath of a port's key is younger than the last event, and where no event was accepted
+-- there is no record
 pub record AreBorn (m : State) : Type 0 where
   pub switches : (a : Name) (switch : Switch) → at m.net.switches a ≡ Some switch → switch.birth.0 ≤ events_of m
   pub ports : (q : Name) (port : SwitchPort) → at m.net.ports q ≡ Some port → port.birth.0 ≤ events_of m
-  pub datapath_keys : (a : HeldDatapath) → Among a (held_datapaths m.keys) → a.owner.birth.0 ≤ events_of m
-  pub port_keys : (a : HeldPort) → Among a (held_ports m.keys) → a.owner.birth.0 ≤ events_of m
+  pub keys : AreKeysBorn m.keys (events_of m)
   pub none : m.accepted ≡ 0 → m.net ≡ empty_network
 
 -- who an aim names has or had a key

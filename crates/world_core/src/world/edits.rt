@@ -4,8 +4,7 @@ ghost use Rattle.ovn_base.specs.ByName.{at, put};
 ghost use Rattle.nb_records.specs.declared.record.Op.TheVariants.{Add};
 ghost use Rattle.nb_records.specs.declared.record.Record.TheVariants as record_of;
 ghost use Rattle.tunnel_keys.specs.Causes.{HasKeys};
-ghost use Rattle.tunnel_keys.specs.Edits.{GivesKeys, IsEdit};
-ghost use Rattle.tunnel_keys.specs.Keys.{IsKeys};
+ghost use Rattle.tunnel_keys.specs.Edits.{IsAfter, IsEdit};
 ghost use Rattle.tunnel_keys.specs.declared.owner.DatapathKey.{DatapathKey};
 ghost use Rattle.tunnel_keys.specs.declared.owner.PortKey.{PortKey};
 ghost use Rattle.world_core.specs.Editing.{Edits};
@@ -30,8 +29,7 @@ fn keys_with(keys: &mut KeyStore, added: &[KeyOwner]) -> Result<KeyPlan, NoMemor
     requires fits { IsEdit keys.old added.now [] }
     requires enough { HasKeys keys.old added.now [] }
     ensures kept { keys.new ≡ keys.old }
-    ensures gives { IfOk result (GivesKeys keys.old added.now []) }
-    ensures hold { IfOk result IsKeys }
+    ensures after { IfOk result (IsAfter keys.old added.now []) }
 {
     match keys.plan(added, &[]) {
         Ok(plan) => Ok(plan),

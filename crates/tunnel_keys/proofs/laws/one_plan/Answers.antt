@@ -2,4 +2,4 @@ use Rattle.tunnel_keys.proofs.Determined.{one_result}
 use Rattle.tunnel_keys.proofs.laws.one_plan.Goals as goal
 
 pub returns : goal.returns
-returns c = λ keys added removed a b. one_result keys added removed a b
+returns c = one_result

@@ -1,10 +1,12 @@
-use Rattle.std.proofs.Common.{sym, ◌∙◌, ap, subst}
+use Rattle.std.proofs.Common.{◌↔◌, sym, ◌∙◌, ap, subst}
 use Rattle.std.proofs.lemmas.Result.{err_from_is_err_and}
+use Rattle.ovn_base.specs.Among.{Among}
 use Rattle.ovn_base.specs.ByName.{put_all}
 use Rattle.tunnel_keys.specs.Keys.{Keys}
-use Rattle.tunnel_keys.specs.Edits.{IsEdit, GivesKeys, GivesLeastKeys}
+use Rattle.tunnel_keys.specs.Edits.{IsEdit, IsAfter}
 use Rattle.tunnel_keys.specs.Causes.{IsCause, HasKeys}
-use Rattle.tunnel_keys.proofs.After.{IsRetired, datapath_cause, port_cause, datapaths_sorted, made_hold, made_gives, made_least, made_has}
+use Rattle.tunnel_keys.proofs.After.{IsRetired, datapath_cause, port_cause, datapaths_sorted, made_after, made_has}
+use Rattle.tunnel_keys.proofs.Ordered.{held_datapath_exact, held_port_exact}
 use Rattle.tunnel_keys.proofs.Listed.{lists_in_order}
 use Rattle.tunnel_keys.proofs.store.KeyStore.after.Goals as goal
 
@@ -12,69 +14,65 @@ pub returns-in_err-more-clause-fault : goal.returns-in_err-more-clause-fault
 returns-in_err-more-clause-fault c =
     let before : Keys = record { datapath_range = c.self.inside.datapath_range; port_range = c.self.inside.port_range; datapaths = c.self.inside.datapaths.entries; ports = c.self.inside.ports.entries; retired_datapaths = c.self.inside.retired_datapaths; retired_ports = c.self.inside.retired_ports } in
     let edit : IsEdit before c.args.added.now c.args.removed.now = subst (λ k. IsEdit k c.args.added.now c.args.removed.now) (sym c.self.view_is) c.requires in
-    let retired : IsRetired before c.args.removed.now c.in_ok-staying.staying.entries c.in_ok-ports.ports.entries c.in_ok-retired_datapaths.retired_datapaths c.in_ok-retired_ports.retired_ports =
-    record { staying = c.in_ok-staying.ensures; staying_ports = c.in_ok-ports.ensures; retired = c.in_ok-retired_datapaths.ensures; retired_ports = c.in_ok-retired_ports.ensures } in
+    let retired : IsRetired before c.args.removed.now c.in_ok-staying.staying.entries c.in_ok-ports.ports.entries c.in_ok-gone.gone c.in_ok-gone_ports.gone_ports =
+    record { staying = c.in_ok-staying.ensures; staying_ports = c.in_ok-ports.ensures; retired = c.in_ok-gone.ensures; retired_ports = c.in_ok-gone_ports.ensures } in
     let p = err_from_is_err_and c.from_residual-in_err-more.result c.from_residual-in_err-more.ensures.1 in
-    rw (p.1, p.2) (subst (λ k. IsCause k c.args.added.now c.args.removed.now c.in_err-more.field-0.0) c.self.view_is (datapath_cause before c.args.added.now c.args.removed.now c.self.invariant.0 edit c.in_ok-staying.staying.entries c.in_ok-ports.ports.entries c.in_ok-retired_datapaths.retired_datapaths c.in_ok-retired_ports.retired_ports retired c.in_err-more.field-0.0 c.in_err-more.ensures.fault))
+    rw (p.1, p.2) (subst (λ k. IsCause k c.args.added.now c.args.removed.now c.in_err-more.field-0.0) c.self.view_is (datapath_cause before c.args.added.now c.args.removed.now c.self.invariant.0 edit c.in_ok-staying.staying.entries c.in_ok-ports.ports.entries c.in_ok-gone.gone c.in_ok-gone_ports.gone_ports retired c.in_err-more.field-0.0 c.in_err-more.ensures.fault))
 
 pub returns-in_err-more-2-clause-fault : goal.returns-in_err-more-2-clause-fault
 returns-in_err-more-2-clause-fault c =
     let before : Keys = record { datapath_range = c.self.inside.datapath_range; port_range = c.self.inside.port_range; datapaths = c.self.inside.datapaths.entries; ports = c.self.inside.ports.entries; retired_datapaths = c.self.inside.retired_datapaths; retired_ports = c.self.inside.retired_ports } in
     let edit : IsEdit before c.args.added.now c.args.removed.now = subst (λ k. IsEdit k c.args.added.now c.args.removed.now) (sym c.self.view_is) c.requires in
-    let retired : IsRetired before c.args.removed.now c.in_ok-staying.staying.entries c.in_ok-ports.ports.entries c.in_ok-retired_datapaths.retired_datapaths c.in_ok-retired_ports.retired_ports =
-    record { staying = c.in_ok-staying.ensures; staying_ports = c.in_ok-ports.ensures; retired = c.in_ok-retired_datapaths.ensures; retired_ports = c.in_ok-retired_ports.ensures } in
+    let retired : IsRetired before c.args.removed.now c.in_ok-staying.staying.entries c.in_ok-ports.ports.entries c.in_ok-gone.gone c.in_ok-gone_ports.gone_ports =
+    record { staying = c.in_ok-staying.ensures; staying_ports = c.in_ok-ports.ensures; retired = c.in_ok-gone.ensures; retired_ports = c.in_ok-gone_ports.ensures } in
     let made = c.in_ok-datapaths.ensures ∙ ap (λ es. put_all c.in_ok-staying.staying.entries es) c.in_ok-more.ensures.given in
     let p = err_from_is_err_and c.from_residual-in_err-more-2.result c.from_residual-in_err-more-2.ensures.1 in
-    rw (p.1, p.2) (subst (λ k. IsCause k c.args.added.now c.args.removed.now c.in_err-more-2.field-0.0) c.self.view_is (port_cause before c.args.added.now c.args.removed.now c.self.invariant.0 edit c.in_ok-staying.staying.entries c.in_ok-ports.ports.entries c.in_ok-retired_datapaths.retired_datapaths c.in_ok-retired_ports.retired_ports retired c.in_ok-more.ensures.enough c.in_ok-datapaths.datapaths.entries made c.in_err-more-2.field-0.0 c.in_err-more-2.ensures.fault))
+    rw (p.1, p.2) (subst (λ k. IsCause k c.args.added.now c.args.removed.now c.in_err-more-2.field-0.0) c.self.view_is (port_cause before c.args.added.now c.args.removed.now c.self.invariant.0 edit c.in_ok-staying.staying.entries c.in_ok-ports.ports.entries c.in_ok-gone.gone c.in_ok-gone_ports.gone_ports retired c.in_ok-more.ensures.enough c.in_ok-datapaths.datapaths.entries made c.in_err-more-2.field-0.0 c.in_err-more-2.ensures.fault))
+
+pub in_order-requires : goal.in_order-requires
+in_order-requires c = record { exact = held_datapath_exact }
+
+pub in_order-requires-2 : goal.in_order-requires-2
+in_order-requires-2 c = record { exact = held_port_exact }
 
 pub invariant_of-result : goal.invariant_of-result
 invariant_of-result c =
     let before : Keys = record { datapath_range = c.self.inside.datapath_range; port_range = c.self.inside.port_range; datapaths = c.self.inside.datapaths.entries; ports = c.self.inside.ports.entries; retired_datapaths = c.self.inside.retired_datapaths; retired_ports = c.self.inside.retired_ports } in
     let edit : IsEdit before c.args.added.now c.args.removed.now = subst (λ k. IsEdit k c.args.added.now c.args.removed.now) (sym c.self.view_is) c.requires in
-    let retired : IsRetired before c.args.removed.now c.in_ok-staying.staying.entries c.in_ok-ports.ports.entries c.in_ok-retired_datapaths.retired_datapaths c.in_ok-retired_ports.retired_ports =
-    record { staying = c.in_ok-staying.ensures; staying_ports = c.in_ok-ports.ensures; retired = c.in_ok-retired_datapaths.ensures; retired_ports = c.in_ok-retired_ports.ensures } in
+    let retired : IsRetired before c.args.removed.now c.in_ok-staying.staying.entries c.in_ok-ports.ports.entries c.in_ok-gone.gone c.in_ok-gone_ports.gone_ports =
+    record { staying = c.in_ok-staying.ensures; staying_ports = c.in_ok-ports.ensures; retired = c.in_ok-gone.ensures; retired_ports = c.in_ok-gone_ports.ensures } in
     let made = c.in_ok-datapaths.ensures ∙ ap (λ es. put_all c.in_ok-staying.staying.entries es) c.in_ok-more.ensures.given in
-    let last = c.in_ok-ports-2.ensures ∙ ap (λ es. put_all c.in_ok-ports.ports.entries es) c.in_ok-more-2.ensures.given in (
-      made_hold before c.args.added.now c.args.removed.now c.self.invariant.0 edit c.in_ok-staying.staying.entries c.in_ok-ports.ports.entries c.in_ok-retired_datapaths.retired_datapaths c.in_ok-retired_ports.retired_ports retired c.in_ok-more.ensures.enough c.in_ok-datapaths.datapaths.entries made c.in_ok-more-2.ensures.enough c.in_ok-ports-2.ports.entries last,
-      c.in_ok-lists.ensures ∙ lists_in_order c.in_ok-ports-2.ports.entries c.in_ok-datapaths.datapaths.entries (datapaths_sorted before c.args.added.now c.args.removed.now c.self.invariant.0 edit c.in_ok-staying.staying.entries c.in_ok-ports.ports.entries c.in_ok-retired_datapaths.retired_datapaths c.in_ok-retired_ports.retired_ports retired c.in_ok-more.ensures.enough c.in_ok-datapaths.datapaths.entries made),
+    let last = c.in_ok-ports-2.ensures ∙ ap (λ es. put_all c.in_ok-ports.ports.entries es) c.in_ok-more-2.ensures.given in
+    let all = made_after before c.args.added.now c.args.removed.now c.self.invariant.0 edit c.in_ok-staying.staying.entries c.in_ok-ports.ports.entries c.in_ok-gone.gone c.in_ok-gone_ports.gone_ports retired
+    c.in_ok-more.ensures.enough c.in_ok-datapaths.datapaths.entries made c.in_ok-more-2.ensures.enough c.in_ok-ports-2.ports.entries last
+    c.in_ok-retired_datapaths.retired_datapaths c.in_ok-retired_ports.retired_ports c.in_ok-retired_datapaths.ensures.order c.in_ok-retired_ports.ensures.order
+    (λ h. subst (λ l. Among h c.in_ok-retired_datapaths.retired_datapaths ↔ Among h l) c.as_slice.ensures (c.in_ok-retired_datapaths.ensures.same h))
+    (λ h. subst (λ l. Among h c.in_ok-retired_ports.retired_ports ↔ Among h l) c.as_slice-2.ensures (c.in_ok-retired_ports.ensures.same h)) in (
+      all.hold,
+      c.in_ok-lists.ensures ∙ lists_in_order c.in_ok-ports-2.ports.entries c.in_ok-datapaths.datapaths.entries (datapaths_sorted before c.args.added.now c.args.removed.now c.self.invariant.0 edit c.in_ok-staying.staying.entries c.in_ok-ports.ports.entries c.in_ok-gone.gone c.in_ok-gone_ports.gone_ports retired c.in_ok-more.ensures.enough c.in_ok-datapaths.datapaths.entries made),
     )
 
-pub returns-clause-gives : goal.returns-clause-gives
-returns-clause-gives c =
+pub returns-clause-after : goal.returns-clause-after
+returns-clause-after c =
     let before : Keys = record { datapath_range = c.self.inside.datapath_range; port_range = c.self.inside.port_range; datapaths = c.self.inside.datapaths.entries; ports = c.self.inside.ports.entries; retired_datapaths = c.self.inside.retired_datapaths; retired_ports = c.self.inside.retired_ports } in
     let edit : IsEdit before c.args.added.now c.args.removed.now = subst (λ k. IsEdit k c.args.added.now c.args.removed.now) (sym c.self.view_is) c.requires in
-    let retired : IsRetired before c.args.removed.now c.in_ok-staying.staying.entries c.in_ok-ports.ports.entries c.in_ok-retired_datapaths.retired_datapaths c.in_ok-retired_ports.retired_ports =
-    record { staying = c.in_ok-staying.ensures; staying_ports = c.in_ok-ports.ensures; retired = c.in_ok-retired_datapaths.ensures; retired_ports = c.in_ok-retired_ports.ensures } in
+    let retired : IsRetired before c.args.removed.now c.in_ok-staying.staying.entries c.in_ok-ports.ports.entries c.in_ok-gone.gone c.in_ok-gone_ports.gone_ports =
+    record { staying = c.in_ok-staying.ensures; staying_ports = c.in_ok-ports.ensures; retired = c.in_ok-gone.ensures; retired_ports = c.in_ok-gone_ports.ensures } in
     let made = c.in_ok-datapaths.ensures ∙ ap (λ es. put_all c.in_ok-staying.staying.entries es) c.in_ok-more.ensures.given in
     let last = c.in_ok-ports-2.ensures ∙ ap (λ es. put_all c.in_ok-ports.ports.entries es) c.in_ok-more-2.ensures.given in
-    subst (λ k. GivesKeys k c.args.added.now c.args.removed.now (record before { datapaths = c.in_ok-datapaths.datapaths.entries; ports = c.in_ok-ports-2.ports.entries; retired_datapaths = c.in_ok-retired_datapaths.retired_datapaths; retired_ports = c.in_ok-retired_ports.retired_ports })) c.self.view_is (made_gives before c.args.added.now c.args.removed.now c.self.invariant.0 edit c.in_ok-staying.staying.entries c.in_ok-ports.ports.entries c.in_ok-retired_datapaths.retired_datapaths c.in_ok-retired_ports.retired_ports retired c.in_ok-more.ensures.enough c.in_ok-datapaths.datapaths.entries made c.in_ok-more-2.ensures.enough c.in_ok-ports-2.ports.entries last)
-
-pub returns-clause-least : goal.returns-clause-least
-returns-clause-least c =
-    let before : Keys = record { datapath_range = c.self.inside.datapath_range; port_range = c.self.inside.port_range; datapaths = c.self.inside.datapaths.entries; ports = c.self.inside.ports.entries; retired_datapaths = c.self.inside.retired_datapaths; retired_ports = c.self.inside.retired_ports } in
-    let edit : IsEdit before c.args.added.now c.args.removed.now = subst (λ k. IsEdit k c.args.added.now c.args.removed.now) (sym c.self.view_is) c.requires in
-    let retired : IsRetired before c.args.removed.now c.in_ok-staying.staying.entries c.in_ok-ports.ports.entries c.in_ok-retired_datapaths.retired_datapaths c.in_ok-retired_ports.retired_ports =
-    record { staying = c.in_ok-staying.ensures; staying_ports = c.in_ok-ports.ensures; retired = c.in_ok-retired_datapaths.ensures; retired_ports = c.in_ok-retired_ports.ensures } in
-    let made = c.in_ok-datapaths.ensures ∙ ap (λ es. put_all c.in_ok-staying.staying.entries es) c.in_ok-more.ensures.given in
-    let last = c.in_ok-ports-2.ensures ∙ ap (λ es. put_all c.in_ok-ports.ports.entries es) c.in_ok-more-2.ensures.given in
-    subst (λ k. GivesLeastKeys k c.args.added.now c.args.removed.now (record before { datapaths = c.in_ok-datapaths.datapaths.entries; ports = c.in_ok-ports-2.ports.entries; retired_datapaths = c.in_ok-retired_datapaths.retired_datapaths; retired_ports = c.in_ok-retired_ports.retired_ports })) c.self.view_is (made_least before c.args.added.now c.args.removed.now c.self.invariant.0 edit c.in_ok-staying.staying.entries c.in_ok-ports.ports.entries c.in_ok-retired_datapaths.retired_datapaths c.in_ok-retired_ports.retired_ports retired c.in_ok-more.ensures.enough c.in_ok-datapaths.datapaths.entries made c.in_ok-more-2.ensures.enough c.in_ok-ports-2.ports.entries last)
+    let all = made_after before c.args.added.now c.args.removed.now c.self.invariant.0 edit c.in_ok-staying.staying.entries c.in_ok-ports.ports.entries c.in_ok-gone.gone c.in_ok-gone_ports.gone_ports retired
+    c.in_ok-more.ensures.enough c.in_ok-datapaths.datapaths.entries made c.in_ok-more-2.ensures.enough c.in_ok-ports-2.ports.entries last
+    c.in_ok-retired_datapaths.retired_datapaths c.in_ok-retired_ports.retired_ports c.in_ok-retired_datapaths.ensures.order c.in_ok-retired_ports.ensures.order
+    (λ h. subst (λ l. Among h c.in_ok-retired_datapaths.retired_datapaths ↔ Among h l) c.as_slice.ensures (c.in_ok-retired_datapaths.ensures.same h))
+    (λ h. subst (λ l. Among h c.in_ok-retired_ports.retired_ports ↔ Among h l) c.as_slice-2.ensures (c.in_ok-retired_ports.ensures.same h)) in
+    subst (λ k. IsAfter k c.args.added.now c.args.removed.now (record before { datapaths = c.in_ok-datapaths.datapaths.entries; ports = c.in_ok-ports-2.ports.entries; retired_datapaths = c.in_ok-retired_datapaths.retired_datapaths; retired_ports = c.in_ok-retired_ports.retired_ports })) c.self.view_is all
 
 pub returns-clause-enough : goal.returns-clause-enough
 returns-clause-enough c =
     let before : Keys = record { datapath_range = c.self.inside.datapath_range; port_range = c.self.inside.port_range; datapaths = c.self.inside.datapaths.entries; ports = c.self.inside.ports.entries; retired_datapaths = c.self.inside.retired_datapaths; retired_ports = c.self.inside.retired_ports } in
     let edit : IsEdit before c.args.added.now c.args.removed.now = subst (λ k. IsEdit k c.args.added.now c.args.removed.now) (sym c.self.view_is) c.requires in
-    let retired : IsRetired before c.args.removed.now c.in_ok-staying.staying.entries c.in_ok-ports.ports.entries c.in_ok-retired_datapaths.retired_datapaths c.in_ok-retired_ports.retired_ports =
-    record { staying = c.in_ok-staying.ensures; staying_ports = c.in_ok-ports.ensures; retired = c.in_ok-retired_datapaths.ensures; retired_ports = c.in_ok-retired_ports.ensures } in
+    let retired : IsRetired before c.args.removed.now c.in_ok-staying.staying.entries c.in_ok-ports.ports.entries c.in_ok-gone.gone c.in_ok-gone_ports.gone_ports =
+    record { staying = c.in_ok-staying.ensures; staying_ports = c.in_ok-ports.ensures; retired = c.in_ok-gone.ensures; retired_ports = c.in_ok-gone_ports.ensures } in
     let made = c.in_ok-datapaths.ensures ∙ ap (λ es. put_all c.in_ok-staying.staying.entries es) c.in_ok-more.ensures.given in
     let last = c.in_ok-ports-2.ensures ∙ ap (λ es. put_all c.in_ok-ports.ports.entries es) c.in_ok-more-2.ensures.given in
-    subst (λ k. HasKeys k c.args.added.now c.args.removed.now) c.self.view_is (made_has before c.args.added.now c.args.removed.now c.self.invariant.0 edit c.in_ok-staying.staying.entries c.in_ok-ports.ports.entries c.in_ok-retired_datapaths.retired_datapaths c.in_ok-retired_ports.retired_ports retired c.in_ok-more.ensures.enough c.in_ok-datapaths.datapaths.entries made c.in_ok-more-2.ensures.enough c.in_ok-ports-2.ports.entries last)
-
-pub returns-clause-hold : goal.returns-clause-hold
-returns-clause-hold c =
-    let before : Keys = record { datapath_range = c.self.inside.datapath_range; port_range = c.self.inside.port_range; datapaths = c.self.inside.datapaths.entries; ports = c.self.inside.ports.entries; retired_datapaths = c.self.inside.retired_datapaths; retired_ports = c.self.inside.retired_ports } in
-    let edit : IsEdit before c.args.added.now c.args.removed.now = subst (λ k. IsEdit k c.args.added.now c.args.removed.now) (sym c.self.view_is) c.requires in
-    let retired : IsRetired before c.args.removed.now c.in_ok-staying.staying.entries c.in_ok-ports.ports.entries c.in_ok-retired_datapaths.retired_datapaths c.in_ok-retired_ports.retired_ports =
-    record { staying = c.in_ok-staying.ensures; staying_ports = c.in_ok-ports.ensures; retired = c.in_ok-retired_datapaths.ensures; retired_ports = c.in_ok-retired_ports.ensures } in
-    let made = c.in_ok-datapaths.ensures ∙ ap (λ es. put_all c.in_ok-staying.staying.entries es) c.in_ok-more.ensures.given in
-    let last = c.in_ok-ports-2.ensures ∙ ap (λ es. put_all c.in_ok-ports.ports.entries es) c.in_ok-more-2.ensures.given in
-    made_hold before c.args.added.now c.args.removed.now c.self.invariant.0 edit c.in_ok-staying.staying.entries c.in_ok-ports.ports.entries c.in_ok-retired_datapaths.retired_datapaths c.in_ok-retired_ports.retired_ports retired c.in_ok-more.ensures.enough c.in_ok-datapaths.datapaths.entries made c.in_ok-more-2.ensures.enough c.in_ok-ports-2.ports.entries last
+    subst (λ k. HasKeys k c.args.added.now c.args.removed.now) c.self.view_is (made_has before c.args.added.now c.args.removed.now c.self.invariant.0 edit c.in_ok-staying.staying.entries c.in_ok-ports.ports.entries c.in_ok-gone.gone c.in_ok-gone_ports.gone_ports retired c.in_ok-more.ensures.enough c.in_ok-datapaths.datapaths.entries made c.in_ok-more-2.ensures.enough c.in_ok-ports-2.ports.entries last)

@@ -46,7 +46,7 @@ apply-requires c =
       added = Port p.switch p.name birth ∷ [];
       removed = [];
       fits = subst (λ k. IsEdit k (Port p.switch p.name birth ∷ []) []) (sym c.keys_with.ensures.kept) (port_fits m old.keys old.born p.switch p.name on absent);
-      gives = subst (λ k. GivesKeys k (Port p.switch p.name birth ∷ []) [] c.in_ok-plan.plan) (sym c.keys_with.ensures.kept) c.in_ok-plan.ensures.gives;
+      gives = subst (λ k. GivesKeys k (Port p.switch p.name birth ∷ []) [] c.in_ok-plan.plan) (sym c.keys_with.ensures.kept) c.in_ok-plan.ensures.after.gives;
     }
 
 pub returns-clause-edits : goal.returns-clause-edits
@@ -61,7 +61,7 @@ returns-clause-edits c =
     let named : c.push.new.self ≡ port_effect plan (p.name, record { 0 = events_of m + 1 }) ∷ [] =
     c.in_ok-push.ensures.ok ∙ ap (λ l. l ++ effect.PortKey p.name c.unwrap_or-key.result ∷ []) c.new-effects.ensures ∙ ap (λ k. effect.PortKey p.name k ∷ []) key in
     subst (λ v. Edits v.state (Add (record_of.SwitchPort p) ∷ []) c.push.new.self n) c.self.view_is
-    (edits_port m n plan c.in_ok-plan.ensures.hold p c.in_ok-plan.ensures.gives (λ i. record m { net = net i; keys = c.apply.ensures i }) c.push.new.self named)
+    (edits_port m n plan c.in_ok-plan.ensures.after.hold p c.in_ok-plan.ensures.after.gives (λ i. record m { net = net i; keys = c.apply.ensures i }) c.push.new.self named)
 
 pub returns-clause-consistent : goal.returns-clause-consistent
 returns-clause-consistent c =
@@ -76,4 +76,4 @@ returns-clause-consistent c =
     let on : IsSome (at m.net.switches p.switch) = subst (λ v. IsSome (at v.state.net.switches p.switch)) (sym c.self.view_is) c.requires.on_switch in
     let new : AreNew m.net p = subst (λ v. AreNew v.state.net p) (sym c.self.view_is) c.requires.new in
     let room : events_of m < 2 ^ 42 = subst (λ v. events_of v.state < 2 ^ 42) (sym c.self.view_is) c.requires.room in
-    consistent_port m n c.in_ok-plan.plan c.in_ok-plan.ensures.hold p c.in_ok-plan.ensures.gives (λ i. record m { net = net i; keys = c.apply.ensures i }) c.self.inside.zones.entries old absent few on new room
+    consistent_port m n c.in_ok-plan.plan c.in_ok-plan.ensures.after.hold p c.in_ok-plan.ensures.after.gives (λ i. record m { net = net i; keys = c.apply.ensures i }) c.self.inside.zones.entries old absent few on new room

@@ -41,7 +41,7 @@ apply-requires c =
       added = Datapath name birth ∷ [];
       removed = [];
       fits = subst (λ k. IsEdit k (Datapath name birth ∷ []) []) (sym c.keys_with.ensures.kept) (switch_fits m old.keys old.born name absent);
-      gives = subst (λ k. GivesKeys k (Datapath name birth ∷ []) [] c.in_ok-plan.plan) (sym c.keys_with.ensures.kept) c.in_ok-plan.ensures.gives;
+      gives = subst (λ k. GivesKeys k (Datapath name birth ∷ []) [] c.in_ok-plan.plan) (sym c.keys_with.ensures.kept) c.in_ok-plan.ensures.after.gives;
     }
 
 pub returns-clause-edits : goal.returns-clause-edits
@@ -54,7 +54,7 @@ returns-clause-edits c =
     let named : c.push.new.self ≡ datapath_effect plan (s.name, record { 0 = events_of m + 1 }) ∷ [] =
     c.in_ok-push.ensures.ok ∙ ap (λ l. l ++ effect.DatapathKey s.name c.unwrap_or-key.result ∷ []) c.new-effects.ensures ∙ ap (λ k. effect.DatapathKey s.name k ∷ []) key in
     subst (λ v. Edits v.state (Add (record_of.Switch s) ∷ []) c.push.new.self n) c.self.view_is
-    (edits_switch m n plan c.in_ok-plan.ensures.hold s c.in_ok-plan.ensures.gives (λ i. record m { net = c.in_ok-put.ensures.ok i; keys = c.apply.ensures i }) c.push.new.self named)
+    (edits_switch m n plan c.in_ok-plan.ensures.after.hold s c.in_ok-plan.ensures.after.gives (λ i. record m { net = c.in_ok-put.ensures.ok i; keys = c.apply.ensures i }) c.push.new.self named)
 
 pub returns-clause-consistent : goal.returns-clause-consistent
 returns-clause-consistent c =
@@ -65,4 +65,4 @@ returns-clause-consistent c =
     let absent : at m.net.switches s.name ≡ None = subst (λ v. at v.state.net.switches s.name ≡ None) (sym c.self.view_is) c.requires.absent in
     let few : length m.net.switches < 1024 = subst (λ v. length v.state.net.switches < 1024) (sym c.self.view_is) c.requires.few in
     let room : events_of m < 2 ^ 42 = subst (λ v. events_of v.state < 2 ^ 42) (sym c.self.view_is) c.requires.room in
-    consistent_switch m n c.in_ok-plan.plan c.in_ok-plan.ensures.hold s c.in_ok-plan.ensures.gives (λ i. record m { net = c.in_ok-put.ensures.ok i; keys = c.apply.ensures i }) c.self.inside.zones.entries old absent few room
+    consistent_switch m n c.in_ok-plan.plan c.in_ok-plan.ensures.after.hold s c.in_ok-plan.ensures.after.gives (λ i. record m { net = c.in_ok-put.ensures.ok i; keys = c.apply.ensures i }) c.self.inside.zones.entries old absent few room
