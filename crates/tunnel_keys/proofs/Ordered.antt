@@ -117,7 +117,8 @@ module _ {X : Type 0} (owner : X → Identity) where
     | inr k ↦ k
   ]
 
-  same_members : (xs ys : List X) → IsByIdentity owner xs → IsByIdentity owner ys → ((x : X) → Among x xs → Among x ys) → ((x : X) → Among x ys → Among x xs) → xs ≡ ys
+  -- lists in order with the same members are one
+  pub same_members : (xs ys : List X) → IsByIdentity owner xs → IsByIdentity owner ys → ((x : X) → Among x xs → Among x ys) → ((x : X) → Among x ys → Among x xs) → xs ≡ ys
   same_members [] [] s t f g = refl
   same_members [] (y ∷ ys) s t f g = absurd (among_none y (g y here))
   same_members (x ∷ xs) [] s t f g = absurd (among_none x (f x here))

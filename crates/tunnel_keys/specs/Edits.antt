@@ -52,7 +52,7 @@ pub record IsEdit (keys : Keys) (added removed : List KeyOwner) : Type 0 where
 pub record GivesKeysAfter (between : Keys) (added : List KeyOwner) (after : Keys) : Type 0 where
   pub datapath_range : after.datapath_range ≡ between.datapath_range
   pub port_range : after.port_range ≡ between.port_range
-  -- the removed owners' keys are retired, beside those that were
+  -- the removed owners' keys are retired, beside those that were: the same set, strictly in order of identity
   pub retired_datapaths : IsInOrder (λ (h : HeldDatapath). h.owner) between.retired_datapaths after.retired_datapaths
   pub retired_ports : IsInOrder (λ (h : HeldPort). h.owner) between.retired_ports after.retired_ports
   -- who stays keeps its key

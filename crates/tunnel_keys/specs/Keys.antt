@@ -65,7 +65,7 @@ held_datapaths keys = map held_datapath keys.datapaths ++ keys.retired_datapaths
 abbrev pub held_ports : Keys → List HeldPort
 held_ports keys = filter_map (held_port keys.datapaths) keys.ports ++ keys.retired_ports
 
--- the owners' keys are retired, behind those that were, and the others stay
+-- the owners' keys are retired, behind those that were, and the others stay; which keys are free doesn't depend on the order
 abbrev pub retire : Keys → List KeyOwner → Keys
 retire keys removed = record keys {
   datapaths = filter (λ e. not (is_listed removed (datapath_owner e))) keys.datapaths;
