@@ -23,9 +23,9 @@ use Rattle.chassis_sim.specs.declared.underlay.WaitingFrame.{WaitingFrame}
 use Rattle.chassis_sim.specs.Frames.{Brings}
 use Rattle.chassis_sim.specs.Holding.{RunsAt, RunsFrom}
 use Rattle.chassis_sim.specs.InNames.{all_in_names, next_after_all, frames_sent}
-use Rattle.chassis_sim.specs.Passing.{Adds, IsTold, IsInjected, Arrives, arrived, KeepsOut, HasOtherFrames, AnswersInject}
+use Rattle.chassis_sim.specs.Passing.{AddsWalk, IsTold, IsInjected, IsArrived, arrived, KeepsOut, HasOtherFrames, AnswersInject}
 use Rattle.chassis_sim.specs.Passing.IsInjected.{through as through_port, nowhere}
-use Rattle.chassis_sim.specs.Passing.Arrives.{through as through_tunnel, gone}
+use Rattle.chassis_sim.specs.Passing.IsArrived.{through as through_tunnel, gone}
 use Rattle.chassis_sim.specs.State.{SimState, SimView, named, numbered}
 
 -- the packet went through the flows that are held, or met none
@@ -47,14 +47,14 @@ pub arrives_from : (state : SimState) (n : ℕ) (keep : Bool) (now : ℕ) (frame
     → numbered state.waiting n ≡ Some frame
     → RunsFrom (named state.chassis frame.to) frame.bytes now run
     → IsTold (arrived state n keep) frame.to (Frame n) run.walk run.effects before after new
-    → Arrives state n keep now before after new
+    → IsArrived state n keep now before after new
 arrives_from state n keep now frame run before after new waits runs told = by (named state.chassis frame.to) refl runs
   where
-    from : (flows : List Flow) (entry : Entry) (packet : Packet) → named state.chassis frame.to ≡ Some flows → Brings frame.bytes entry packet → IsWalkOf flows entry now packet run.walk run.effects → Arrives state n keep now before after new
+    from : (flows : List Flow) (entry : Entry) (packet : Packet) → named state.chassis frame.to ≡ Some flows → Brings frame.bytes entry packet → IsWalkOf flows entry now packet run.walk run.effects → IsArrived state n keep now before after new
     from flows (Vif port) packet is brings walk = absurd brings
     from flows (Tunnel vni in_key out_key) packet is brings walk = through_tunnel frame flows vni in_key out_key packet run.walk run.effects waits is brings.0 walk told
 
-    by : (found : Option (List Flow)) → named state.chassis frame.to ≡ found → RunsFrom found frame.bytes now run → Arrives state n keep now before after new
+    by : (found : Option (List Flow)) → named state.chassis frame.to ≡ found → RunsFrom found frame.bytes now run → IsArrived state n keep now before after new
     by (Some flows) is runs = from flows runs.0 runs.1 is runs.2 runs.3
     by None is lost =
         gone frame waits is

@@ -6,9 +6,9 @@ use Rattle.std.specs.Option.{option_map}
 use Rattle.std.proofs.Common.{sym, ap, subst, ◌∙◌, get_or, arith, drop-cons}
 use Rattle.std.proofs.lemmas.List.{take-append-drop}
 use Rattle.std.proofs.lemmas.Option.{none-some, same_Some}
-use Rattle.ovn_base.specs.Among.{Among, here, there}
-use Rattle.ovn_base.specs.Once.{EachOnce}
-use Rattle.ovn_base.specs.SameName.{same_name, bytes_decides}
+use Rattle.ovn_base.specs.lists.Among.{Among, here, there}
+use Rattle.ovn_base.specs.lists.Once.{EachOnce}
+use Rattle.ovn_base.specs.names.SameName.{same_name, bytes_decides}
 use Rattle.ovn_base.specs.declared.name.Name.{Name}
 use Rattle.chassis_sim.specs.Settings.{set_in_turn}
 use Rattle.chassis_sim.specs.State.{named}

@@ -5,8 +5,8 @@ use Rattle.std.specs.Map.{keys_of}
 use Rattle.std.proofs.Common.{sym, ap, subst, ◌∙◌}
 use Rattle.ovn_base.specs.declared.delta.Delta.{Delta}
 use Rattle.ovn_base.specs.declared.name.Name.{Name}
-use Rattle.ovn_base.specs.Among.{Among}
-use Rattle.ovn_base.specs.SameName.{same_name, bytes_decides}
+use Rattle.ovn_base.specs.lists.Among.{Among}
+use Rattle.ovn_base.specs.names.SameName.{same_name, bytes_decides}
 use Rattle.flow_table.specs.declared.flow.Flow.{Flow}
 use Rattle.chassis_sim.specs.Changing.{AreReplaced}
 use Rattle.chassis_sim.specs.State.{named}

@@ -21,7 +21,7 @@ use Rattle.chassis_sim.specs.InNames.{all_in_names, next_after_all, frames_sent}
 use Rattle.chassis_sim.specs.State.{SimState, SimView, named, numbered, without}
 
 -- these effects came, and this walk of the chassis
-pub record Adds (chassis : Name) (start : Start) (steps : List Step) (effects : List NetEffect) (before after : SimOut) : Type 0 where
+pub record AddsWalk (chassis : Name) (start : Start) (steps : List Step) (effects : List NetEffect) (before after : SimOut) : Type 0 where
   pub all_effects : after.effects ≡ before.effects ++ effects
   pub all_walks : after.walks ≡ before.walks ++ record { chassis = chassis; start = start; steps = steps } ∷ []
 
@@ -31,7 +31,7 @@ with_frames state effects next = record state { waiting = state.waiting ++ frame
 
 -- the walk on the chassis and its effects in names came, and the frames among them wait, with the next numbers in order
 pub record IsTold (old : SimState) (chassis : Name) (start : Start) (steps : List Step) (effects : List Effect) (before after : SimOut) (new : SimState) : Type 0 where
-  pub told : Adds chassis start steps (all_in_names old.names chassis start old.next effects) before after
+  pub told : AddsWalk chassis start steps (all_in_names old.names chassis start old.next effects) before after
   pub state : new ≡ with_frames old (all_in_names old.names chassis start old.next effects) (next_after_all old.next effects)
 
 -- the packet at the port goes, at the time, through the flows of the chassis to which the port is bound; where no such chassis is held it
@@ -55,19 +55,19 @@ arrived state n keep = record state { waiting = cond keep state.waiting (without
 
 -- the packet that the waiting frame carries comes, at the time, from the tunnel to the flows of the chassis to which the frame goes; where
 -- that chassis is gone the frame is lost
-pub data Arrives (old : SimState) (n : ℕ) (keep : Bool) (now : ℕ) (before after : SimOut) (new : SimState) : Type 0 where
+pub data IsArrived (old : SimState) (n : ℕ) (keep : Bool) (now : ℕ) (before after : SimOut) (new : SimState) : Type 0 where
   through : (frame : WaitingFrame) (flows : List Flow) (vni in_key out_key : ℕ) (packet : Packet) (steps : List Step) (effects : List Effect)
       → numbered old.waiting n ≡ Some frame
       → named old.chassis frame.to ≡ Some flows
       → Carries frame.bytes vni in_key out_key packet
       → IsWalkOf flows (Tunnel vni in_key out_key) now packet steps effects
       → IsTold (arrived old n keep) frame.to (Frame n) steps effects before after new
-      → Arrives old n keep now before after new
+      → IsArrived old n keep now before after new
   gone : (frame : WaitingFrame)
       → numbered old.waiting n ≡ Some frame
       → named old.chassis frame.to ≡ None
       → IsTold (arrived old n keep) frame.to (Frame n) [] (Lost ∷ []) before after new
-      → Arrives old n keep now before after new
+      → IsArrived old n keep now before after new
 
 -- the first list stands at the front of the second
 pub record IsFront {X : Type 0} (front whole : List X) : Type 0 where
@@ -93,7 +93,7 @@ module _ {T : Type 0} where
 
   -- what stands after an answer to `arrive`: NoFrame comes exactly where no frame of the number waits
   abbrev pub AnswersArrive : Result (Unit {0}) SimFault → SimView T → ℕ → Bool → ℕ → SimOut → SimOut → SimView T → Type 0
-  AnswersArrive (Ok done) old n keep now before after new = Arrives old.state n keep now before after new.state
+  AnswersArrive (Ok done) old n keep now before after new = IsArrived old.state n keep now before after new.state
   AnswersArrive (Err (NotBound name)) old n keep now before after new = ⊥
   AnswersArrive (Err (NoFrame m)) old n keep now before after new = (m ≡ n) × (numbered old.state.waiting n ≡ None) × (new ≡ old) × (after ≡ before)
   AnswersArrive (Err Memory) old n keep now before after new = IsSome (numbered old.state.waiting n) × HasOtherFrames old.state new.state × KeepsOut before after

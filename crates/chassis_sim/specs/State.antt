@@ -6,7 +6,7 @@ use Rattle.std.specs.BTreeMap.{is_at}
 use Rattle.std.specs.Ordering.{nat_cmp}
 use Rattle.std.proofs.Math.Dec.{eqb as nat_eq}
 use Rattle.ovn_base.specs.declared.name.Name.{Name}
-use Rattle.ovn_base.specs.SameName.{same_name}
+use Rattle.ovn_base.specs.names.SameName.{same_name}
 use Rattle.flow_table.specs.declared.flow.Flow.{Flow}
 use Rattle.chassis_sim.specs.declared.underlay.WaitingFrame.{WaitingFrame}
 

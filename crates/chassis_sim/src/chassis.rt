@@ -3,8 +3,8 @@ ghost use Rattle.std.specs.Prelude.{◌≡◌, ◌≤◌, ◌<◌, ◌+◌, ℕ,
 ghost use Rattle.std.specs.Map.{keys_of, lookup};
 ghost use Rattle.indexmap.specs.IndexMap.{get, spare};
 ghost use Rattle.ovn_base.specs.declared.name.Name.{Name};
-ghost use Rattle.ovn_base.specs.Once.{EachOnce};
-ghost use Rattle.ovn_base.specs.SameName.{same_name};
+ghost use Rattle.ovn_base.specs.lists.Once.{EachOnce};
+ghost use Rattle.ovn_base.specs.names.SameName.{same_name};
 ghost use Rattle.chassis_sim.specs.Changing.{AllAreDeltas, AreReady, AreReplaced, IsDeltaOfAny, IsReadyFor, given_name, gone, come};
 ghost use Rattle.chassis_sim.specs.Settings.{AreSet};
 ghost use Rattle.chassis_sim.specs.State.{named, same_pair};

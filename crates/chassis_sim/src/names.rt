@@ -6,7 +6,7 @@ ghost use Rattle.inet_packet.specs.Whole.{IsWhole};
 ghost use Rattle.geneve_frames.specs.Meaning.{canon};
 ghost use Rattle.chassis_sim.specs.Frames.{IsSent, CanBeSent};
 ghost use Rattle.chassis_sim.specs.InNames.{name_of, arrived_as, in_names, all_in_names, next_after, next_after_all, sent_by, frames_sent};
-ghost use Rattle.chassis_sim.specs.Passing.{Adds, KeepsOut, IsFront};
+ghost use Rattle.chassis_sim.specs.Passing.{AddsWalk, KeepsOut, IsFront};
 
 use crate::frames::spelled;
 use crate::out::SimOut;
@@ -135,7 +135,7 @@ pub(crate) fn tell(
 ) -> Result<(), NoMemory>
     requires can { AllByRecursion CanBeSent run.effects }
     requires room { underlay.old.next < 2 ^ 127 }
-    ensures told { OnOk result (Adds chassis start.now run.walk (all_in_names names.now.entries chassis start.now underlay.old.next run.effects) out.old out.new) }
+    ensures told { OnOk result (AddsWalk chassis start.now run.walk (all_in_names names.now.entries chassis start.now underlay.old.next run.effects) out.old out.new) }
     ensures waiting { OnOk result (underlay.new.waiting ≡ underlay.old.waiting ++ frames_sent (all_in_names names.now.entries chassis start.now underlay.old.next run.effects)) }
     ensures next { OnOk result (underlay.new.next ≡ next_after_all underlay.old.next run.effects) }
     ensures kept { KeepsOut out.old out.new }

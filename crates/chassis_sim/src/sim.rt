@@ -3,7 +3,7 @@ ghost use Rattle.std.specs.Prelude.{◌≡◌, ◌+◌, ◌<◌, ◌≤◌, ◌^
 ghost use Rattle.std.specs.Option.{option_copied};
 ghost use Rattle.std.specs.List.{AllByRecursion};
 ghost use Rattle.std.specs.Map.{keys_of};
-ghost use Rattle.ovn_base.specs.Once.{EachOnce};
+ghost use Rattle.ovn_base.specs.lists.Once.{EachOnce};
 ghost use Rattle.inet_packet.specs.Whole.{IsWhole};
 ghost use Rattle.flow_table.specs.declared.flow.Flow.{Flow};
 ghost use Rattle.chassis_sim.specs.Changing.{AllAreDeltas, IsApplied, IsPrepared, IsProperChange};

@@ -8,13 +8,12 @@ use mir.Syntax.{w32}
 use Rattle.serde_json.specs.Data.{Data, null, boolean, number, string, array, object, member, no_members}
 use Rattle.hex.specs.Hex.{decode_of}
 use Rattle.hex.specs.declared.error.FromHexError.{FromHexError}
-use Rattle.ovn_base.specs.AddressText.{SpellsPair, SpellsOctet, SpellsMac, SpellsIp4}
+use Rattle.ovn_base.specs.addresses.AddressText.{SpellsPair, SpellsOctet, SpellsMac, SpellsIp4}
 use Rattle.ovn_base.specs.declared.name.Name.{Name}
 use Rattle.ovn_base.specs.declared.address.Mac.{Mac}
 use Rattle.ovn_base.specs.declared.address.Ip4.{Ip4}
 use Rattle.ovn_base.specs.declared.address.Birth.{Birth}
-use Rattle.ovn_base.proofs.AddressLemmas.{pair_lacks, same_pair, octet_lacks, same_octet}
-use Rattle.ovn_base.proofs.JoinedLemmas.{same_values}
+use Rattle.ovn_base.proofs.AddressLemmas.{same_mac, same_ip4}
 use Rattle.nb_records.specs.declared.record.Switch.{Switch}
 use Rattle.nb_records.specs.declared.record.SwitchPort.{SwitchPort}
 use Rattle.nb_records.specs.declared.record.PortAddress.{PortAddress}
@@ -31,17 +30,6 @@ use Rattle.edit_reader.proofs.Pieces.{not_unknown}
 use Rattle.edit_reader.proofs.Shapes.{one_member, two_values, three_values, four_values, two_or_three, two_or_four, three_or_four, same_text, same_number, same_item, same_array, same_texts}
 
 -- ---- addresses
-
-same_mac : (text : List ℕ) (a b : Mac) → SpellsMac text a → SpellsMac text b → a ≡ b
-same_mac text a b h k =
-    let same : a.0 ≡ b.0 = same_values SpellsPair 58 pair_lacks same_pair text a.0 b.0 (h.six ∙ sym k.six) h.pairs k.pairs in
-    λ i. record { 0 = same i }
-
-same_ip4 : (text : List ℕ) (a b : Ip4) → SpellsIp4 text a → SpellsIp4 text b → a ≡ b
-same_ip4 text a b h k =
-    let octets = same_values SpellsOctet 46 (octet_lacks 46 (omega arith)) same_octet text h.octets k.octets (h.four ∙ sym k.four) h.numbers k.numbers in
-    let same : a.0 ≡ b.0 = h.value ∙ ap (λ o. from_be_bytes w32 o) octets ∙ sym k.value in
-    λ i. record { 0 = same i }
 
 same_ips : (pieces : List (List ℕ)) (a b : List Ip4) → AllZip SpellsIp4 pieces a → AllZip SpellsIp4 pieces b → a ≡ b
 same_ips [] [] [] h k = refl

@@ -7,7 +7,8 @@ use Rattle.std.proofs.lemmas.Grind.{common_steps}
 use Rattle.std.proofs.lemmas.Bool.Decides.{nat_tests}
 use Rattle.std.proofs.lemmas.List.Elements.{All-cons, All-weaker}
 use Rattle.std.proofs.lemmas.List.Splits.{slice_split_none, slice_split_at}
-use Rattle.ovn_base.specs.AddressText.{SpellsPair, SpellsMac, SpellsIp4}
+use Rattle.ovn_base.specs.addresses.AddressText.{SpellsPair, SpellsMac, SpellsIp4}
+use Rattle.ovn_base.specs.addresses.EtherAddress.{mac_bytes}
 use Rattle.ovn_base.specs.declared.address.Mac.{Mac}
 use Rattle.ovn_base.specs.declared.address.Ip4.{Ip4}
 use Rattle.ovn_base.proofs.JoinedLemmas.{Lacks, lacks_head, joined_lacks}
@@ -110,5 +111,5 @@ not_unknown text mac ips is h =
     let whole : slice_split (λ b. b == 32) (codes "unknown") ≡ codes "unknown" ∷ [] = refl in
     let cuts : codes "unknown" ∷ [] ≡ h.first ∷ h.others = sym whole ∙ ap (λ (t : List ℕ). slice_split (λ b. b == 32) t) (sym is) ∙ h.pieces in
     let first : h.first ≡ codes "unknown" = cc in
-    let lacks = joined_lacks SpellsPair 58 117 (λ e. absurd (omega arith)) u_lacks h.first mac.0 h.spells_mac.pairs in
+    let lacks = joined_lacks SpellsPair 58 117 (λ e. absurd (omega arith)) u_lacks h.first (mac_bytes mac) h.spells_mac.pairs in
     lacks_head 117 117 (codes "nknown") (subst (λ t. Lacks 117 t) first lacks) refl

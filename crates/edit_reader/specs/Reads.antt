@@ -2,13 +2,14 @@
 use Rattle.std.specs.Prelude.{◌≡◌, ◌≢◌, ◌≤◌, ◌+◌, ◌*◌, ◌==◌, ℕ, List, [], ◌∷◌, length, map, codes, slice_index, Option, Some, None, Ok}
 use Rattle.std.specs.List.{AllZip, slice_split}
 use Rattle.std.specs.Str.{IsUtf8}
+use Rattle.ovn_base.specs.declared.limits.TheConstants.{MIN_FRAME, MAX_FRAME}
 use Rattle.serde_json.specs.Data.{Data, unsigned, number, string, array, object, item, no_items, Members, no_members, put}
 use Rattle.serde_json.specs.Read.{read}
 use Rattle.serde_json.specs.View.{items_of}
 use Rattle.hex.specs.Hex.{decode_of}
 use denote.Ref.{Bor}
-use Rattle.ovn_base.specs.NameText.{IsName}
-use Rattle.ovn_base.specs.AddressText.{SpellsMac, SpellsIp4}
+use Rattle.ovn_base.specs.names.NameText.{IsName}
+use Rattle.ovn_base.specs.addresses.AddressText.{SpellsMac, SpellsIp4}
 use Rattle.ovn_base.specs.declared.name.Name.{Name}
 use Rattle.ovn_base.specs.declared.address.Mac.{Mac}
 use Rattle.ovn_base.specs.declared.address.Ip4.{Ip4}
@@ -108,8 +109,8 @@ Adds d (kind.SwitchPort port) = AddsPort d port
 
 -- 14 to 9,216 bytes of a type other than IPv4 and ARP
 pub record IsPlainFrame (frame : List ℕ) : Type 0 where
-  pub long : 14 ≤ length frame
-  pub short : length frame ≤ 9216
+  pub long : MIN_FRAME ≤ length frame
+  pub short : length frame ≤ MAX_FRAME
   pub not_ip4 : 256 * slice_index frame 12 + slice_index frame 13 ≢ 0x0800
   pub not_arp : 256 * slice_index frame 12 + slice_index frame 13 ≢ 0x0806
 

@@ -15,15 +15,12 @@ use crate::members::{
 use hex::FromHexError;
 use nb_records::record::{Record, Switch, SwitchPort};
 use ovn_base::address::Birth;
+use ovn_base::limits::{MAX_FRAME, MIN_FRAME};
 use ovn_base::list::{Bytes, List};
 use ovn_base::memory::NoMemory;
 use ovn_base::name::Name;
 use serde_json::Value;
 use std::alloc::Global;
-
-const SHORTEST: usize = 14;
-
-const LONGEST: usize = 9216;
 
 const IPV4: u16 = 0x0800;
 
@@ -143,7 +140,7 @@ fn frame_texts<'v>(value: &'v Value, kind: &str) -> Option<(Name, &'v str)>
 fn is_plain(frame: &[u8]) -> bool
     ensures { IsTrue result ↔ IsPlainFrame frame.now }
 {
-    if frame.len() < SHORTEST || frame.len() > LONGEST {
+    if frame.len() < MIN_FRAME || frame.len() > MAX_FRAME {
         return false;
     }
     let kind = u16::from(frame[12]) * 256 + u16::from(frame[13]);

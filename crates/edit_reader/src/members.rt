@@ -2,7 +2,7 @@
 ghost use Rattle.std.specs.Prelude.{◌≡◌, ◌≢◌, ◌↔◌, ℕ, List, IfSome, IfNone, IsTrue, IsSome};
 ghost use Rattle.serde_json.specs.Data.{Data, unsigned, number, string, array, object, Items, item, no_items, Members, member, no_members};
 ghost use Rattle.serde_json.specs.View.{view, items_view, members_view};
-ghost use Rattle.ovn_base.specs.NameText.{IsName};
+ghost use Rattle.ovn_base.specs.names.NameText.{IsName};
 ghost use Rattle.edit_reader.specs.Finds.{Finds};
 ghost use Rattle.edit_reader.specs.Reads.{IsNamed};
 

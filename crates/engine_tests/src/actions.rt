@@ -1,7 +1,8 @@
 //! Single actions, and copies of what came of them.
 
-use crate::tables::{EVERY, name, row, sent, set, stranger, tables, visits};
+use crate::tables::{name, row, sent, set, stranger, tables, visits};
 use flow_table::flow::{Cause, FlowOp};
+use inet_packet::cube::Cube;
 use inet_packet::regs::Reg;
 use ovn_base::list::List;
 use std::test::Fail;
@@ -17,7 +18,7 @@ fn reads_the_header(rt: HostRuntime) -> Result<(), Fail> {
     let rows = [row(
         alloc,
         0,
-        EVERY,
+        Cube::EVERYTHING,
         [set(Reg::Dp, 5), FlowOp::Header, FlowOp::Frame(hv2)],
     )?];
     let tables = tables(alloc, &[], rows)?;
@@ -54,7 +55,7 @@ fn reads_the_header(rt: HostRuntime) -> Result<(), Fail> {
 fn drops(rt: HostRuntime) -> Result<(), Fail> {
     let alloc = rt.alloc();
     let p1 = name(&rt, b"p1");
-    let rows = [row(alloc, 0, EVERY, [FlowOp::Drop(Cause::Vlan)])?];
+    let rows = [row(alloc, 0, Cube::EVERYTHING, [FlowOp::Drop(Cause::Vlan)])?];
     let tables = tables(alloc, &[], rows)?;
     let out = sent(alloc, &tables, Entry::Vif(p1))?;
     let dropped = Effect::Drop {
@@ -84,7 +85,7 @@ fn matches_nothing(rt: HostRuntime) -> Result<(), Fail> {
 fn copies(rt: HostRuntime) -> Result<(), Fail> {
     let alloc = rt.alloc();
     let p1 = name(&rt, b"p1");
-    let rows = [row(alloc, 0, EVERY, [FlowOp::Frame(p1)])?];
+    let rows = [row(alloc, 0, Cube::EVERYTHING, [FlowOp::Frame(p1)])?];
     let tables = tables(alloc, &[], rows)?;
     let out = sent(alloc, &tables, Entry::Vif(p1))?;
     let copy = out.copy()?;

@@ -1,7 +1,8 @@
 //! Copies whose port isn't here.
 
-use crate::tables::{EVERY, at, name, row, sent, set, tables};
+use crate::tables::{at, name, row, sent, set, tables};
 use flow_table::flow::{Cause, FlowOp};
+use inet_packet::cube::Cube;
 use inet_packet::regs::{At, Reg};
 use std::test::Fail;
 use switch_engine::effect::{Effect, Entry};
@@ -48,7 +49,7 @@ fn dropped_from_a_port(rt: HostRuntime) -> Result<(), Fail> {
     let rows = [row(
         alloc,
         0,
-        EVERY,
+        Cube::EVERYTHING,
         [set(Reg::Dp, 1), set(Reg::OutPort, 3), FlowOp::Go(33)],
     )?];
     let tables = tables(alloc, &[], rows)?;

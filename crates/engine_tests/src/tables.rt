@@ -21,53 +21,16 @@ use switch_engine::engine::run;
 use switch_engine::walk::RunOut;
 use switch_engine::zones::Zones;
 
-const ANY: Bits = Bits { value: 0, mask: 0 };
-
-/// Every packet.
-pub const EVERY: Cube = Cube {
-    at: None,
-    dp: ANY,
-    in_port: ANY,
-    out_port: ANY,
-    next: ANY,
-    z_in: ANY,
-    z_out: ANY,
-    z_dnat: ANY,
-    z_snat: ANY,
-    state: ANY,
-    verdict: ANY,
-    tier: ANY,
-    flags: ANY,
-    eth_src: ANY,
-    eth_dst: ANY,
-    eth_type: ANY,
-    ip4_src: ANY,
-    ip4_dst: ANY,
-    ip_proto: ANY,
-    ip_ttl: ANY,
-    tcp_src: ANY,
-    tcp_dst: ANY,
-    udp_src: ANY,
-    udp_dst: ANY,
-    icmp4_type: ANY,
-    icmp4_code: ANY,
-    arp_op: ANY,
-    arp_spa: ANY,
-    arp_tpa: ANY,
-    arp_sha: ANY,
-    arp_tha: ANY,
-};
-
 /// Every packet that enters there.
 pub fn at(entry: At) -> Cube {
-    let mut cube = EVERY;
+    let mut cube = Cube::EVERYTHING;
     cube.at = Some(entry);
     cube
 }
 
 /// The packets for the port or group of the key.
 pub fn to(key: u16) -> Cube {
-    let mut cube = EVERY;
+    let mut cube = Cube::EVERYTHING;
     cube.out_port = Bits {
         value: u64::from(key),
         mask: 0xffff,
@@ -175,7 +138,7 @@ pub fn tables<const N: usize>(
 {
     let mut flows = Vec::from_array(alloc, rows)?;
     for &(table, next) in way {
-        flows.push(row(alloc, table, EVERY, [FlowOp::Go(next)])?)?;
+        flows.push(row(alloc, table, Cube::EVERYTHING, [FlowOp::Go(next)])?)?;
     }
     put_all(alloc, flows)
 }

@@ -12,8 +12,8 @@ use Rattle.std.proofs.lemmas.Grind.{flat_map-append}
 use Rattle.std.proofs.lemmas.List.Elements.{All-from_recursion, recursion_from_All}
 use Rattle.std.proofs.lemmas.List.Splits.{slice_split_at, slice_split_none}
 use Rattle.hex.specs.Hex.{encode_with, lower_digits, encode_lower}
-use Rattle.ovn_base.specs.Lines.{ended_lines, onto_ended, HasNoFeed}
-use Rattle.ovn_base.specs.NameText.{IsName, name_byte}
+use Rattle.ovn_base.specs.lines.Lines.{ended_lines, onto_ended, HasNoFeed}
+use Rattle.ovn_base.specs.names.NameText.{IsName, name_byte}
 use Rattle.ovn_base.proofs.LineLaws.{ended_lines-feed}
 use Rattle.flow_table.specs.declared.flow.Cause.{Cause}
 use Rattle.flow_table.specs.declared.flow.Cause.TheVariants as cause
@@ -23,7 +23,7 @@ use Rattle.switch_engine.specs.declared.effect.NetEffect.{NetEffect}
 use Rattle.switch_engine.specs.declared.effect.NetEffect.TheVariants.{DatapathKey, PortKey, Tunnel, Out, Drop, Lost}
 use Rattle.event_lines.specs.declared.refusal.Refusal.{Refusal}
 use Rattle.event_lines.specs.declared.refusal.Refusal.TheVariants.{Read, NoSuch, DuplicateName, LimitChassis, NoFrame, TooManyFrames, NotBuilt}
-use Rattle.event_lines.specs.Lines.{cause_name, route_words, words_of, line_of, ok_line, lines_of, refusal_words, refused_line, end_line}
+use Rattle.event_lines.specs.Lines.{cause_name, route_words, words_of, line_of, ok_line, accepted_lines, refusal_words, refused_line, end_line}
 use Rattle.event_lines.specs.Picks.{Pick, words_in, is_word, is_number, key_of, named_by, picks_in, picks_of, IsNamedEffect, AreNamed, IsNamedRefusal, AreWholeLines}
 
 -- ---- bytes that end neither a word nor a line
@@ -288,12 +288,12 @@ ok_names number walks =
     ∙ event_line number (codes "ok walks=" ++ decimal walks) [] (no_feed_joined (codes "ok walks=") (decimal walks) (tested (codes "ok walks=") refl) (no_feed_in (decimal walks) (decimal_in_word walks)))
     ∙ append-nil _ ∙ other_words (decimal number) (codes "ok") (words_in (codes "walks=" ++ decimal walks)) refl
 
-pub accepted : (number walks : ℕ) (effects : List NetEffect) → AreNamed effects → picks_in (lines_of number effects walks) ≡ picks_of effects
+pub accepted : (number walks : ℕ) (effects : List NetEffect) → AreNamed effects → picks_in (accepted_lines number effects walks) ≡ picks_of effects
 accepted number walks [] are = ok_names number walks
 accepted number walks (effect ∷ effects) are =
     ap picks_in (append_assoc (line_of number (words_of effect)) (flat_map (λ e. line_of number (words_of e)) effects) (ok_line number walks))
-    ∙ event_line number (words_of effect) (lines_of number effects walks) (words_no_feed effect are.0)
-    ∙ ap (λ ps. ps ++ picks_in (lines_of number effects walks)) (effect_named number effect are.0)
+    ∙ event_line number (words_of effect) (accepted_lines number effects walks) (words_no_feed effect are.0)
+    ∙ ap (λ ps. ps ++ picks_in (accepted_lines number effects walks)) (effect_named number effect are.0)
     ∙ ap (λ ps. one_pick effect ++ ps) (accepted number walks effects are.1)
     ∙ sym (picks_cons effect effects)
 
@@ -339,7 +339,7 @@ pub joined : (text more : List ℕ) → AreWholeLines text → picks_in (text ++
 joined text more whole =
     ap (λ ls. flat_map (λ l. named_by (words_in l)) ls) (ended_joined text more whole) ∙ flat_map-append (λ l. named_by (words_in l)) (ended_lines text) (ended_lines more)
 
-pub accepted_whole : (number walks : ℕ) (effects : List NetEffect) → AreWholeLines (lines_of number effects walks)
+pub accepted_whole : (number walks : ℕ) (effects : List NetEffect) → AreWholeLines (accepted_lines number effects walks)
 accepted_whole number walks effects =
     inr (flat_map (λ e. line_of number (words_of e)) effects ++ (decimal number ++ 32 ∷ (codes "ok walks=" ++ decimal walks)), shape (flat_map (λ e. line_of number (words_of e)) effects) (decimal number) (codes "ok walks=" ++ decimal walks))
   where

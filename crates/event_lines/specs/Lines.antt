@@ -61,8 +61,8 @@ abbrev pub ok_line : ℕ → ℕ → List ℕ
 ok_line number walks = line_of number (codes "ok walks=" ++ decimal walks)
 
 -- the lines of an accepted event
-abbrev pub lines_of : ℕ → List NetEffect → ℕ → List ℕ
-lines_of number effects walks = flat_map (λ effect. line_of number (words_of effect)) effects ++ ok_line number walks
+abbrev pub accepted_lines : ℕ → List NetEffect → ℕ → List ℕ
+accepted_lines number effects walks = flat_map (λ effect. line_of number (words_of effect)) effects ++ ok_line number walks
 
 -- the name of a refusal, and what it is about
 abbrev pub refusal_words : Refusal → List ℕ

@@ -5,8 +5,8 @@ use Rattle.std.specs.List.{AllByRecursion, slice_split}
 use Rattle.std.specs.Str.{all_ascii_digits}
 use Rattle.std.specs.Str.Parse.{digits_value}
 use Rattle.std.proofs.Math.Dec.{eqb as nat_eq}
-use Rattle.ovn_base.specs.Lines.{ended_lines}
-use Rattle.ovn_base.specs.NameText.{IsName}
+use Rattle.ovn_base.specs.lines.Lines.{ended_lines}
+use Rattle.ovn_base.specs.names.NameText.{IsName}
 use Rattle.ovn_base.specs.declared.name.Name.{Name}
 use Rattle.switch_engine.specs.declared.effect.NetEffect.{NetEffect}
 use Rattle.switch_engine.specs.declared.effect.NetEffect.TheVariants as effect

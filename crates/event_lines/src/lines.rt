@@ -1,6 +1,6 @@
 //! The lines of events.
 ghost use Rattle.std.specs.Prelude.{◌≡◌, ◌++◌, codes, decimal, OnOk, OnErr};
-ghost use Rattle.event_lines.specs.Lines.{cause_name, route_words, words_of, line_of, ok_line, lines_of, refusal_words, refused_line, end_line};
+ghost use Rattle.event_lines.specs.Lines.{cause_name, route_words, words_of, line_of, ok_line, accepted_lines, refusal_words, refused_line, end_line};
 ghost use Rattle.event_lines.specs.Text.{StartsWith};
 
 use crate::put::{put, put_frame, put_hex, put_number, put_wide};
@@ -152,7 +152,7 @@ pub fn accepted(
     number: u64,
     out: &mut Vec<u8>,
 ) -> Result<(), NoMemory>
-    ensures ok { OnOk result (out.new.items ≡ out.old.items ++ lines_of number effects.now walks) }
+    ensures ok { OnOk result (out.new.items ≡ out.old.items ++ accepted_lines number effects.now walks) }
     ensures err { OnErr result (StartsWith out.new.items out.old.items) }
 {
     'effects: for effect in effects {

@@ -72,11 +72,11 @@ module _ {F O : Type 0} (eq : F → F → Bool) where
         (λ h. held_where_counted eq cmp laws es once q ((listed_where_counted (count_of eq es q)).0 (sym at ∙ h)), λ h. at ∙ (listed_where_counted (count_of eq es q)).1 (counted_where_held eq cmp laws es q h))
 
     -- what the numbers say of changes is prepared for them
-    pub prepared_for : IsEquivalence eq → (es : List (O × List F)) (counts : List (F × ℕ)) (room : ℕ) (changes : List (O × List F)) (numbers : List (F × ℕ)) (delta : Delta F) → IsEachOnce cmp es → AreCounted eq es counts
+    pub prepared_for : IsEquivalence eq → (es : List (O × List F)) (counts : List (F × ℕ)) (room : ℕ) (idle : List O) (changes : List (O × List F)) (numbers : List (F × ℕ)) (delta : Delta F) → IsEachOnce cmp es → AreCounted eq es counts
         → IsEachOnce cmp changes → HaveOnce eq changes → HavePlaces cmp es changes → IsDistinct eq (keys_of numbers) → ((q : F) → new_number_of eq numbers counts q ≡ count_of eq (put_all cmp es changes) q)
         → delta.added ≡ flows_where eq begins counts numbers → delta.removed ≡ flows_where eq ends counts numbers → length numbers ≤ room
-        → IsPreparedFor eq cmp (record { origins = es; counts = counts; room = room }) (record { changes = changes; numbers = numbers; delta = delta })
-    prepared_for eq_laws es counts room changes numbers delta once counted each have places distinct new added removed enough =
+        → IsPreparedFor eq cmp (record { origins = es; counts = counts; room = room; idle = idle }) (record { changes = changes; numbers = numbers; delta = delta })
+    prepared_for eq_laws es counts room idle changes numbers delta once counted each have places distinct new added removed enough =
         let after = put_all cmp es changes in
         let put = flows_put cmp laws es changes once each places in
         record {

@@ -9,8 +9,8 @@ use Rattle.std.specs.Ordering.{eq_by_cmp}
 use Rattle.std.specs.Set.{is_member}
 use Rattle.std.specs.declared.cmp.Ordering.{Ordering}
 use Rattle.ovn_base.proofs.AmongLaws.{member_among, among_member, among_all, all_among}
-use Rattle.ovn_base.specs.Among.{Among, here, there}
-use Rattle.ovn_base.specs.Once.{EachOnce}
+use Rattle.ovn_base.specs.lists.Among.{Among, here, there}
+use Rattle.ovn_base.specs.lists.Once.{EachOnce}
 use Rattle.ovn_base.specs.declared.delta.Delta.{Delta}
 use Rattle.flow_refs.specs.Origins.{flows_of, flows_after, IsEachOnce, IsHeld, IsDifference}
 use Rattle.flow_refs.specs.Store.{AreSame}

@@ -10,3 +10,4 @@ pub mod Midway
 pub mod Numbers
 pub mod PlaceLaws
 pub mod SetLaws
+pub mod StayLaws

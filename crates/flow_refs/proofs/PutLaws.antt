@@ -58,7 +58,7 @@ module _ {F O : Type 0} (cmp : O → O → Ordering) (laws : IsEquivalence (eq_b
       let other = (others_put es c (d ∷ ds) once place apart).0 in
       (ap is_some other ∙ places.0, places_put es c ds once place apart.1 places.1)
 
-  flows_filled : (b : Bool) (v : List F) (x : Option (List F)) → unwrap_or (cond b (filled v) x) [] ≡ cond b v (unwrap_or x [])
+  pub flows_filled : (b : Bool) (v : List F) (x : Option (List F)) → unwrap_or (cond b (filled v) x) [] ≡ cond b v (unwrap_or x [])
   flows_filled true [] x = refl
   flows_filled true (f ∷ fs) x = refl
   flows_filled false v x = refl

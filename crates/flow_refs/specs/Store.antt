@@ -10,11 +10,13 @@ use Rattle.ovn_base.specs.declared.delta.Delta.{Delta}
 use Rattle.flow_refs.specs.Origins.{flows_of, flows_after, IsEachOnce, IsDifference}
 use Rattle.flow_refs.specs.Counts.{count_of, positive, kept_number, HaveOnce}
 
--- each origin with its flows, each held flow with the number of its origins, and for how many more flows there is room
+-- each origin with its flows, each held flow with the number of its origins, for how many more flows there is room, and the
+-- origins that are noted since their places may be without flows
 pub record Store (F O : Type 0) : Type 0 where
   pub origins : List (O × List F)
   pub counts : List (F × ℕ)
   pub room : ℕ
+  pub idle : List O
 
 -- origins with the flows that they shall have, flows with the numbers that they then have, and what comes and goes
 pub record Prepared (F O : Type 0) : Type 0 where
@@ -65,10 +67,6 @@ pub record IsPreparedFor {F O : Type 0} (eq : F → F → Bool) (cmp : O → O �
   pub numbers_once : IsDistinct eq (keys_of prepared.numbers)
   pub numbers : (flow : F) → kept_number eq store.counts prepared.numbers flow ≡ positive (count_of eq (put_all cmp store.origins prepared.changes) flow)
   pub room : length prepared.numbers ≤ store.room
-
--- the same over the parts of a store
-abbrev pub IsPreparedOver : {F O : Type 0} → (F → F → Bool) → (O → O → Ordering) → List (O × List F) → List (F × ℕ) → ℕ → Prepared F O → Type 0
-IsPreparedOver eq cmp origins counts room prepared = IsPreparedFor eq cmp (record { origins = origins; counts = counts; room = room }) prepared
 
 -- each origin has what it had, and each flow the number that it had
 pub record IsKept {F O : Type 0} (eq : F → F → Bool) (cmp : O → O → Ordering) (before after : List (O × List F)) : Type 0 where

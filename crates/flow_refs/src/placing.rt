@@ -62,6 +62,7 @@ pub(crate) fn place_each<F: Eq + Hash + Drop, O: Ord + Clone + Drop>(
     ensures same { IfOk result (AreSame F.eq given) }
     ensures have_once { IfOk result (HaveOnce F.eq) }
     ensures places { IfOk result (HavePlaces O.cmp origins.new.entries) }
+    ensures stay { (o : O) → IsSome (get O.cmp origins.old o) → IsSome (get O.cmp origins.new o) }
     ensures kept { IsKept F.eq O.cmp origins.old.entries origins.new.entries }
     ensures once { HaveOnce F.eq origins.new.entries }
     ensures idle { AreIdleAmong O.cmp origins.new.entries places.new }

@@ -91,7 +91,7 @@ fn clear_place<F: Eq + Drop, O: Ord + Drop>(origins: &mut BTreeMap<O, List<F>>, 
     }
 }
 
-// Takes the places away that are without flows.
+// Takes the places away that are without flows, and notes none any more.
 pub(crate) fn clear_places<F: Eq + Drop, O: Ord + Drop>(
     origins: &mut BTreeMap<O, List<F>>,
     places: &mut List<O>,
@@ -99,6 +99,7 @@ pub(crate) fn clear_places<F: Eq + Drop, O: Ord + Drop>(
     requires once { HaveOnce F.eq origins.old.entries }
     requires idle { AreIdleAmong O.cmp origins.old.entries places.old }
     ensures idle { (o : O) → get O.cmp origins.new o ≢ Some [] }
+    ensures none_noted { places.new ≡ [] }
     ensures kept { IsKept F.eq O.cmp origins.old.entries origins.new.entries }
     ensures once { HaveOnce F.eq origins.new.entries }
 {

@@ -7,7 +7,7 @@ ghost use Rattle.std.specs.Option.{option_copied};
 ghost use Rattle.std.specs.Set.{is_member};
 ghost use Rattle.flow_refs.specs.Counts.{count_of};
 ghost use Rattle.flow_refs.specs.Origins.{flows_of, flows_after, IsEachOnce, IsHeld, IsDifference};
-ghost use Rattle.flow_refs.specs.Store.{AreSame, IsKept, IsPreparedFor, AreCounted};
+ghost use Rattle.flow_refs.specs.Store.{Prepared, AreSame, IsKept, IsPreparedFor, AreCounted};
 
 use crate::counting::new_numbers;
 use crate::difference::difference;
@@ -37,7 +37,7 @@ impl<F: Eq + Hash, O: Ord> Model for Shared<F, O> {
 
     ghost Value = { Store F O };
 
-    ghost view = { λ s. record { origins = s.origins.entries; counts = s.counts.entries; room = spare s.counts } };
+    ghost view = { λ s. record { origins = s.origins.entries; counts = s.counts.entries; room = spare s.counts; idle = s.places } };
 
     ghost invariant = { λ s. IsStore F.eq O.cmp s.origins.entries s.counts.entries s.places };
 }
@@ -47,6 +47,7 @@ impl<F: Eq + Hash + Clone + Drop, O: Ord + Clone + Drop> Shared<F, O> {
     pub fn new(alloc: Global) -> Result<Self, NoMemory>
         ensures origins { IfOk result (λ s. s.origins ≡ []) }
         ensures counts { IfOk result (λ s. s.counts ≡ []) }
+        ensures idle { IfOk result (λ s. s.idle ≡ []) }
     {
         Ok(Shared {
             origins: BTreeMap::new(alloc),
@@ -55,7 +56,8 @@ impl<F: Eq + Hash + Clone + Drop, O: Ord + Clone + Drop> Shared<F, O> {
         })
     }
 
-    /// Makes all ready for each origin of the changes to have exactly the flows that stand there with it. What is held stays.
+    /// Makes all ready for each origin of the changes to have exactly the flows that stand there with it. What is held stays,
+    /// and what was prepared before can still be applied.
     pub fn prepare(&mut self, changes: List<(O, List<F>)>) -> Result<Patch<F, O>, NoMemory>
         requires flow_clones { (x y : F) → F.is_clone x y → y ≡ x }
         requires origin_clones { (x y : O) → O.is_clone x y → y ≡ x }
@@ -64,10 +66,13 @@ impl<F: Eq + Hash + Clone + Drop, O: Ord + Clone + Drop> Shared<F, O> {
         ensures same { IfOk result (λ p. AreSame F.eq changes p.changes) }
         ensures kept { IsKept F.eq O.cmp self.old.origins self.new.origins }
         ensures counts { self.new.counts ≡ self.old.counts }
+        ensures stays { (p : Prepared F O) → IsPreparedFor F.eq O.cmp self.old p → IsPreparedFor F.eq O.cmp self.new p }
     {
         let alloc = self.places.allocator();
-        let changes = place_each(alloc, &mut self.origins, &mut self.places, changes)?;
         let _once = self.origins.len();
+        let placed = place_each(alloc, &mut self.origins, &mut self.places, changes);
+        let _still_once = self.origins.len();
+        let changes = placed?;
         let numbers = new_numbers(alloc, &self.origins, &self.counts, &changes)?;
         let delta = difference(alloc, &self.counts, &numbers)?;
         self.counts.reserve(numbers.len())?;
@@ -86,6 +91,7 @@ impl<F: Eq + Hash + Clone + Drop, O: Ord + Clone + Drop> Shared<F, O> {
         ensures delta { IsDifference F.eq (flows_of O.cmp self.old.origins) (flows_of O.cmp self.new.origins) result }
         ensures shown { result ≡ patch.delta }
         ensures no_idle { (o : O) → lookup (is_at (O.cmp o)) self.new.origins ≢ Some [] }
+        ensures none_noted { self.new.idle ≡ [] }
     {
         let Patch {
             changes,

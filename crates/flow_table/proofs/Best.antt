@@ -5,7 +5,7 @@ use denote.Ref.{Bor}
 use mathlib.Core.Path.{sym, subst}
 use mathlib.Core.Logic.{inl, inr}
 use native.Mathlib.Omega.{arith}
-use Rattle.ovn_base.specs.Among.{Among, here}
+use Rattle.ovn_base.specs.lists.Among.{Among, here}
 use Rattle.ovn_base.proofs.AmongLaws.{among_append, among_cases, among_left, among_right, among_none}
 use Rattle.inet_packet.specs.declared.packet.Packet.{Packet}
 use Rattle.inet_packet.specs.declared.regs.Regs.{Regs}

@@ -4,8 +4,8 @@ use mathlib.Core.Path.{sym, subst}
 use mathlib.Core.Logic.{inl, inr}
 use Rattle.std.proofs.lemmas.Bool.{false≢true}
 use Rattle.std.specs.List.{list_any}
-use Rattle.ovn_base.specs.Among.{Among, here, there}
-use Rattle.ovn_base.specs.Once.{EachOnce}
+use Rattle.ovn_base.specs.lists.Among.{Among, here, there}
+use Rattle.ovn_base.specs.lists.Once.{EachOnce}
 use Rattle.ovn_base.proofs.AmongLaws.{among_append, among_map, among_cases, among_left, among_right, map_among, among_filter, filter_among, among_any, any_among, among_none}
 
 module _ {X : Type 0} where

@@ -1,7 +1,7 @@
 -- How the flows of a chassis change.
 use Rattle.std.specs.Prelude.{◌⊎◌, ◌↔◌, List}
-use Rattle.ovn_base.specs.Among.{Among}
-use Rattle.ovn_base.specs.Once.{EachOnce}
+use Rattle.ovn_base.specs.lists.Among.{Among}
+use Rattle.ovn_base.specs.lists.Once.{EachOnce}
 use Rattle.ovn_base.specs.declared.delta.Delta.{Delta}
 use Rattle.flow_table.specs.declared.flow.Flow.{Flow}
 

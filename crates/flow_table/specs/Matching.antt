@@ -1,6 +1,6 @@
 -- When a flow matches a packet with its registers, and which of those that match is taken.
 use Rattle.std.specs.Prelude.{◌≡◌, ◌<◌, ◌⊎◌, ℕ, List}
-use Rattle.ovn_base.specs.Among.{Among}
+use Rattle.ovn_base.specs.lists.Among.{Among}
 use Rattle.inet_packet.specs.declared.packet.Packet.{Packet}
 use Rattle.inet_packet.specs.declared.regs.Regs.{Regs}
 use Rattle.inet_packet.specs.Fits.{CubeFits}

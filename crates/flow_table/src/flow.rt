@@ -3,8 +3,8 @@ use inet_packet::regs::Reg;
 use ovn_base::list::List;
 use ovn_base::name::Name;
 
-/// Why a packet is dropped. Flows drop today for `BadSource`, `Vlan`, `UnknownAddress`, `Loopback` and `Unbound`; the other
-/// causes are for rows that are still to come.
+/// Why a packet is dropped. `BadSource`, `Vlan`, `UnknownAddress` and `Loopback` stand in flows today, and a packet that no flow
+/// finds at home drops as `Unbound`; the other causes are for rows that are still to come.
 #[derive(Clone, Copy, PartialEq, Eq, Hash, Debug)]
 pub enum Cause {
     /// The port at which it came in, or by which it would leave, is disabled.

@@ -1,8 +1,8 @@
 //! Flows in a list: taking some out, and finding the best.
 ghost use Rattle.std.specs.Prelude.{◌≡◌, ◌≤◌, ◌↔◌, IfSome, IfNone, vec_len};
 ghost use Rattle.std.specs.Vec.{vec_capacity};
-ghost use Rattle.ovn_base.specs.Among.{Among};
-ghost use Rattle.ovn_base.specs.Once.{EachOnce};
+ghost use Rattle.ovn_base.specs.lists.Among.{Among};
+ghost use Rattle.ovn_base.specs.lists.Once.{EachOnce};
 ghost use Rattle.flow_table.specs.declared.flow.Flow.{Flow};
 ghost use Rattle.flow_table.specs.Matching.{IsBest, NoneMatches};
 

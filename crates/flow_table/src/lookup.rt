@@ -3,7 +3,7 @@ ghost use Rattle.std.specs.Option.{option_copied};
 ghost use Rattle.ovn_base.specs.declared.delta.Delta.{Delta};
 ghost use Rattle.flow_table.specs.declared.flow.Flow.{Flow};
 ghost use Rattle.flow_table.specs.Matching.{IsBest, NoneMatches};
-ghost use Rattle.ovn_base.specs.Once.{EachOnce};
+ghost use Rattle.ovn_base.specs.lists.Once.{EachOnce};
 ghost use Rattle.flow_table.specs.Change.{IsDeltaOf, IsReplaced};
 
 use crate::flow::Flow;

@@ -21,7 +21,7 @@ pub struct Tables {
 impl Model for Tables {
     ghost use Rattle.std.specs.Prelude.{◌-◌, vec_len};
     ghost use Rattle.std.specs.Vec.{vec_capacity};
-    ghost use Rattle.ovn_base.specs.Once.{EachOnce};
+    ghost use Rattle.ovn_base.specs.lists.Once.{EachOnce};
     ghost use Rattle.flow_table.specs.HeldFlows.{HeldFlows};
 
     ghost Value = { HeldFlows };

@@ -1,7 +1,7 @@
 -- A frame that is read is the frame of what is read, and a bad IPv4 frame is the frame of no whole packet.
 use Rattle.std.proofs.Common.{◌≡◌, ◌+◌, ◌^◌, ◌/◌, ◌%◌, ◌<◌, ◌≤◌, ℕ, List, ◌++◌, ◌↔◌, length, get_or, take, drop, refl, ap, sym, subst, ◌∙◌, append_assoc, arith, Result, Err}
-use Rattle.std.proofs.lemmas.List.{take_at, drop_at, length-append, get_or-append-add, get_or_default, get_or-drop}
-use Rattle.ovn_base.specs.Address.{IsMac}
+use Rattle.std.proofs.lemmas.List.{take_at, drop_at, get_or-append-add, get_or_default, get_or-drop}
+use Rattle.ovn_base.specs.addresses.EtherAddress.{mac_bytes}
 use Rattle.ovn_base.specs.declared.address.Mac.{Mac}
 use Rattle.inet_packet.specs.declared.frame.FrameFault.{FrameFault}
 use Rattle.inet_packet.specs.declared.frame.FrameFault.TheVariants as faults
@@ -34,30 +34,26 @@ regroup a b c d = simp append_assoc
 
 -- how a frame begins
 pub record IsHead (frame : List ℕ) (dst src : Mac) (ether_type : ℕ) (rest : List ℕ) : Type 0 where
-  pub parts : frame ≡ dst.0 ++ (src.0 ++ (two ether_type ++ rest))
-  pub is_dst : IsMac dst
-  pub is_src : IsMac src
+  pub parts : frame ≡ mac_bytes dst ++ (mac_bytes src ++ (two ether_type ++ rest))
   pub within : ether_type < 2 ^ 16
   pub fits : IsBytes frame
 
-pub head_of : (frame r1 r2 rest : List ℕ) (dst src : Mac) (t : ℕ) → frame ≡ dst.0 ++ r1 → r1 ≡ src.0 ++ r2 → r2 ≡ two t ++ rest → IsMac dst → IsMac src → t < 2 ^ 16 → IsBytes frame → IsHead frame dst src t rest
-head_of frame r1 r2 rest dst src t a b c d s w f = record { parts = a ∙ ap (λ (l : List ℕ). dst.0 ++ l) (b ∙ ap (λ (l : List ℕ). src.0 ++ l) c); is_dst = d; is_src = s; within = w; fits = f }
+pub head_of : (frame r1 r2 rest : List ℕ) (dst src : Mac) (t : ℕ) → frame ≡ mac_bytes dst ++ r1 → r1 ≡ mac_bytes src ++ r2 → r2 ≡ two t ++ rest → t < 2 ^ 16 → IsBytes frame → IsHead frame dst src t rest
+head_of frame r1 r2 rest dst src t a b c w f = record { parts = a ∙ ap (λ (l : List ℕ). mac_bytes dst ++ l) (b ∙ ap (λ (l : List ℕ). mac_bytes src ++ l) c); within = w; fits = f }
 
 abbrev made : Mac → Mac → Body → List ℕ → Packet
 made dst src body tail = record { dst = dst; src = src; body = body; tail = tail }
 
 pub made_frame : (frame : List ℕ) (dst src : Mac) (t : ℕ) (rest : List ℕ) (body : Body) (tail : List ℕ) → IsHead frame dst src t rest → IsBodyOf t rest body tail → frame_of (made dst src body tail) ≡ frame
 unfolding frame_of
-made_frame frame dst src t rest body tail h b = sym (h.parts ∙ ap (λ (l : List ℕ). dst.0 ++ (src.0 ++ l)) b.parts)
+made_frame frame dst src t rest body tail h b = sym (h.parts ∙ ap (λ (l : List ℕ). mac_bytes dst ++ (mac_bytes src ++ l)) b.parts)
 
 pub made_whole : (frame : List ℕ) (dst src : Mac) (t : ℕ) (rest : List ℕ) (body : Body) (tail : List ℕ) → 14 ≤ length frame → length frame ≤ 9216 → IsHead frame dst src t rest → IsBodyOf t rest body tail → IsWhole (made dst src body tail)
 made_whole frame dst src t rest body tail long short h b =
     let e = made_frame frame dst src t rest body tail h b in
-    let all : frame ≡ (dst.0 ++ (src.0 ++ body_bytes body)) ++ tail = h.parts ∙ ap (λ (l : List ℕ). dst.0 ++ (src.0 ++ l)) b.parts ∙ regroup dst.0 src.0 (body_bytes body) tail in
+    let all : frame ≡ (mac_bytes dst ++ (mac_bytes src ++ body_bytes body)) ++ tail = h.parts ∙ ap (λ (l : List ℕ). mac_bytes dst ++ (mac_bytes src ++ l)) b.parts ∙ regroup (mac_bytes dst) (mac_bytes src) (body_bytes body) tail in
     record {
-      dst = h.is_dst;
-      src = h.is_src;
-      tail = bytes_behind frame (dst.0 ++ (src.0 ++ body_bytes body)) tail all h.fits;
+      tail = bytes_behind frame (mac_bytes dst ++ (mac_bytes src ++ body_bytes body)) tail all h.fits;
       long = omega (arith, long, ap length e);
       short = omega (arith, short, ap length e);
       body = b.whole;
@@ -72,17 +68,15 @@ ip4_only (Other t) tail rest h e =
     let low : t % 256 ≡ 0 = ap (λ (l : List ℕ). get_or l 1 0) e in
     absurd (h.not_ip4 (omega (arith, high, low, h.within)))
 
-pub behind_type : (p : Packet) (dst src : Mac) (t : ℕ) (rest : List ℕ) → IsWhole p → IsMac dst → IsMac src → frame_of p ≡ dst.0 ++ (src.0 ++ (two t ++ rest)) → body_bytes p.body ++ p.tail ≡ two t ++ rest
+pub behind_type : (p : Packet) (dst src : Mac) (t : ℕ) (rest : List ℕ) → frame_of p ≡ mac_bytes dst ++ (mac_bytes src ++ (two t ++ rest)) → body_bytes p.body ++ p.tail ≡ two t ++ rest
 unfolding frame_of
-behind_type p dst src t rest h d s e =
-    let one = same_front p.dst.0 dst.0 (p.src.0 ++ (body_bytes p.body ++ p.tail)) (src.0 ++ (two t ++ rest)) (h.dst.six ∙ sym d.six) e in
-    (same_front p.src.0 src.0 (body_bytes p.body ++ p.tail) (two t ++ rest) (h.src.six ∙ sym s.six) one.1).1
+behind_type p dst src t rest e =
+    let one = same_front (mac_bytes p.dst) (mac_bytes dst) (mac_bytes p.src ++ (body_bytes p.body ++ p.tail)) (mac_bytes src ++ (two t ++ rest)) refl e in
+    (same_front (mac_bytes p.src) (mac_bytes src) (body_bytes p.body ++ p.tail) (two t ++ rest) refl one.1).1
 
 pub type_at : (frame : List ℕ) (dst src : Mac) (t : ℕ) (rest : List ℕ) → IsHead frame dst src t rest → ether_type_at frame ≡ t
 type_at frame dst src t rest h =
-    let all : frame ≡ (dst.0 ++ src.0) ++ (two t ++ rest) = h.parts ∙ sym (append_assoc dst.0 src.0 (two t ++ rest)) in
-    let twelve : length (dst.0 ++ src.0) ≡ 12 = length-append dst.0 src.0 ∙ omega (arith, h.is_dst.six, h.is_src.six) in
-    let behind : drop 12 frame ≡ two t ++ rest = ap (drop 12) all ∙ drop_at (dst.0 ++ src.0) (two t ++ rest) 12 twelve in
+    let behind : drop 12 frame ≡ two t ++ rest = ap (drop 12) h.parts in
     let a : get_or frame 12 0 ≡ t / 256 % 256 = sym (get_or-drop 12 frame 0 0) ∙ ap (λ (l : List ℕ). get_or l 0 0) behind in
     let b : get_or frame 13 0 ≡ t % 256 = sym (get_or-drop 12 frame 1 0) ∙ ap (λ (l : List ℕ). get_or l 1 0) behind in
     omega (arith, a, b, h.within)
@@ -92,7 +86,7 @@ is_bad frame dst src t rest long short h b = record {
   long = long;
   short = short;
   ip4 = type_at frame dst src t rest h ∙ b.0;
-  of_none = λ p whole e. b.1 (ip4_only p.body p.tail rest whole.body (behind_type p dst src t rest whole h.is_dst h.is_src (e ∙ h.parts) ∙ ap (λ (n : ℕ). two n ++ rest) b.0));
+  of_none = λ p whole e. b.1 (ip4_only p.body p.tail rest whole.body (behind_type p dst src t rest (e ∙ h.parts) ∙ ap (λ (n : ℕ). two n ++ rest) b.0));
 }
 
 pub not_bad : (frame : List ℕ) (dst src : Mac) (t : ℕ) (rest : List ℕ) → 14 ≤ length frame → length frame ≤ 9216 → IsHead frame dst src t rest → HasBody t rest → ¬ IsBadIp4 frame

@@ -1,6 +1,7 @@
 -- A frame is the frame of at most one whole packet.
 use Rattle.std.proofs.Common.{◌≡◌, ◌+◌, ◌-◌, ◌^◌, ◌/◌, ◌%◌, ◌<◌, ℕ, List, ◌++◌, length, get_or, drop, refl, ap, sym, subst, ◌∙◌, append_assoc, arith}
-use Rattle.std.proofs.lemmas.List.{length-append}
+use Rattle.ovn_base.specs.addresses.EtherAddress.{mac_bytes}
+use Rattle.ovn_base.proofs.MacLemmas.{same_bytes_ether}
 use Rattle.inet_packet.specs.declared.packet.Arp as records
 use Rattle.inet_packet.specs.declared.packet.Body.{Body}
 use Rattle.inet_packet.specs.declared.packet.Body.TheVariants.{Arp, Ip4, Other}
@@ -91,23 +92,21 @@ same_ip4 i j s t h k e =
 same_arp : (a b : records.Arp) (s t : List ℕ) → IsWholeArp a → IsWholeArp b → arp_bytes a ++ s ≡ arp_bytes b ++ t → (a ≡ b) × (s ≡ t)
 same_arp a b s t h k e =
     let op : a.op ≡ b.op = same_two a.op b.op h.op k.op (at 6 (arp_bytes a ++ s) (arp_bytes b ++ t) e) (at 7 (arp_bytes a ++ s) (arp_bytes b ++ t) e) in
-    let ra = four a.spa.0 ++ (a.tha.0 ++ four a.tpa.0) in
-    let rb = four b.spa.0 ++ (b.tha.0 ++ four b.tpa.0) in
-    let behind : a.sha.0 ++ (ra ++ s) ≡ b.sha.0 ++ (rb ++ t) = sym (append_assoc a.sha.0 ra s) ∙ ap (drop 8) e ∙ append_assoc b.sha.0 rb t in
-    let sha = same_front a.sha.0 b.sha.0 (ra ++ s) (rb ++ t) (h.sha.six ∙ sym k.sha.six) behind in
+    let ra = four a.spa.0 ++ (mac_bytes a.tha ++ four a.tpa.0) in
+    let rb = four b.spa.0 ++ (mac_bytes b.tha ++ four b.tpa.0) in
+    let behind : mac_bytes a.sha ++ (ra ++ s) ≡ mac_bytes b.sha ++ (rb ++ t) = ap (drop 8) e in
+    let sha = same_front (mac_bytes a.sha) (mac_bytes b.sha) (ra ++ s) (rb ++ t) refl behind in
     let spa : a.spa.0 ≡ b.spa.0 = same_four a.spa.0 b.spa.0 h.spa k.spa (at 0 (ra ++ s) (rb ++ t) sha.1) (at 1 (ra ++ s) (rb ++ t) sha.1) (at 2 (ra ++ s) (rb ++ t) sha.1) (at 3 (ra ++ s) (rb ++ t) sha.1) in
-    let last : a.tha.0 ++ (four a.tpa.0 ++ s) ≡ b.tha.0 ++ (four b.tpa.0 ++ t) = sym (append_assoc a.tha.0 (four a.tpa.0) s) ∙ ap (drop 4) sha.1 ∙ append_assoc b.tha.0 (four b.tpa.0) t in
-    let tha = same_front a.tha.0 b.tha.0 (four a.tpa.0 ++ s) (four b.tpa.0 ++ t) (h.tha.six ∙ sym k.tha.six) last in
+    let last : mac_bytes a.tha ++ (four a.tpa.0 ++ s) ≡ mac_bytes b.tha ++ (four b.tpa.0 ++ t) = ap (drop 4) sha.1 in
+    let tha = same_front (mac_bytes a.tha) (mac_bytes b.tha) (four a.tpa.0 ++ s) (four b.tpa.0 ++ t) refl last in
     let tpa : a.tpa.0 ≡ b.tpa.0 = same_four a.tpa.0 b.tpa.0 h.tpa k.tpa (at 0 (four a.tpa.0 ++ s) (four b.tpa.0 ++ t) tha.1) (at 1 (four a.tpa.0 ++ s) (four b.tpa.0 ++ t) tha.1) (at 2 (four a.tpa.0 ++ s) (four b.tpa.0 ++ t) tha.1) (at 3 (four a.tpa.0 ++ s) (four b.tpa.0 ++ t) tha.1) in
-    (λ n. record { op = op n; sha = record { 0 = sha.0 n }; spa = record { 0 = spa n }; tha = record { 0 = tha.0 n }; tpa = record { 0 = tpa n } }, ap (drop 4) tha.1)
+    let sender = same_bytes_ether a.sha b.sha sha.0 in
+    let target = same_bytes_ether a.tha b.tha tha.0 in
+    (λ n. record { op = op n; sha = sender n; spa = record { 0 = spa n }; tha = target n; tpa = record { 0 = tpa n } }, ap (drop 4) tha.1)
 
 -- an ARP packet's bytes are ones
-arp_is_arp : (a : records.Arp) (s : List ℕ) → IsWholeArp a → IsArpBytes (arp_bytes a ++ s)
-arp_is_arp a s h =
-    let ra = four a.spa.0 ++ (a.tha.0 ++ four a.tpa.0) in
-    let inner : length (a.tha.0 ++ four a.tpa.0) ≡ 10 = length-append a.tha.0 (four a.tpa.0) ∙ omega (arith, h.tha.six) in
-    let sha : length ((a.sha.0 ++ ra) ++ s) ≡ length a.sha.0 + length ra + length s = length-append (a.sha.0 ++ ra) s ∙ ap (λ (n : ℕ). n + length s) (length-append a.sha.0 ra) in
-    record { long = omega (arith, inner, sha, h.sha.six); kind = refl }
+arp_is_arp : (a : records.Arp) (s : List ℕ) → IsArpBytes (arp_bytes a ++ s)
+arp_is_arp a s = record { long = omega arith; kind = refl }
 
 same_body : (b c : Body) (s t : List ℕ) → IsWholeBody b s → IsWholeBody c t → body_bytes b ++ s ≡ body_bytes c ++ t → (b ≡ c) × (s ≡ t)
 same_body (Arp a) (Arp b) s t h k e = let r = same_arp a b s t h k (ap (drop 2) e) in (ap Arp r.0, r.1)
@@ -116,7 +115,7 @@ same_body (Arp a) (Other v) s t h k e =
     let high : 8 ≡ v / 256 % 256 = at 0 (body_bytes (Arp a) ++ s) (body_bytes (Other v) ++ t) e in
     let low : 6 ≡ v % 256 = at 1 (body_bytes (Arp a) ++ s) (body_bytes (Other v) ++ t) e in
     let same : arp_bytes a ++ s ≡ t = ap (drop 2) e in
-    absurd (k.not_arp (omega (arith, high, low, k.within)) (subst IsArpBytes same (arp_is_arp a s h)))
+    absurd (k.not_arp (omega (arith, high, low, k.within)) (subst IsArpBytes same (arp_is_arp a s)))
 same_body (Ip4 i) (Arp b) s t h k e = let x : 0 ≡ 6 = at 1 (body_bytes (Ip4 i) ++ s) (body_bytes (Arp b) ++ t) e in absurd (omega (arith, x))
 same_body (Ip4 i) (Ip4 j) s t h k e = let r = same_ip4 i j s t h k (ap (drop 2) e) in (ap Ip4 r.0, r.1)
 same_body (Ip4 i) (Other v) s t h k e =
@@ -127,7 +126,7 @@ same_body (Other u) (Arp b) s t h k e =
     let high : u / 256 % 256 ≡ 8 = at 0 (body_bytes (Other u) ++ s) (body_bytes (Arp b) ++ t) e in
     let low : u % 256 ≡ 6 = at 1 (body_bytes (Other u) ++ s) (body_bytes (Arp b) ++ t) e in
     let same : arp_bytes b ++ t ≡ s = sym (ap (drop 2) e) in
-    absurd (h.not_arp (omega (arith, high, low, h.within)) (subst IsArpBytes same (arp_is_arp b t k)))
+    absurd (h.not_arp (omega (arith, high, low, h.within)) (subst IsArpBytes same (arp_is_arp b t)))
 same_body (Other u) (Ip4 j) s t h k e =
     let high : u / 256 % 256 ≡ 8 = at 0 (body_bytes (Other u) ++ s) (body_bytes (Ip4 j) ++ t) e in
     let low : u % 256 ≡ 0 = at 1 (body_bytes (Other u) ++ s) (body_bytes (Ip4 j) ++ t) e in
@@ -139,7 +138,9 @@ same_body (Other u) (Other v) s t h k e =
 pub one_packet_at_most : (p q : Packet) → IsWhole p → IsWhole q → frame_of p ≡ frame_of q → p ≡ q
 unfolding frame_of
 one_packet_at_most p q h k e =
-    let one = same_front p.dst.0 q.dst.0 (p.src.0 ++ (body_bytes p.body ++ p.tail)) (q.src.0 ++ (body_bytes q.body ++ q.tail)) (h.dst.six ∙ sym k.dst.six) e in
-    let more = same_front p.src.0 q.src.0 (body_bytes p.body ++ p.tail) (body_bytes q.body ++ q.tail) (h.src.six ∙ sym k.src.six) one.1 in
+    let one = same_front (mac_bytes p.dst) (mac_bytes q.dst) (mac_bytes p.src ++ (body_bytes p.body ++ p.tail)) (mac_bytes q.src ++ (body_bytes q.body ++ q.tail)) refl e in
+    let more = same_front (mac_bytes p.src) (mac_bytes q.src) (body_bytes p.body ++ p.tail) (body_bytes q.body ++ q.tail) refl one.1 in
     let body = same_body p.body q.body p.tail q.tail h.body k.body more.1 in
-    λ i. record { dst = record { 0 = one.0 i }; src = record { 0 = more.0 i }; body = body.0 i; tail = body.1 i }
+    let dst = same_bytes_ether p.dst q.dst one.0 in
+    let src = same_bytes_ether p.src q.src more.0 in
+    λ i. record { dst = dst i; src = src i; body = body.0 i; tail = body.1 i }

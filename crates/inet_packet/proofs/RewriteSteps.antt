@@ -3,7 +3,6 @@ use Rattle.std.proofs.Common.{◌≡◌, ◌+◌, ◌*◌, ◌-◌, ◌^◌, ◌
 use Rattle.std.proofs.Math.Seq.{take-append-add}
 use Rattle.std.proofs.lemmas.Bool.{cases_eq}
 use Rattle.std.proofs.lemmas.List.{length-append}
-use Rattle.ovn_base.specs.Address.{IsMac}
 use Rattle.ovn_base.specs.declared.address.Ip4 as addresses
 use Rattle.ovn_base.specs.declared.address.Mac.{Mac}
 use Rattle.inet_packet.specs.declared.packet.Arp as records
@@ -325,9 +324,9 @@ Steps f (Other t) tail = Unit {0}
 abbrev made : Mac → Mac → Body → List ℕ → Packet
 made dst src body tail = record { dst = dst; src = src; body = body; tail = tail }
 
-all_len : (dst src : Mac) (b : Body) (tail : List ℕ) → length (frame_of (made dst src b tail)) ≡ length dst.0 + (length src.0 + (length (body_bytes b) + length tail))
+all_len : (dst src : Mac) (b : Body) (tail : List ℕ) → length (frame_of (made dst src b tail)) ≡ 12 + (length (body_bytes b) + length tail)
 unfolding frame_of
-all_len dst src b tail = length-append dst.0 (src.0 ++ (body_bytes b ++ tail)) ∙ ap (λ (n : ℕ). length dst.0 + n) (length-append src.0 (body_bytes b ++ tail) ∙ ap (λ (n : ℕ). length src.0 + n) (length-append (body_bytes b) tail))
+all_len dst src b tail = omega (arith, length-append (body_bytes b) tail)
 
 made_len : (dst src : Mac) (b c : Body) (tail : List ℕ) → length (body_bytes b) ≡ length (body_bytes c) → length (frame_of (made dst src b tail)) ≡ length (frame_of (made dst src c tail))
 made_len dst src b c tail e = omega (arith, all_len dst src b tail, all_len dst src c tail, e)
@@ -341,7 +340,7 @@ whole_made f dst src (Arp a) tail h s = h
 whole_made f dst src (Other t) tail h s = h
 whole_made f dst src (Ip4 i) tail h s =
     let len = made_len dst src (Ip4 (f i)) (Ip4 i) tail (step_len i (f i) tail s) in
-    record { dst = h.dst; src = h.src; tail = h.tail; long = omega (arith, h.long, len); short = omega (arith, h.short, len); body = s.whole }
+    record { tail = h.tail; long = omega (arith, h.long, len); short = omega (arith, h.short, len); body = s.whole }
 
 right_made : (f : Ip4Packet → Ip4Packet) (dst src : Mac) (b : Body) (tail : List ℕ) → Steps f b tail → HasRightSum (made dst src b tail) → HasRightSum (with_ip4 f (made dst src b tail))
 unfolding HasRightSum
@@ -377,23 +376,19 @@ reply_steps p h = steps ip4_as_reply p.body p.tail h.body (λ i w. reply_step i 
 
 -- ---- ARP
 
-arp_len : (a : records.Arp) → IsWholeArp a → length (body_bytes (Arp a)) ≡ 30
-arp_len a h =
-    let last : length (a.tha.0 ++ four a.tpa.0) ≡ 10 = length-append a.tha.0 (four a.tpa.0) ∙ omega (arith, h.tha.six) in
-    let r = four a.spa.0 ++ (a.tha.0 ++ four a.tpa.0) in
-    let rest : length (a.sha.0 ++ r) ≡ length a.sha.0 + length r = length-append a.sha.0 r in
-    omega (arith, last, rest, h.sha.six)
+arp_len : (a : records.Arp) → length (body_bytes (Arp a)) ≡ 30
+arp_len a = refl
 
-arp_made : (mac : Mac) (ip : addresses.Ip4) (dst src : Mac) (b : Body) (tail : List ℕ) → IsMac mac → ip.0 < 2 ^ 32 → IsArp b → IsWhole (made dst src b tail) → IsWhole (with_arp_reply mac ip (made dst src b tail))
-arp_made mac ip dst src (Arp a) tail m p is h =
+arp_made : (mac : Mac) (ip : addresses.Ip4) (dst src : Mac) (b : Body) (tail : List ℕ) → ip.0 < 2 ^ 32 → IsArp b → IsWhole (made dst src b tail) → IsWhole (with_arp_reply mac ip (made dst src b tail))
+arp_made mac ip dst src (Arp a) tail p is h =
     let new : records.Arp = record { op = 2; sha = mac; spa = ip; tha = a.sha; tpa = a.spa } in
-    let w : IsWholeArp new = record { op = omega arith; sha = m; spa = p; tha = h.body.sha; tpa = h.body.spa } in
+    let w : IsWholeArp new = record { op = omega arith; spa = p; tpa = h.body.spa } in
     let x = all_len src mac (Arp new) tail in
     let y = all_len dst src (Arp a) tail in
-    let len : length (frame_of (made src mac (Arp new) tail)) ≡ length (frame_of (made dst src (Arp a) tail)) = omega (arith, x, y, arp_len new w, arp_len a h.body, m.six, h.dst.six, h.src.six) in
-    record { dst = h.src; src = m; tail = h.tail; long = omega (arith, h.long, len); short = omega (arith, h.short, len); body = w }
-arp_made mac ip dst src (Ip4 i) tail m p is h = absurd is
-arp_made mac ip dst src (Other t) tail m p is h = absurd is
+    let len : length (frame_of (made src mac (Arp new) tail)) ≡ length (frame_of (made dst src (Arp a) tail)) = omega (arith, x, y, arp_len new, arp_len a) in
+    record { tail = h.tail; long = omega (arith, h.long, len); short = omega (arith, h.short, len); body = w }
+arp_made mac ip dst src (Ip4 i) tail p is h = absurd is
+arp_made mac ip dst src (Other t) tail p is h = absurd is
 
-pub arp_whole : (mac : Mac) (ip : addresses.Ip4) (p : Packet) → IsMac mac → ip.0 < 2 ^ 32 → IsArp p.body → IsWhole p → IsWhole (with_arp_reply mac ip p)
-arp_whole mac ip p m a is h = arp_made mac ip p.dst p.src p.body p.tail m a is h
+pub arp_whole : (mac : Mac) (ip : addresses.Ip4) (p : Packet) → ip.0 < 2 ^ 32 → IsArp p.body → IsWhole p → IsWhole (with_arp_reply mac ip p)
+arp_whole mac ip p a is h = arp_made mac ip p.dst p.src p.body p.tail a is h

@@ -4,6 +4,7 @@ use Rattle.inet_packet.specs.declared.packet.Body.TheVariants.{Ip4}
 use Rattle.inet_packet.specs.declared.packet.Ip4Packet.{Ip4Packet}
 use Rattle.inet_packet.specs.declared.packet.Part.TheVariants.{Tcp, Udp}
 use Rattle.inet_packet.specs.Frame.{four, part_bytes}
+use Rattle.inet_packet.specs.Rewrites.{updated, updated_set, udp_updated}
 use Rattle.inet_packet.specs.Sums.{words, ones_sum}
 use Rattle.inet_packet.specs.Transport.{IsRightBody}
 
@@ -11,6 +12,25 @@ use Rattle.inet_packet.specs.Transport.{IsRightBody}
 rfc_1071 : ones_sum (words (0x00 ∷ 0x01 ∷ 0xf2 ∷ 0x03 ∷ 0xf4 ∷ 0xf5 ∷ 0xf6 ∷ 0xf7 ∷ [])) ≡ 0xddf2
 unfolding words ones_sum
 rfc_1071 = refl
+
+-- a last byte alone is the high one of its word
+odd_number : ones_sum (words (0x00 ∷ 0x01 ∷ 0xf2 ∷ [])) ≡ 0xf201
+unfolding words ones_sum
+odd_number = refl
+
+-- RFC 1624 section 4: a word of a header changes, and its sum becomes 0, where sums that can't be 0 become all ones
+rfc_1624 : updated 0xdd2f 0x5555 0x3285 ≡ 0x0000
+rfc_1624 = refl
+
+rfc_1624_set : updated_set 0xdd2f 0x5555 0x3285 ≡ 0xffff
+rfc_1624_set = refl
+
+-- a word that stays leaves its sum, and a UDP sum that was not given isn't made
+same_word : updated 0xffff 0x5555 0x5555 ≡ 0xffff
+same_word = refl
+
+no_sum : udp_updated 0 0x5555 0x3285 ≡ 0
+no_sum = refl
 
 -- TCP from 10.0.0.1 port 5000 to 10.0.0.100 port 80, with no data
 syn : Ip4Packet

@@ -1,6 +1,6 @@
 -- What stands in the fields of a packet that a cube may ask for. A field that the packet does not have is 0.
 use Rattle.std.specs.Prelude.{ℕ}
-use Rattle.ovn_base.specs.Address.{mac_number}
+use Rattle.ovn_base.specs.addresses.EtherAddress.{mac_number}
 use Rattle.inet_packet.specs.declared.packet.Body.{Body}
 use Rattle.inet_packet.specs.declared.packet.Body.TheVariants.{Arp, Ip4, Other}
 use Rattle.inet_packet.specs.declared.packet.Part.{Part}

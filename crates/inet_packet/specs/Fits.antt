@@ -1,6 +1,6 @@
 -- When a cube holds a packet with its registers.
 use Rattle.std.specs.Prelude.{◌≡◌, ℕ, Option, Some, None, bit_and}
-use Rattle.ovn_base.specs.Address.{mac_number}
+use Rattle.ovn_base.specs.addresses.EtherAddress.{mac_number}
 use Rattle.inet_packet.specs.declared.cube.Bits.{Bits}
 use Rattle.inet_packet.specs.declared.cube.Cube.{Cube}
 use Rattle.inet_packet.specs.declared.packet.Body.{Body}

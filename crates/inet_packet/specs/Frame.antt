@@ -1,6 +1,7 @@
 -- The bytes of a packet.
 use Rattle.std.specs.Prelude.{ℕ, ◌+◌, ◌/◌, ◌%◌, List, ◌∷◌, [], ◌++◌, length}
 use Rattle.std.specs.Int.{w16, w32, to_be_bytes}
+use Rattle.ovn_base.specs.addresses.EtherAddress.{mac_bytes}
 use Rattle.inet_packet.specs.declared.packet.Arp as records
 use Rattle.inet_packet.specs.declared.packet.Body.{Body}
 use Rattle.inet_packet.specs.declared.packet.Body.TheVariants.{Arp, Ip4, Other}
@@ -22,7 +23,7 @@ ethernet_ip4 = 0 ∷ 1 ∷ 8 ∷ 0 ∷ 6 ∷ 4 ∷ []
 
 -- an ARP packet (RFC 826)
 abbrev pub arp_bytes : records.Arp → List ℕ
-arp_bytes a = ethernet_ip4 ++ (two a.op ++ (a.sha.0 ++ (four a.spa.0 ++ (a.tha.0 ++ four a.tpa.0))))
+arp_bytes a = ethernet_ip4 ++ (two a.op ++ (mac_bytes a.sha ++ (four a.spa.0 ++ (mac_bytes a.tha ++ four a.tpa.0))))
 
 -- an IPv4 header from its second byte up to its addresses (RFC 791 section 3.1)
 abbrev pub ip4_front : Ip4Packet → List ℕ
@@ -48,4 +49,4 @@ body_bytes (Other t) = two t
 
 -- the frame of a packet: the two addresses, the body and the rest
 unfoldable pub frame_of : Packet → List ℕ
-frame_of p = p.dst.0 ++ (p.src.0 ++ (body_bytes p.body ++ p.tail))
+frame_of p = mac_bytes p.dst ++ (mac_bytes p.src ++ (body_bytes p.body ++ p.tail))

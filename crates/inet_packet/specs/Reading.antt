@@ -1,5 +1,6 @@
 -- What is read of the bytes behind the two addresses.
 use Rattle.std.specs.Prelude.{◌≡◌, ◌≢◌, ℕ, ◌+◌, ◌*◌, ◌/◌, ◌%◌, ◌^◌, ◌<◌, ◌≤◌, List, ◌∷◌, ◌++◌, length, take, slice_index, Result, Ok, Err}
+use Rattle.ovn_base.specs.declared.limits.TheConstants.{MIN_FRAME, MAX_FRAME}
 use Rattle.inet_packet.specs.declared.frame.Front.{Front}
 use Rattle.inet_packet.specs.declared.frame.FrameFault.{FrameFault}
 use Rattle.inet_packet.specs.declared.frame.FrameFault.TheVariants as faults
@@ -73,7 +74,7 @@ ReadsBody (Err faults.Memory) ether_type bytes = HasBody ether_type bytes
 
 -- the bytes are a frame in length, of type 0x0800, but of no whole packet
 pub record IsBadIp4 (frame : List ℕ) : Type 0 where
-  pub long : 14 ≤ length frame
-  pub short : length frame ≤ 9216
+  pub long : MIN_FRAME ≤ length frame
+  pub short : length frame ≤ MAX_FRAME
   pub ip4 : ether_type_at frame ≡ 0x0800
   pub of_none : (p : Packet) → IsWhole p → frame_of p ≢ frame

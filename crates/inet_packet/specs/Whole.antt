@@ -1,7 +1,7 @@
 -- Which packets have a frame that is read back as they are.
 use Rattle.std.specs.Prelude.{◌≡◌, ◌≢◌, ℕ, ◌+◌, ◌-◌, ◌%◌, ◌^◌, ◌<◌, ◌≤◌, List, length, take, bit_and}
 use Rattle.std.specs.List.{All}
-use Rattle.ovn_base.specs.Address.{IsMac}
+use Rattle.ovn_base.specs.declared.limits.TheConstants.{MIN_FRAME, MAX_FRAME}
 use Rattle.inet_packet.specs.declared.packet.Arp as records
 use Rattle.inet_packet.specs.declared.packet.Body.{Body}
 use Rattle.inet_packet.specs.declared.packet.Body.TheVariants.{Arp, Ip4, Other}
@@ -24,9 +24,7 @@ pub record IsArpBytes (bytes : List ℕ) : Type 0 where
 -- the fields of an ARP packet are in their ranges
 pub record IsWholeArp (a : records.Arp) : Type 0 where
   pub op : a.op < 2 ^ 16
-  pub sha : IsMac a.sha
   pub spa : a.spa.0 < 2 ^ 32
-  pub tha : IsMac a.tha
   pub tpa : a.tpa.0 < 2 ^ 32
 
 -- another type, and an ARP packet only where it isn't Ethernet for IPv4 or is cut
@@ -87,9 +85,7 @@ IsWholeBody (Other t) tail = IsWholeOther t tail
 
 -- a packet that is what its frame says, of 14 to 9,216 bytes
 pub record IsWhole (p : Packet) : Type 0 where
-  pub dst : IsMac p.dst
-  pub src : IsMac p.src
   pub tail : AreBytes p.tail
-  pub long : 14 ≤ length (frame_of p)
-  pub short : length (frame_of p) ≤ 9216
+  pub long : MIN_FRAME ≤ length (frame_of p)
+  pub short : length (frame_of p) ≤ MAX_FRAME
   pub body : IsWholeBody p.body p.tail

@@ -1,3 +1,6 @@
+ghost use Rattle.std.specs.Prelude.{◌≡◌, ◌<◌};
+ghost use Rattle.inet_packet.specs.Cubes.{exactly};
+
 use crate::regs::At;
 
 /// The bits of a field that count, and what they have to be.
@@ -43,4 +46,57 @@ pub struct Cube {
     pub arp_tpa: Bits,
     pub arp_sha: Bits,
     pub arp_tha: Bits,
+}
+
+impl Bits {
+    /// No bit counts.
+    pub const ANY: Bits = Bits { value: 0, mask: 0 };
+
+    /// All bits of a field of this width count, and have to be those of the number.
+    pub fn exactly(width: u32, n: u64) -> Bits
+        requires { width < 64 }
+        ensures { result ≡ exactly width n }
+    {
+        Bits {
+            value: n,
+            mask: (1 << width) - 1,
+        }
+    }
+}
+
+impl Cube {
+    /// Every packet with its registers.
+    pub const EVERYTHING: Cube = Cube {
+        at: None,
+        dp: Bits::ANY,
+        in_port: Bits::ANY,
+        out_port: Bits::ANY,
+        next: Bits::ANY,
+        z_in: Bits::ANY,
+        z_out: Bits::ANY,
+        z_dnat: Bits::ANY,
+        z_snat: Bits::ANY,
+        state: Bits::ANY,
+        verdict: Bits::ANY,
+        tier: Bits::ANY,
+        flags: Bits::ANY,
+        eth_src: Bits::ANY,
+        eth_dst: Bits::ANY,
+        eth_type: Bits::ANY,
+        ip4_src: Bits::ANY,
+        ip4_dst: Bits::ANY,
+        ip_proto: Bits::ANY,
+        ip_ttl: Bits::ANY,
+        tcp_src: Bits::ANY,
+        tcp_dst: Bits::ANY,
+        udp_src: Bits::ANY,
+        udp_dst: Bits::ANY,
+        icmp4_type: Bits::ANY,
+        icmp4_code: Bits::ANY,
+        arp_op: Bits::ANY,
+        arp_spa: Bits::ANY,
+        arp_tpa: Bits::ANY,
+        arp_sha: Bits::ANY,
+        arp_tha: Bits::ANY,
+    };
 }

@@ -8,6 +8,7 @@ ghost use Rattle.inet_packet.specs.Whole.{IsArpBytes, IsWhole};
 use crate::frame::{FrameFault, is_arp, take_arp, take_mac, take_u16};
 use crate::frame_ip4::{is_ip4, view_ip4};
 use crate::packet::{Body, Ip4Packet, Packet};
+use ovn_base::limits::{MAX_FRAME, MIN_FRAME};
 use ovn_base::list::{Bytes, List};
 use std::alloc::Global;
 
@@ -16,14 +17,14 @@ pub fn decode(alloc: Global, frame: &[u8]) -> Result<Packet, FrameFault>
     ensures frame { IfOk result (λ p. frame_of p ≡ frame.now) }
     ensures whole { IfOk result IsWhole }
     ensures again { (p : Packet) → IsWhole p → frame_of p ≡ frame.now → IfOk result (λ q. q ≡ p) }
-    ensures short { IsErrOf result TooShort ↔ (length frame.now < 14) }
-    ensures big { IsErrOf result TooBig ↔ (9216 < length frame.now) }
+    ensures short { IsErrOf result TooShort ↔ (length frame.now < MIN_FRAME) }
+    ensures big { IsErrOf result TooBig ↔ (MAX_FRAME < length frame.now) }
     ensures bad { IsErrOf result BadIp4 ↔ IsBadIp4 frame.now }
 {
-    if frame.len() < 14 {
+    if frame.len() < MIN_FRAME {
         return Err(FrameFault::TooShort);
     }
-    if frame.len() > 9216 {
+    if frame.len() > MAX_FRAME {
         return Err(FrameFault::TooBig);
     }
     let (dst, rest) = take_mac(frame);

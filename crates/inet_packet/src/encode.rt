@@ -23,8 +23,8 @@ fn put_packet(packet: &Packet, out: &mut Vec<u8>) -> Result<(), NoMemory>
     ensures ok { OnOk result (out.new.items ≡ out.old.items ++ frame_of packet.now) }
     ensures err { OnErr result (take (length out.old.items) out.new.items ≡ out.old.items) }
 {
-    put(out, &packet.dst.0)?;
-    put(out, &packet.src.0)?;
+    put(out, &packet.dst.bytes())?;
+    put(out, &packet.src.bytes())?;
     put_body(&packet.body, out)?;
     put(out, packet.tail.as_slice())
 }
@@ -61,9 +61,9 @@ fn put_arp(arp: &Arp, out: &mut Vec<u8>) -> Result<(), NoMemory>
 {
     put(out, &[0, 1, 8, 0, 6, 4])?;
     put(out, &arp.op.to_be_bytes())?;
-    put(out, &arp.sha.0)?;
+    put(out, &arp.sha.bytes())?;
     put(out, &arp.spa.0.to_be_bytes())?;
-    put(out, &arp.tha.0)?;
+    put(out, &arp.tha.bytes())?;
     put(out, &arp.tpa.0.to_be_bytes())
 }
 

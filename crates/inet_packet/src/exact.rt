@@ -93,7 +93,9 @@ pub fn exact_cube_clone()
 /// Fields of ARP packets are equal exactly where they are the same.
 pub fn exact_arp()
     ensures { (a b : Arp) → (⟦<Arp as PartialEq>⟧.eq a b ≡ true) ↔ (a ≡ b) }
-{}
+{
+    equal_where_same::<Arp>();
+}
 
 /// Transport headers are equal exactly where they are the same.
 pub fn exact_part()

@@ -1,6 +1,6 @@
 //! The fields of a frame, read from the front of bytes.
 ghost use Rattle.std.specs.Prelude.{◌≡◌, ◌↔◌, ◌+◌, ◌≤◌, ◌∷◌, ◌++◌, length, IsTrue};
-ghost use Rattle.ovn_base.specs.Address.{IsMac};
+ghost use Rattle.ovn_base.specs.addresses.EtherAddress.{mac_bytes};
 ghost use Rattle.inet_packet.specs.declared.frame.FrameFault.TheVariants.{Memory};
 ghost use Rattle.inet_packet.specs.Frame.{two, four, arp_bytes};
 ghost use Rattle.inet_packet.specs.Reading.{front_bytes, IsFrontWithin};
@@ -75,14 +75,14 @@ pub(crate) fn take_u32(bytes: &[u8]) -> (u32, &[u8])
 
 pub(crate) fn take_mac(bytes: &[u8]) -> (Mac, &[u8])
     requires { 6 ≤ length bytes.now }
-    ensures parts { bytes.now ≡ result.0.0 ++ result.1.now }
+    ensures parts { bytes.now ≡ mac_bytes result.0 ++ result.1.now }
     ensures len { length result.1.now + 6 ≡ length bytes.now }
-    ensures mac { IsMac result.0 }
 {
     let (front, rest) = bytes.split_at(6);
     let mut mac = [0; 6];
     mac.copy_from_slice(front);
-    (Mac(mac), rest)
+    let [a, b, c, d, e, f] = mac;
+    (Mac([a, b, c, d, e, f]), rest)
 }
 
 pub(crate) fn is_arp(bytes: &[u8]) -> bool

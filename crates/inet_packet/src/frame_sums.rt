@@ -38,18 +38,3 @@ pub(crate) fn ones_sum(bytes: &[u8]) -> u16
     }
     ((sum - 1) % 65535 + 1) as u16
 }
-
-#[cfg(test)]
-mod tests {
-    use super::*;
-
-    // RFC 1071 section 3, and an odd number of bytes.
-    #[test]
-    fn words_add_up(rt: HostRuntime) {
-        assert_eq!(rt;
-            ones_sum(&[0x00, 0x01, 0xf2, 0x03, 0xf4, 0xf5, 0xf6, 0xf7]),
-            0xddf2
-        );
-        assert_eq!(rt; ones_sum(&[0x00, 0x01, 0xf2]), 0xf201);
-    }
-}

@@ -13,5 +13,3 @@ mod frame_sums;
 pub mod packet;
 pub mod regs;
 pub mod rewrite;
-#[cfg(test)]
-mod tests;

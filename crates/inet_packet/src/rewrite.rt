@@ -1,6 +1,5 @@
 //! Rewrites of packets in place. Sums change word by word (RFC 1624), and no memory is taken.
 ghost use Rattle.std.specs.Prelude.{◌≡◌, ◌<◌, ◌/◌, ◌%◌};
-ghost use Rattle.ovn_base.specs.Address.{IsMac};
 ghost use Rattle.inet_packet.specs.Fields.{ip_ttl, icmp4_type, icmp4_code};
 ghost use Rattle.inet_packet.specs.Rewrites.{not_word, updated, updated_set, udp_updated, over_address, part_over_address, part_with_ports, part_as_reply, ip4_with_src, ip4_with_dst, ip4_with_ttl, ip4_dec_ttl, ip4_with_ports, ip4_as_reply, over_ip4, with_ip4, arp_as_reply, with_arp_reply, HasPorts, CanSetPorts, IsArp};
 ghost use Rattle.inet_packet.specs.Transport.{HasRightSum};
@@ -55,13 +54,6 @@ fn low(ip: Ip4) -> u16
     ensures { result ≡ ip.0 % 65536 }
 {
     (ip.0 % 65536) as u16
-}
-
-// An array has its length, and a byte is one.
-fn is_mac(mac: Mac)
-    ensures { IsMac mac }
-{
-    let [_a, _b, _c, _d, _e, _f] = mac.0;
 }
 
 fn over_address(sum: u16, old: Ip4, new: Ip4) -> u16
@@ -288,7 +280,6 @@ impl Packet {
         ensures packet { self.new ≡ with_arp_reply mac ip self.old }
         ensures whole { IsWhole self.old → IsWhole self.new }
     {
-        is_mac(mac);
         self.body.arp_reply(mac, ip);
         self.dst = self.src;
         self.src = mac;
@@ -303,19 +294,5 @@ impl Packet {
         ensures right { IsWhole self.old → HasRightSum self.old → HasRightSum self.new }
     {
         self.body.echo_reply();
-    }
-}
-
-#[cfg(test)]
-mod tests {
-    use super::*;
-
-    // RFC 1624 section 4, and a word that stays.
-    #[test]
-    fn a_sum_changes_with_a_word(rt: HostRuntime) {
-        assert_eq!(rt; updated(0xdd2f, 0x5555, 0x3285), 0x0000);
-        assert_eq!(rt; updated_set(0xdd2f, 0x5555, 0x3285), 0xffff);
-        assert_eq!(rt; updated(0xffff, 0x5555, 0x5555), 0xffff);
-        assert_eq!(rt; udp_updated(0, 0x5555, 0x3285), 0);
     }
 }

@@ -5,10 +5,10 @@ use mathlib.Core.Logic.{inl, inr}
 use native.Mathlib.Omega.{arith}
 use Rattle.std.specs.Option.{option_map}
 use Rattle.std.proofs.lemmas.Bool.{true≢false}
-use Rattle.ovn_base.specs.Among.{here}
+use Rattle.ovn_base.specs.lists.Among.{here}
 use Rattle.ovn_base.specs.declared.address.Birth.{Birth}
 use Rattle.ovn_base.specs.declared.name.Name.{Name}
-use Rattle.ovn_base.specs.ByName.{at}
+use Rattle.ovn_base.specs.names.ByName.{at}
 use Rattle.ovn_base.proofs.AmongLaws.{among_none}
 use Rattle.tunnel_keys.specs.Births.{AreKeysBorn}
 use Rattle.tunnel_keys.specs.Edits.{IsAfter, IsEdit, IsLive}

@@ -1,6 +1,7 @@
 //! A key store to which owners come one at a time, each younger than all before it, and from which the last port goes. So each
 //! edit fits the keys, and no test has to prove that it does.
 ghost use Rattle.std.specs.Prelude.{◌≡◌, ◌≤◌, OnOk, OnErr};
+ghost use Rattle.ovn_base.specs.declared.limits.TheConstants.{MAX_DATAPATH_KEY, MAX_PORT_KEY};
 ghost use Rattle.tunnel_keys.specs.Edits.{IsEdit, IsAfter};
 
 use ovn_base::address::Birth;
@@ -38,9 +39,9 @@ impl Register {
         ports: u16,
     ) -> Result<Register, NoMemory>
         requires some_datapaths { 1 ≤ datapaths }
-        requires few_datapaths { datapaths ≤ 16777215 }
+        requires few_datapaths { datapaths ≤ MAX_DATAPATH_KEY }
         requires some_ports { 1 ≤ ports }
-        requires few_ports { ports ≤ 32767 }
+        requires few_ports { ports ≤ MAX_PORT_KEY }
     {
         Ok(Register {
             keys: KeyStore::with_ranges(alloc, datapaths, ports)?,

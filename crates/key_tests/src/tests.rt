@@ -1,6 +1,7 @@
 ghost use Rattle.std.specs.Prelude.{◌≤◌};
 
 use crate::register::Register;
+use ovn_base::limits::{MAX_DATAPATH_KEY, MAX_PORT_KEY};
 use ovn_base::memory::NoMemory;
 use ovn_base::name::Name;
 use std::alloc::Global;
@@ -14,9 +15,9 @@ fn name(text: &[u8]) -> Result<Name, NoMemory> {
 // A datapath with the ports p1 and p2.
 fn two_ports(alloc: Global, ports: u16, datapath: Name) -> Result<Register, KeyFault>
     requires some_ports { 1 ≤ ports }
-    requires few_ports { ports ≤ 32767 }
+    requires few_ports { ports ≤ MAX_PORT_KEY }
 {
-    let mut register = Register::with_ranges(alloc, 16777215, ports)?;
+    let mut register = Register::with_ranges(alloc, MAX_DATAPATH_KEY, ports)?;
     register.add_datapath(datapath)?;
     register.add_port(datapath, name(b"p1")?)?;
     register.add_port(datapath, name(b"p2")?)?;
@@ -46,7 +47,7 @@ fn retired_keys(rt: HostRuntime) -> Result<(), Fail> {
 fn late_frame_to_removed_port(rt: HostRuntime) -> Result<(), Fail> {
     let s0 = name(b"s0")?;
     let p2 = name(b"p2")?;
-    let mut register = two_ports(rt.alloc(), 32767, s0)?;
+    let mut register = two_ports(rt.alloc(), MAX_PORT_KEY, s0)?;
     let first = register.keys().port(&p2);
     register.remove_last_port()?;
     let gone = register.keys().port(&p2);

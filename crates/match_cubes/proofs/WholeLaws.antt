@@ -1,7 +1,6 @@
 -- The numbers of whole packets lie within their fields.
 use Rattle.std.specs.Prelude.{◌≡◌, ◌<◌, ℕ, ◌^◌, false, List}
 use Rattle.std.proofs.Common.{arith}
-use Rattle.ovn_base.proofs.MacLemmas.{mac_number-below}
 use Rattle.inet_packet.specs.declared.packet.Body.{Body}
 use Rattle.inet_packet.specs.declared.packet.Body.TheVariants.{Arp, Ip4, Other}
 use Rattle.inet_packet.specs.declared.packet.Packet.{Packet}
@@ -129,18 +128,18 @@ arp_tpa_below (Ip4 i) tail h = omega arith
 arp_tpa_below (Other t) tail h = omega arith
 
 arp_sha_below : (x : Body) (tail : List ℕ) → IsWholeBody x tail → arp_sha x < 2 ^ 48
-arp_sha_below (Arp a) tail h = mac_number-below a.sha h.sha
+arp_sha_below (Arp a) tail h = a.sha.below
 arp_sha_below (Ip4 i) tail h = omega arith
 arp_sha_below (Other t) tail h = omega arith
 
 arp_tha_below : (x : Body) (tail : List ℕ) → IsWholeBody x tail → arp_tha x < 2 ^ 48
-arp_tha_below (Arp a) tail h = mac_number-below a.tha h.tha
+arp_tha_below (Arp a) tail h = a.tha.below
 arp_tha_below (Ip4 i) tail h = omega arith
 arp_tha_below (Other t) tail h = omega arith
 
 below : (packet : Packet) → IsWhole packet → (g : Field) (regs : Regs) → is_port g ≡ false → number_in g regs packet < 2 ^ width g
-below packet h f.EthSrc regs k = mac_number-below packet.src h.src
-below packet h f.EthDst regs k = mac_number-below packet.dst h.dst
+below packet h f.EthSrc regs k = packet.src.below
+below packet h f.EthDst regs k = packet.dst.below
 below packet h f.EthType regs k = ether_type_below packet.body packet.tail h.body
 below packet h f.Ip4Src regs k = ip4_src_below packet.body packet.tail h.body
 below packet h f.Ip4Dst regs k = ip4_dst_below packet.body packet.tail h.body

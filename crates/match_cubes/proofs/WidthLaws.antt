@@ -4,7 +4,7 @@ use Rattle.std.specs.Int.Count.{ones-ones}
 use Rattle.std.proofs.Common.{ap, arith, length-append}
 use Rattle.std.proofs.lemmas.List.{length-map}
 use Rattle.std.proofs.lemmas.Nat.{pow_pos, mod_below, ones_cat, shr_split, mul-le}
-use Rattle.ovn_base.specs.Address.{mac_number}
+use Rattle.ovn_base.specs.addresses.EtherAddress.{mac_number}
 use Rattle.inet_packet.specs.declared.cube.Bits.{Bits}
 use Rattle.inet_packet.specs.declared.cube.Cube.{Cube}
 use Rattle.match_language.specs.declared.expr.Expr.{Expr}

@@ -1,6 +1,7 @@
 -- What `cubes` answers.
 use Rattle.std.specs.Prelude.{◌≡◌, ◌≤◌, ◌<◌, ◌↔◌, ℕ, true, List, Result, Ok, Err}
-use Rattle.ovn_base.specs.Among.{Among}
+use Rattle.ovn_base.specs.declared.limits.TheConstants.{MAX_WIDTH}
+use Rattle.ovn_base.specs.lists.Among.{Among}
 use Rattle.inet_packet.specs.declared.cube.Cube.{Cube}
 use Rattle.inet_packet.specs.declared.packet.Packet.{Packet}
 use Rattle.inet_packet.specs.declared.regs.Regs.{Regs}
@@ -21,9 +22,9 @@ pub record InOne (cubes : List Cube) (regs : Regs) (packet : Packet) : Type 0 wh
 
 -- It is too wide exactly where it is wider than 65,536, and then this is how wide.
 abbrev pub IsWidth : ℕ → Result (List Cube) CubeFault → Type 0
-IsWidth w (Ok cs) = w ≤ 65536
-IsWidth w (Err (fault.TooWide n)) = (65536 < w) × (n ≡ saturated w)
-IsWidth w (Err fault.Memory) = w ≤ 65536
+IsWidth w (Ok cs) = w ≤ MAX_WIDTH
+IsWidth w (Err (fault.TooWide n)) = (MAX_WIDTH < w) × (n ≡ saturated w)
+IsWidth w (Err fault.Memory) = w ≤ MAX_WIDTH
 
 -- A packet with its registers is in one of the cubes exactly where the match holds of it.
 abbrev pub AreExact : Setting → Expr → List Cube → Type 0

@@ -1,16 +1,17 @@
 -- What a cube asks of the fields that matches speak of.
-use Rattle.std.specs.Prelude.{ℕ, Bool, if◌then◌else◌, List, [], ◌∷◌, None}
+use Rattle.std.specs.Prelude.{ℕ, Bool, if◌then◌else◌, List, [], ◌∷◌}
 use Rattle.std.specs.List.{list_all, list_any}
-use Rattle.ovn_base.specs.Address.{mac_number}
+use Rattle.ovn_base.specs.addresses.EtherAddress.{mac_number}
 use Rattle.inet_packet.specs.declared.cube.Bits.{Bits}
 use Rattle.inet_packet.specs.declared.cube.Cube.{Cube}
+use Rattle.inet_packet.specs.Cubes.{everything}
 use Rattle.inet_packet.specs.declared.packet.Packet.{Packet}
 use Rattle.inet_packet.specs.declared.regs.Regs.{Regs}
 use Rattle.inet_packet.specs.Fields.{ether_type, ip4_src, ip4_dst, ip_proto, ip_ttl, tcp_src, tcp_dst, udp_src, udp_dst, icmp4_type, icmp4_code, arp_op, arp_spa, arp_tpa, arp_sha, arp_tha}
 use Rattle.match_language.specs.declared.field.Field.{Field}
 use Rattle.match_language.specs.declared.field.Field.TheVariants as f
 use Rattle.match_language.specs.Tables.{field_bits, all_fields}
-use Rattle.match_cubes.specs.Ternary.{fits, any_bits, agree, joined}
+use Rattle.match_cubes.specs.Ternary.{fits, agree, joined}
 
 -- the number that the field has in the packet with its registers; that of a port is its key
 abbrev pub number_in : Field → Regs → Packet → ℕ
@@ -64,22 +65,15 @@ asked f.ArpTha c = c.arp_tha
 asked f.Inport c = c.in_port
 asked f.Outport c = c.out_port
 
+-- the cube of all packets
+abbrev pub all_packets : Cube
+all_packets = everything
+
 -- the cube that asks this of each field, and nothing else
 abbrev pub cube_of : (Field → Bits) → Cube
-cube_of b = record {
-  at = None;
-  dp = any_bits;
+cube_of b = record everything {
   in_port = b f.Inport;
   out_port = b f.Outport;
-  next = any_bits;
-  z_in = any_bits;
-  z_out = any_bits;
-  z_dnat = any_bits;
-  z_snat = any_bits;
-  state = any_bits;
-  verdict = any_bits;
-  tier = any_bits;
-  flags = any_bits;
   eth_src = b f.EthSrc;
   eth_dst = b f.EthDst;
   eth_type = b f.EthType;
@@ -99,10 +93,6 @@ cube_of b = record {
   arp_sha = b f.ArpSha;
   arp_tha = b f.ArpTha;
 }
-
--- the cube of all packets
-abbrev pub all_packets : Cube
-all_packets = cube_of (λ f. any_bits)
 
 -- the same cube, which asks this of the field
 abbrev pub ask : Field → Bits → Cube → Cube

@@ -2,7 +2,7 @@
 use Rattle.std.specs.Prelude.{ℕ, if◌then◌else◌, ◌==◌, nat_eq, List, [], ◌∷◌, map, flat_map, Option, Some, None, unwrap_or}
 use Rattle.std.specs.Map.{lookup}
 use Rattle.std.specs.Cmp.Lexicographic.{pointwise}
-use Rattle.ovn_base.specs.Address.{mac_number}
+use Rattle.ovn_base.specs.addresses.EtherAddress.{mac_number}
 use Rattle.ovn_base.specs.declared.ports.Ports.{Ports}
 use Rattle.inet_packet.specs.declared.cube.Bits.{Bits}
 use Rattle.match_language.specs.declared.expr.Value.{Value}

@@ -1,6 +1,6 @@
 -- The ranges of order relations, as prefixes.
 use Rattle.std.specs.Prelude.{ℕ, zero, suc, ◌+◌, ◌-◌, ◌*◌, ◌^◌, Bool, false, ◌&&◌, if◌then◌else◌, nat_lt, nat_le, List, [], ◌∷◌, ◌++◌, ◌/◌, ◌≤◌, ◌<◌, ◌↔◌, ◌≡◌, true}
-use Rattle.ovn_base.specs.Among.{Among}
+use Rattle.ovn_base.specs.lists.Among.{Among}
 use Rattle.inet_packet.specs.declared.cube.Bits.{Bits}
 use Rattle.match_language.specs.declared.expr.Rel.{Rel}
 use Rattle.match_language.specs.declared.expr.Rel.TheVariants as r

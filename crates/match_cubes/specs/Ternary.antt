@@ -2,6 +2,7 @@
 use Rattle.std.specs.Prelude.{ℕ, zero, suc, ◌-◌, ◌*◌, ◌^◌, Bool, if◌then◌else◌, ◌==◌, List, [], ◌∷◌, ◌++◌, flat_map, bit_and, bit_or}
 use Rattle.std.specs.Int.{bit_at}
 use Rattle.inet_packet.specs.declared.cube.Bits.{Bits}
+use Rattle.inet_packet.specs.Cubes.{any}
 
 -- the number has the value in the bits that count
 abbrev pub fits : Bits → ℕ → Bool
@@ -13,7 +14,7 @@ under n m = record { value = bit_and n m; mask = m }
 
 -- no bit counts
 abbrev pub any_bits : Bits
-any_bits = record { value = 0; mask = 0 }
+any_bits = any
 
 -- the bits that count in both have one value
 abbrev pub agree : Bits → Bits → Bool

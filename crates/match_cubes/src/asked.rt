@@ -3,7 +3,7 @@ ghost use Rattle.std.specs.Prelude.{◌≡◌, ◌≤◌};
 ghost use Rattle.match_cubes.specs.Asked as spec;
 
 use crate::meet::Meet;
-use crate::ternary::{ANY, agree, joined};
+use crate::ternary::{agree, joined};
 use inet_packet::cube::{Bits, Cube};
 use match_language::field::Field;
 
@@ -13,45 +13,6 @@ pub(crate) fn width(field: Field) -> u32
     ensures within { result ≤ 48 }
 {
     if field.is_port() { 16 } else { field.bits() }
-}
-
-/// The cube of all packets.
-pub(crate) fn all_packets() -> Cube
-    ensures { result ≡ spec.all_packets }
-{
-    Cube {
-        at: None,
-        dp: ANY,
-        in_port: ANY,
-        out_port: ANY,
-        next: ANY,
-        z_in: ANY,
-        z_out: ANY,
-        z_dnat: ANY,
-        z_snat: ANY,
-        state: ANY,
-        verdict: ANY,
-        tier: ANY,
-        flags: ANY,
-        eth_src: ANY,
-        eth_dst: ANY,
-        eth_type: ANY,
-        ip4_src: ANY,
-        ip4_dst: ANY,
-        ip_proto: ANY,
-        ip_ttl: ANY,
-        tcp_src: ANY,
-        tcp_dst: ANY,
-        udp_src: ANY,
-        udp_dst: ANY,
-        icmp4_type: ANY,
-        icmp4_code: ANY,
-        arp_op: ANY,
-        arp_spa: ANY,
-        arp_tpa: ANY,
-        arp_sha: ANY,
-        arp_tha: ANY,
-    }
 }
 
 /// Has the cube ask this of the field.
@@ -112,19 +73,8 @@ fn joined_all(a: &Cube, b: &Cube) -> Cube
     ensures { result ≡ spec.joined_all a.now b.now }
 {
     Cube {
-        at: None,
-        dp: ANY,
         in_port: joined(&a.in_port, &b.in_port),
         out_port: joined(&a.out_port, &b.out_port),
-        next: ANY,
-        z_in: ANY,
-        z_out: ANY,
-        z_dnat: ANY,
-        z_snat: ANY,
-        state: ANY,
-        verdict: ANY,
-        tier: ANY,
-        flags: ANY,
         eth_src: joined(&a.eth_src, &b.eth_src),
         eth_dst: joined(&a.eth_dst, &b.eth_dst),
         eth_type: joined(&a.eth_type, &b.eth_type),
@@ -143,6 +93,7 @@ fn joined_all(a: &Cube, b: &Cube) -> Cube
         arp_tpa: joined(&a.arp_tpa, &b.arp_tpa),
         arp_sha: joined(&a.arp_sha, &b.arp_sha),
         arp_tha: joined(&a.arp_tha, &b.arp_tha),
+        ..Cube::EVERYTHING
     }
 }
 

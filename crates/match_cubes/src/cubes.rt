@@ -10,26 +10,24 @@ ghost use Rattle.match_cubes.specs.Suited.{are_suited};
 ghost use Rattle.match_cubes.specs.Ternary.{any_bits};
 ghost use Rattle.match_cubes.specs.Width.{width_of};
 
-use crate::asked::{all_packets, ask, width as field_width};
+use crate::asked::{ask, width as field_width};
 use crate::fault::CubeFault;
 use crate::inwards::{asks_all, tests, turn, turned_rel};
 use crate::meet::meets;
 use crate::points::points;
 use crate::ranges::push_prefixes;
 use crate::sets::Sets;
-use crate::ternary::{ANY, push_turned, under};
+use crate::ternary::{push_turned, under};
 use crate::width::{joined_width, width};
 use inet_packet::cube::{Bits, Cube};
 use inet_packet::regs::At;
 use match_language::expr::{Expr, Rel, Value};
 use match_language::field::{Field, Predicate};
+use ovn_base::limits::MAX_WIDTH;
 use ovn_base::list::List;
 use ovn_base::memory::NoMemory;
 use ovn_base::ports::Ports;
 use std::alloc::Global;
-
-/// The widest match that has cubes.
-const MAX_WIDTH: u128 = 65536;
 
 // What is other than the value.
 fn other(alloc: Global, width: u32, point: &Option<Bits>) -> Result<List<Bits>, NoMemory>
@@ -39,7 +37,7 @@ fn other(alloc: Global, width: u32, point: &Option<Bits>) -> Result<List<Bits>, 
     let mut all = List::new(alloc);
     match point {
         Some(bits) => push_turned(width, bits, &mut all)?,
-        None => all.push(ANY)?,
+        None => all.push(Bits::ANY)?,
     }
     Ok(all)
 }
@@ -76,7 +74,7 @@ fn unlike(alloc: Global, width: u32, points: &[Option<Bits>]) -> Result<List<Bit
         return Ok(List::new(alloc));
     }
     let mut all = List::new(alloc);
-    all.push(ANY)?;
+    all.push(Bits::ANY)?;
     for point in points {
         let others = other(alloc, width, point)?;
         all = meets(alloc, all.as_slice(), others.as_slice())?;
@@ -149,7 +147,7 @@ fn ask_all(cube: &mut Cube, tests: &[(Field, Bits)])
 fn comparing(field: Field, bits: Bits) -> Cube
     ensures { result ≡ spec.comparing field bits }
 {
-    let mut cube = all_packets();
+    let mut cube = Cube::EVERYTHING;
     match field.prerequisite() {
         Some(predicate) => ask_all(&mut cube, tests(predicate)),
         None => {}
@@ -191,7 +189,7 @@ fn constant_cubes(alloc: Global, truth: bool) -> Result<List<Cube>, NoMemory>
 {
     let mut cubes = List::new(alloc);
     if truth {
-        let cube = all_packets();
+        let cube = Cube::EVERYTHING;
         let _entry: &Option<At> = &cube.at;
         cubes.push(cube)?;
     }
@@ -232,7 +230,7 @@ fn test_cubes(
         all.push(point)?;
         return compared(alloc, field, all.as_slice());
     }
-    all.push(ANY)?;
+    all.push(Bits::ANY)?;
     let mut others = List::new(alloc);
     push_turned(field_width(field), &point, &mut others)?;
     let met = meets(alloc, all.as_slice(), others.as_slice())?;

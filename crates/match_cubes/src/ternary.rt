@@ -8,9 +8,6 @@ use inet_packet::cube::Bits;
 use ovn_base::list::List;
 use ovn_base::memory::NoMemory;
 
-/// No bit counts.
-pub(crate) const ANY: Bits = Bits { value: 0, mask: 0 };
-
 /// The number in the bits of the mask.
 pub(crate) fn under(number: u64, mask: u64) -> Bits
     ensures { result ≡ spec.under number mask }

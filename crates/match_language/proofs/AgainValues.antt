@@ -8,9 +8,9 @@ use Rattle.std.proofs.lemmas.Bool.Decides.{Decides-eqb}
 use Rattle.std.proofs.lemmas.List.Sums.{list_all-from_AllPass}
 use Rattle.std.proofs.lemmas.Fmt.{decimal_nonempty}
 use mathlib.Core.Bool.{true≢false}
-use Rattle.ovn_base.specs.NameText.{IsName, name_byte}
-use Rattle.ovn_base.specs.Address.{mac_of}
-use Rattle.ovn_base.specs.AddressText.{mac_text, ip4_text}
+use Rattle.ovn_base.specs.names.NameText.{IsName, name_byte}
+use Rattle.ovn_base.specs.addresses.EtherAddress.{mac_of}
+use Rattle.ovn_base.specs.addresses.AddressText.{mac_text, ip4_text}
 use Rattle.match_language.specs.declared.expr.Value.{Value}
 use Rattle.match_language.specs.declared.expr.Value.TheVariants as v
 use Rattle.match_language.specs.declared.expr.Rel.{Rel}

@@ -8,7 +8,7 @@ use Rattle.std.proofs.Math.Seq.{take-append_seam, drop-append_seam}
 use Rattle.std.proofs.lemmas.Bool.{cond-true, cond-false, lt-ltb, le-leb, cases_lt}
 use Rattle.std.proofs.lemmas.Bool.Decides.{Decides-eqb}
 use mathlib.Core.Bool.{true≢false}
-use Rattle.ovn_base.specs.NameText.{IsName, name_byte}
+use Rattle.ovn_base.specs.names.NameText.{IsName, name_byte}
 use Rattle.match_language.specs.declared.token.Token.{Token}
 use Rattle.match_language.specs.declared.token.Token.TheVariants as t
 use Rattle.match_language.specs.Tokens.{is_blank, is_run, first_token, string_token, quoted_len, set_token, group_token, name_len, is_name_len, word_token}

@@ -1,11 +1,12 @@
 -- The words that numbers are printed as, and the constants that they write.
-use Rattle.std.specs.Prelude.{◌≡◌, ◌≤◌, ◌<◌, ◌+◌, ◌*◌, ◌/◌, ◌%◌, ◌^◌, ℕ, zero, suc, Bool, true, false, not, cond, ◌==◌, nat_lt, nat_le, ◌&&◌, ◌||◌, List, [], ◌∷◌, ◌++◌, length, take, drop, slice_index, codes, Option, Some, None}
-use Rattle.std.specs.List.{list_all}
+use Rattle.std.specs.Prelude.{◌≡◌, ◌≤◌, ◌<◌, ◌+◌, ◌*◌, ◌/◌, ◌%◌, ◌^◌, ℕ, zero, suc, Bool, true, false, not, cond, ◌==◌, nat_lt, nat_le, ◌&&◌, ◌||◌, List, [], ◌∷◌, ◌++◌, length, take, drop, slice_index, codes, map, Option, Some, None}
+use Rattle.std.specs.List.{list_all, join_with_byte}
 use Rattle.std.specs.Str.{bytes_eq}
 use Rattle.std.specs.Str.Parse.{digits_value}
 use Rattle.std.specs.Char.{digit_char, is_ascii_digit, is_ascii_hexdigit}
 use Rattle.std.specs.Fmt.{decimal}
-use Rattle.std.specs.Int.{byte_at}
+use Rattle.std.specs.Int.{byte_at, to_be_bytes}
+use mir.Syntax.{w64}
 use Rattle.std.specs.Cmp.{first_so, second_so}
 use Rattle.std.proofs.Common.{refl, ap, ◌∙◌, sym, subst, arith, length-append}
 use Rattle.std.proofs.Math.Seq.{take-append_seam, drop-append_seam}
@@ -17,8 +18,9 @@ use Rattle.std.proofs.lemmas.Nat.{from_be_bytes-to_be_bytes_4, from_be_bytes-to_
 use Rattle.std.proofs.lemmas.Slice.Eq.{bytes_eq-Decides}
 use Rattle.std.proofs.lemmas.Str.{digit_value-digit_char}
 use mathlib.Core.Bool.{true≢false, false≢true}
-use Rattle.ovn_base.specs.Address.{mac_of}
-use Rattle.ovn_base.specs.AddressText.{mac_text, ip4_text}
+use Rattle.ovn_base.specs.addresses.EtherAddress.{mac_of}
+use Rattle.ovn_base.specs.addresses.AddressText.{pair_text, mac_text, ip4_text}
+use Rattle.ovn_base.proofs.MacLemmas.{number-mac_of}
 use Rattle.match_language.specs.declared.token.Token.{Token}
 use Rattle.match_language.specs.declared.token.Token.TheVariants as t
 use Rattle.match_language.specs.Constants.{◌>>=◌, decimal_value, hex_digit, pair_value, ether_value, digit_count, octet_of, octet, dot_octet, dotted_value}
@@ -306,8 +308,12 @@ module _ (a b c d e g : ℕ) (ha : a < 256) (hb : b < 256) (hc : c < 256) (hd : 
       ∙ ap (λ (o : Option ℕ). dotted_token o w) (dotted_none w (six_all (λ b. not (b == 46)) hex_pointless refl))
       ∙ ap (λ (o : Option ℕ). ether_token o w) six_reads
 
-pub mac_word : (n : ℕ) → n ≤ 0xffff_ffff_ffff → Word (mac_text (mac_of n)) (t.Ether n)
-mac_word n fits =
+-- the text of the address of a number, by the number's bytes
+abbrev bytes_text : ℕ → List ℕ
+bytes_text n = join_with_byte 58 (map pair_text (drop 2 (to_be_bytes w64 n)))
+
+bytes_word : (n : ℕ) → n ≤ 0xffff_ffff_ffff → Word (bytes_text n) (t.Ether n)
+bytes_word n fits =
     let a = byte_at 5 n in
     let b = byte_at 4 n in
     let c = byte_at 3 n in
@@ -325,3 +331,6 @@ mac_word n fits =
     let next : byte_at 6 n ≡ 0 = omega (arith, fits) in
     let whole : a * 0x100_0000_0000 + b * 0x1_0000_0000 + c * 0x100_0000 + d * 0x1_0000 + e * 0x100 + g ≡ n = omega (arith, all, high, next) in
     record { some = omega arith; runs = six_all a b c d e g ha hb hc hd he hg is_run hex_runs refl; is = six_word a b c d e g ha hb hc hd he hg ∙ ap t.Ether whole }
+
+pub mac_word : (n : ℕ) → n ≤ 0xffff_ffff_ffff → Word (mac_text (mac_of n)) (t.Ether n)
+mac_word n fits = subst (λ m. Word (bytes_text m) (t.Ether n)) (sym (number-mac_of n (omega (arith, fits)))) (bytes_word n fits)

@@ -1,5 +1,6 @@
 -- The grammar: which expression stands between two places of a text.
 use Rattle.std.specs.Prelude.{◌≡◌, ℕ, suc, Bool, true, false, List, [], ◌∷◌, Some, bit_and}
+use Rattle.ovn_base.specs.declared.limits.TheConstants.{MAX_DEPTH}
 use Rattle.match_language.specs.declared.expr.Expr.{Expr}
 use Rattle.match_language.specs.declared.expr.Expr.TheVariants as e
 use Rattle.match_language.specs.declared.expr.Value.{Value}
@@ -71,5 +72,5 @@ mutual
 -- The whole text spells the expression, in a rule of this direction.
 pub record Spells (way : Direction) (text : List ℕ) (x : Expr) : Type 0 where
   pub end : Input
-  pub body : IsExpr way 64 x (skip 0 text) end
+  pub body : IsExpr way MAX_DEPTH x (skip 0 text) end
   pub whole : token end ≡ t.End

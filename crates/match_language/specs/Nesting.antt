@@ -1,7 +1,7 @@
 -- Which expressions have a text.
 use Rattle.std.specs.Prelude.{◌≡◌, ◌≤◌, ℕ, suc, Bool, true, false, not, ◌==◌, List, [], ◌∷◌, bit_and}
 use Rattle.std.specs.List.{list_all}
-use Rattle.ovn_base.specs.NameText.{IsName}
+use Rattle.ovn_base.specs.names.NameText.{IsName}
 use Rattle.match_language.specs.declared.expr.Expr.{Expr}
 use Rattle.match_language.specs.declared.expr.Expr.TheVariants as e
 use Rattle.match_language.specs.declared.expr.Value.{Value}

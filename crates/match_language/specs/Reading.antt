@@ -1,5 +1,6 @@
 -- Reading a text from left to right: the expression and the place behind it, or the first fault.
 use Rattle.std.specs.Prelude.{ℕ, zero, suc, ◌≡◌, Bool, true, false, not, ◌&&◌, if◌then◌else◌, ◌==◌, List, [], ◌∷◌, ◌++◌, Option, Some, None, Result, Ok, Err, bit_and}
+use Rattle.ovn_base.specs.declared.limits.TheConstants.{MAX_DEPTH}
 use Rattle.match_language.specs.declared.expr.Expr.{Expr}
 use Rattle.match_language.specs.declared.expr.Expr.TheVariants as e
 use Rattle.match_language.specs.declared.expr.Value.{Value}
@@ -198,4 +199,4 @@ ended (Err f) = Err f
 
 -- all of the text, with at most 64 levels
 unfoldable pub whole : Direction → List ℕ → Result Expr MatchFault
-whole way text = ended (expression (term way 64) (skip 0 text))
+whole way text = ended (expression (term way MAX_DEPTH) (skip 0 text))

@@ -1,8 +1,8 @@
 -- The text of an expression.
 use Rattle.std.specs.Prelude.{ℕ, zero, suc, Bool, true, false, ◌&&◌, if◌then◌else◌, ◌==◌, nat_le, List, [], ◌∷◌, ◌++◌, map, Option, Some, None, codes}
 use Rattle.std.specs.Fmt.{decimal}
-use Rattle.ovn_base.specs.Address.{mac_of}
-use Rattle.ovn_base.specs.AddressText.{mac_text, ip4_text}
+use Rattle.ovn_base.specs.addresses.EtherAddress.{mac_of}
+use Rattle.ovn_base.specs.addresses.AddressText.{mac_text, ip4_text}
 use Rattle.match_language.specs.declared.expr.Expr.{Expr, Expr-F, fold-Expr}
 use Rattle.match_language.specs.declared.expr.Value.{Value}
 use Rattle.match_language.specs.declared.expr.Value.TheVariants as v

@@ -5,8 +5,7 @@ ghost use Rattle.std.specs.Char.{is_ascii_hexdigit};
 ghost use Rattle.std.specs.Str.Parse.{digits_value};
 ghost use Rattle.match_language.specs.Constants as spec;
 
-use ovn_base::number::read_number;
-use ovn_base::read_address::hexadecimal_digit;
+use ovn_base::number::{hexadecimal_digit, read_number};
 
 /// The number that the word writes in decimal, if it is below 2^64 and has no leading zero.
 #[tactic(auto, unfolding(crate::specs::Constants::decimal_value))]

@@ -1,6 +1,7 @@
 //! Writes an expression as a text.
 ghost use Rattle.std.specs.Prelude.{◌≡◌, ◌++◌, ℕ, List, map, codes, OnOk, OnErr};
-ghost use Rattle.ovn_base.specs.Address.{mac_of};
+ghost use Rattle.ovn_base.specs.declared.limits.TheConstants.{MAX_DEPTH};
+ghost use Rattle.ovn_base.specs.addresses.EtherAddress.{mac_of};
 ghost use Rattle.match_language.specs.Grammar.{Spells};
 ghost use Rattle.match_language.specs.Nesting.{Fits};
 ghost use Rattle.match_language.specs.Spelling as spec;
@@ -226,7 +227,7 @@ pub fn print(expr: &Expr, out: &mut Vec<u8>) -> Result<(), NoMemory>
     // What some text spells is spelled by its own text.
     ensures again { (way : Direction) (text : List ℕ) → Spells way text expr.now → Spells way (spelling expr.now) expr.now }
     // So is what was built, if its values stand with their fields and it nests no deeper than a text may.
-    ensures built { (way : Direction) → Fits way 64 expr.now → Spells way (spelling expr.now) expr.now }
+    ensures built { (way : Direction) → Fits way MAX_DEPTH expr.now → Spells way (spelling expr.now) expr.now }
 {
     let mut text = Vec::new(*out.allocator());
     push_expr(expr, &mut text)?;

@@ -15,10 +15,9 @@ use crate::field::Direction;
 use crate::token::Token;
 use crate::value::{comparison, unexpected};
 use ovn_base::boxed::Boxed;
+use ovn_base::limits::MAX_DEPTH;
 use ovn_base::list::List;
 use std::alloc::Global;
-
-const MAX_LEVELS: u8 = 64;
 
 // A term that holds no other.
 #[tactic(auto, unfolding(crate::specs::Reading::leaf))]
@@ -195,7 +194,7 @@ pub(crate) fn whole(alloc: Global, text: &[u8], way: Direction) -> Result<Expr, 
     ensures { Gives result (spec.whole way text.now) }
 {
     let mut cursor = Cursor::new(text);
-    let expr = expression(alloc, &mut cursor, way, MAX_LEVELS)?;
+    let expr = expression(alloc, &mut cursor, way, MAX_DEPTH)?;
     match cursor.peek() {
         Token::End => Ok(expr),
         other => Err(ParseFault::Bad(unexpected(&other, cursor.place()))),
@@ -211,7 +210,7 @@ pub fn parse(alloc: Global, text: &[u8], way: Direction) -> Result<Expr, ParseFa
     // What is in the grammar is read, unless memory runs out.
     ensures only { (x : Expr) → Spells way text.now x → Gives result (Ok x) }
     // It nests no deeper than 64 levels, and each value stands with its field.
-    ensures fits { IfOk result (λ x. Fits way 64 x) }
+    ensures fits { IfOk result (λ x. Fits way MAX_DEPTH x) }
     // A fault is the text's first.
     ensures first { IfBad result (λ f. IsFirstFault way text.now f) }
     // A text's first fault is told, unless memory runs out.
@@ -242,7 +241,7 @@ pub fn spelled_or_faulty()
 
 /// What a text spells nests at most 64 levels, and each of its values stands with its field.
 pub fn spelled_fits()
-    ensures { (way : Direction) (text : List ℕ) (x : Expr) → Spells way text x → Fits way 64 x }
+    ensures { (way : Direction) (text : List ℕ) (x : Expr) → Spells way text x → Fits way MAX_DEPTH x }
 {}
 
 /// What fits in a from-lport rule fits in a to-lport rule.

@@ -1,6 +1,6 @@
 //! Tokens, and the one at the front of a text.
 ghost use Rattle.std.specs.Prelude.{◌≡◌, ◌<◌, ◌≤◌, ◌+◌, ◌≢◌, length};
-ghost use Rattle.ovn_base.specs.NameText.{name_byte};
+ghost use Rattle.ovn_base.specs.names.NameText.{name_byte};
 ghost use Rattle.match_language.specs.Tokens as spec;
 
 use crate::constant::{decimal_value, dotted_value, ether_value, hex_value};

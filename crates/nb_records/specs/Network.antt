@@ -1,6 +1,6 @@
 -- The records as lists in order of name.
 use Rattle.std.specs.Prelude.{List, []}
-use Rattle.ovn_base.specs.ByName.{put, IsByName}
+use Rattle.ovn_base.specs.names.ByName.{put, IsByName}
 use Rattle.ovn_base.specs.declared.name.Name.{Name}
 use Rattle.nb_records.specs.declared.record.Switch.{Switch}
 use Rattle.nb_records.specs.declared.record.SwitchPort.{SwitchPort}

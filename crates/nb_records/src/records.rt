@@ -1,7 +1,7 @@
 //! The records, ordered by name.
 ghost use Rattle.std.specs.Prelude.{◌≡◌, IfOk, OnOk, OnErr};
 ghost use Rattle.std.specs.Option.{option_copied};
-ghost use Rattle.ovn_base.specs.ByName.{at, IsByName};
+ghost use Rattle.ovn_base.specs.names.ByName.{at, IsByName};
 ghost use Rattle.nb_records.specs.Network.{empty_network, with_record};
 
 use crate::record::{Record, Switch, SwitchPort};

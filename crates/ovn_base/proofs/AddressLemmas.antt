@@ -1,22 +1,23 @@
 -- The pieces of addresses: which bytes they have, and that each spells one value.
 use Rattle.std.specs.Prelude.{◌≡◌, ◌≢◌, ◌<◌, ◌≤◌, ◌+◌, ◌*◌, ◌/◌, ◌%◌, ◌^◌, ◌++◌, ℕ, List, [], ◌∷◌, Option, None, IfNone, map}
 use Rattle.std.specs.Int.{from_be_bytes, to_be_bytes, byte_at}
-use Rattle.std.specs.List.{All, AllZip}
+use Rattle.std.specs.List.{AllByRecursion, AllZip}
 use mir.Syntax.{w32}
 use Rattle.std.specs.Char.{digit_value, digit_char}
 use Rattle.std.specs.Fmt.{decimal}
 use Rattle.std.proofs.Common.{refl, ap, ◌∙◌, sym, subst, arith}
 use Rattle.std.proofs.lemmas.Fmt.{decimal_by_steps, decimal_injective}
-use Rattle.std.proofs.lemmas.List.Elements.{All-cons, All-tail, All-append}
+use Rattle.std.proofs.lemmas.List.Elements.{All-cons, All-append}
 use Rattle.std.proofs.lemmas.Nat.{from_be_bytes-to_be_bytes_4}
 use Rattle.std.proofs.lemmas.Str.{digit_value-digit_char}
-use Rattle.ovn_base.specs.Address.{IsMac}
-use Rattle.ovn_base.specs.AddressText.{SpellsPair, SpellsOctet, SpellsMac, SpellsIp4, SpellsCidr, pair_text, mac_text, ip4_text, cidr_text}
-use Rattle.ovn_base.specs.AddressText.SpellsCidr.{alone, with_length}
+use Rattle.ovn_base.specs.addresses.EtherAddress.{mac_bytes}
+use Rattle.ovn_base.specs.addresses.AddressText.{SpellsPair, SpellsOctet, SpellsMac, SpellsIp4, SpellsCidr, pair_text, mac_text, ip4_text, cidr_text}
+use Rattle.ovn_base.specs.addresses.AddressText.SpellsCidr.{alone, with_length}
 use Rattle.ovn_base.specs.declared.address.Mac.{Mac}
 use Rattle.ovn_base.specs.declared.address.Ip4.{Ip4}
 use Rattle.ovn_base.specs.declared.address.Cidr.{Cidr}
 use Rattle.ovn_base.proofs.DecimalLemmas.{NoNumber}
+use Rattle.ovn_base.proofs.MacLemmas.{mac_bytes-below, same_bytes_ether}
 use Rattle.ovn_base.proofs.JoinedLemmas.{Lacks, NoneJoined, lacks_seam, same_cut, same_values, joined_lacks}
 
 lacks_none : (x : ℕ) → Lacks x []
@@ -58,7 +59,7 @@ same_octet text v w h k = decimal_injective v w (omega (arith, h.small)) (omega 
 
 -- a text of other than six pairs spells no Ethernet address
 pub no_mac : (text : List ℕ) → NoneJoined SpellsPair 58 text 6 → (mac : Mac) → ¬ SpellsMac text mac
-no_mac text none mac h = none mac.0 h.six h.pairs
+no_mac text none mac h = none (mac_bytes mac) refl h.pairs
 
 -- a text of other than four octets spells no IPv4 address
 pub no_ip4 : (text : List ℕ) → NoneJoined SpellsOctet 46 text 4 → (ip : Ip4) → ¬ SpellsIp4 text ip
@@ -84,6 +85,10 @@ module _ (text front rest : List ℕ) (whole : text ≡ front ++ 47 ∷ rest) (l
   no_cidr_length none cidr (with_length ip spells small e) =
       let cuts = same_cut 47 ip front (decimal cidr.len) rest (ip4_lacks ip cidr.addr spells) lacks (sym e ∙ whole) in
       none cidr.len small (sym cuts.1)
+
+-- a text spells at most one Ethernet address
+pub same_mac : (text : List ℕ) (a b : Mac) → SpellsMac text a → SpellsMac text b → a ≡ b
+same_mac text a b h k = same_bytes_ether a b (same_values SpellsPair 58 pair_lacks same_pair text (mac_bytes a) (mac_bytes b) refl h.pairs k.pairs)
 
 -- a text spells at most one IPv4 address
 pub same_ip4 : (text : List ℕ) (a b : Ip4) → SpellsIp4 text a → SpellsIp4 text b → a ≡ b
@@ -119,13 +124,13 @@ pair_spells b small =
       value = omega (arith, high, low);
     }
 
-pairs_spell : (bytes : List ℕ) → All (λ b. b < 256) bytes → AllZip SpellsPair (map pair_text bytes) bytes
+pairs_spell : (bytes : List ℕ) → AllByRecursion (λ b. b < 256) bytes → AllZip SpellsPair (map pair_text bytes) bytes
 pairs_spell [] all = tt
-pairs_spell (b ∷ bytes) all = (pair_spells b (all 0 0 (omega arith)), pairs_spell bytes (All-tail (λ x. x < 256) b bytes all))
+pairs_spell (b ∷ bytes) all = (pair_spells b all.0, pairs_spell bytes all.1)
 
 -- the printed text of an Ethernet address spells it
-pub mac_text-spells : (mac : Mac) → IsMac mac → SpellsMac (mac_text mac) mac
-mac_text-spells mac h = record { six = h.six; pairs = record { pieces = map pair_text mac.0; joined = refl; each = pairs_spell mac.0 h.bytes } }
+pub mac_text-spells : (mac : Mac) → SpellsMac (mac_text mac) mac
+mac_text-spells mac = record { pairs = record { pieces = map pair_text (mac_bytes mac); joined = refl; each = pairs_spell (mac_bytes mac) (mac_bytes-below mac) } }
 
 octet_spells : (n : ℕ) → n < 256 → SpellsOctet (decimal n) n
 octet_spells n small = record { small = omega arith; digits = refl }

@@ -8,7 +8,7 @@ use Rattle.std.proofs.lemmas.List.{take-append-drop}
 use Rattle.std.specs.Set.{is_member}
 use native.Mathlib.Omega.{arith}
 use Rattle.std.specs.List.{AllByRecursion, cons_option, list_any}
-use Rattle.ovn_base.specs.Among.{Among, here, there}
+use Rattle.ovn_base.specs.lists.Among.{Among, here, there}
 
 module _ {X : Type 0} where
   -- in a list that has a first element

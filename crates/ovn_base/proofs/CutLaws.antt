@@ -2,9 +2,9 @@
 use Rattle.std.proofs.Common.{◌≡◌, ◌==◌, ◌≢◌, ℕ, suc, ◌+◌, ◌<◌, List, ◌∷◌, ◌++◌, length, take, drop, slice_range, position, MatchOption, Some, None, sym, ap, ◌∙◌, subst, arith, length-take-le, length-append, length-take, length-drop, take-add, take-append-drop, append_assoc}
 use Rattle.std.proofs.lemmas.List.{drop-drop, take_rest}
 use Rattle.std.proofs.lemmas.List.Elements.{All-append, All-same}
-use Rattle.ovn_base.specs.Lines.{HasNoFeed}
-use Rattle.ovn_base.specs.Reading.{Reading}
-use Rattle.ovn_base.specs.Cuts.{CutsEnded}
+use Rattle.ovn_base.specs.lines.Lines.{HasNoFeed}
+use Rattle.ovn_base.specs.lines.Reading.{Reading}
+use Rattle.ovn_base.specs.lines.Cuts.{CutsEnded}
 use Rattle.ovn_base.proofs.WindowLaws.{IsFirstFeed, first-feed}
 
 abbrev NotFeed : ℕ → Type 0

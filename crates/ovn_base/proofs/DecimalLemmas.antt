@@ -1,9 +1,15 @@
 -- The last digit of a number's text.
-use Rattle.std.specs.Prelude.{◌≡◌, ◌≢◌, ◌<◌, ◌≤◌, ◌+◌, ◌*◌, ◌/◌, ◌%◌, ◌^◌, ◌++◌, ◌⊎◌, ℕ, List, [], ◌∷◌, length}
+use Rattle.std.specs.Prelude.{◌≡◌, ◌≢◌, ◌<◌, ◌≤◌, ◌+◌, ◌*◌, ◌/◌, ◌%◌, ◌^◌, ◌++◌, ◌⊎◌, ◌&&◌, cond, nat_le, ℕ, Bool, true, false, List, [], ◌∷◌, length, Option, Some, None, IfSome, IfNone}
 use Rattle.std.specs.Fmt.{decimal}
-use Rattle.std.proofs.Common.{ap, ◌∙◌, sym, inl, inr, arith, append_assoc}
+use Rattle.std.proofs.Common.{refl, ap, ◌∙◌, sym, inl, inr, arith, append_assoc}
 use Rattle.std.proofs.lemmas.Bool.{cases_lt}
-use Rattle.std.proofs.lemmas.Fmt.{decimal_digit, decimal_step, decimal_nonempty, length-decimal-le, decimal_injective}
+use Rattle.std.proofs.lemmas.Fmt.{decimal_digit, decimal_step, decimal_nonempty, length-decimal-le, decimal_injective, decimal_is_IsNumeral}
+use Rattle.std.proofs.lemmas.Slice.Eq.{bytes_eq-Decides}
+use Rattle.std.proofs.lemmas.Bool.Decides.{nat_tests}
+use Rattle.std.specs.Cmp.{second_so}
+use Rattle.std.specs.Str.{bytes_eq}
+use Rattle.std.specs.Str.Parse.{digits_value}
+use Rattle.ovn_base.specs.numbers.NumberReading.{spelled_number}
 use Rattle.std.proofs.lemmas.List.{same_from_push}
 
 -- the text writes no number of at most this
@@ -79,3 +85,20 @@ decimal_with_digit text front last d tens whole is_tens digit some small fits =
 pub pushed_digit : (old front new : List ℕ) (n : ℕ) → 10 ≤ n → n < 2 ^ 64 → front ≡ old ++ decimal (n / 10) → new ≡ front ++ (48 + n % 10) ∷ [] → new ≡ old ++ decimal n
 pushed_digit old front new n large fits is_front is_new =
     is_new ∙ ap (λ (xs : List ℕ). xs ++ (48 + n % 10) ∷ []) is_front ∙ append_assoc old (decimal (n / 10)) ((48 + n % 10) ∷ []) ∙ ap (λ (xs : List ℕ). old ++ xs) (sym (decimal_step n large fits))
+
+at_number : (most n : ℕ) → n ≤ most → (text : List ℕ) → text ≡ decimal n → (nat_le n most && bytes_eq text (decimal n)) ≡ true
+at_number most n small text e = let same : bytes_eq text (decimal n) ≡ true = (bytes_eq-Decides text (decimal n)).1 e in grind (arith, nat_tests)
+
+-- the number that was found, or that there is none, is what the text spells
+pub spelled_is : (text : List ℕ) (most : ℕ) → most < 2 ^ 64 → (found : Option ℕ) → IfSome found (λ n. (n ≤ most) × (text ≡ decimal n)) → IfNone found (NoNumber text most) → found ≡ spelled_number most text
+unfolding spelled_number
+spelled_is text most fits (Some n) is none =
+    let value : digits_value 10 text ≡ n = ap (digits_value 10) is.1 ∙ (decimal_is_IsNumeral n (omega (arith, is.0))).1 in
+    rw (value, at_number most n is.0 text is.1) refl
+spelled_is text most fits None is none = by (nat_le (digits_value 10 text) most && bytes_eq text (decimal (digits_value 10 text))) refl
+  where
+    by : (b : Bool) → (nat_le (digits_value 10 text) most && bytes_eq text (decimal (digits_value 10 text))) ≡ b → None ≡ cond b (Some (digits_value 10 text)) None
+    by false e = refl
+    by true e =
+        let small : digits_value 10 text ≤ most = grind (arith, nat_tests) in
+        absurd (none (digits_value 10 text) small ((bytes_eq-Decides text (decimal (digits_value 10 text))).0 (second_so (nat_le (digits_value 10 text) most) (bytes_eq text (decimal (digits_value 10 text))) e)))

@@ -9,7 +9,7 @@ use Rattle.std.specs.Ordering.{is_eq, is_lt, is_gt, ordering_then}
 use Rattle.std.specs.BTreeMap.{is_at}
 use Rattle.std.specs.declared.cmp.Ordering.{Ordering}
 use Rattle.std.specs.declared.cmp.Ordering.TheVariants.{Less, Equal, Greater}
-use Rattle.ovn_base.specs.ByCode.{by_code, by_code_decides}
+use Rattle.ovn_base.specs.lists.ByCode.{by_code, by_code_decides}
 use Rattle.std.specs.Cmp.{first_so, second_so}
 use Rattle.std.specs.List.{AllZip}
 use Rattle.std.specs.Cmp.Lexicographic.{pointwise, slice_cmp}

@@ -4,7 +4,7 @@ use Rattle.std.specs.List.{All, AllZip, join_with_byte}
 use Rattle.std.proofs.Common.{refl, ◌∙◌, sym, subst, arith, length-append}
 use Rattle.std.proofs.Math.Seq.{get_or-append_seam}
 use Rattle.std.proofs.lemmas.List.Elements.{All-cons, All-tail, All-append}
-use Rattle.ovn_base.specs.AddressText.{SpellsJoined, SpellsFirst}
+use Rattle.ovn_base.specs.addresses.AddressText.{SpellsJoined, SpellsFirst}
 
 -- the byte is not in the text
 abbrev pub Lacks : ℕ → List ℕ → Type 0

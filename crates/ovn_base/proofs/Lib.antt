@@ -1,16 +1,17 @@
 -- Lemmas.
 pub mod AmongLaws
-pub mod Puts
+pub mod ByNameLaws
 pub mod AddressLemmas
 pub mod DecimalLemmas
 pub mod JoinedLemmas
 pub mod MacLemmas
 pub mod NameLemmas
 pub mod Exact
-pub mod ToldLaws
+pub mod SeparatorLaws
+pub mod WhereToldLaws
 pub mod LineLaws
 pub mod WindowLaws
 pub mod CutLaws
-pub mod Taken
-pub mod Going
+pub mod TakenBytes
+pub mod LineSearch
 pub mod StepLaws

@@ -3,7 +3,7 @@ use Rattle.std.proofs.Common.{◌≡◌, ◌≢◌, ℕ, suc, ◌+◌, ◌<◌, 
 use Rattle.std.proofs.lemmas.Bool.{cases_lt, cond-true, cond-false}
 use Rattle.std.proofs.Math.Seq.{take-append-add}
 use Rattle.std.proofs.lemmas.List.Elements.{All-head, All-tail}
-use Rattle.ovn_base.specs.Lines.{lines_of, ended_lines, lines_within, HasNoFeed}
+use Rattle.ovn_base.specs.lines.Lines.{lines_of, ended_lines, lines_within, HasNoFeed}
 
 abbrev NotFeed : ℕ → Type 0
 NotFeed b = b ≢ 10

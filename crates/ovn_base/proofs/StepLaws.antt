@@ -1,7 +1,7 @@
 -- Steps taken one after another.
 use Rattle.std.specs.Prelude.{◌≡◌, ℕ, ◌+◌, ◌^◌, ◌<◌, ◌≤◌}
 use native.Mathlib.Omega.{arith}
-use Rattle.ovn_base.specs.Steps.{after_steps}
+use Rattle.ovn_base.specs.numbers.Steps.{after_steps}
 
 -- some and then some more are their sum
 pub after_sum : (m n s : ℕ) → after_steps n (after_steps m s) ≡ after_steps (m + n) s

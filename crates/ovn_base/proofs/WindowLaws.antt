@@ -1,14 +1,12 @@
 -- Laws of a part of a buffer.
-use Rattle.std.proofs.Common.{◌≡◌, ◌==◌, ℕ, ◌+◌, ◌-◌, ◌<◌, ◌≤◌, List, ◌∷◌, ◌++◌, length, take, drop, get_or, slice_range, position, MatchOption, Option, inl, inr, refl, sym, ap, ◌∙◌, arith, length-take, take_at, take-add, lt-ltb, le-ltb}
+use Rattle.std.proofs.Common.{◌≡◌, ◌==◌, ℕ, ◌+◌, ◌-◌, ◌≤◌, List, ◌++◌, length, take, drop, slice_range, position, MatchOption, Option, refl, sym, ap, ◌∙◌, arith, take_at, take-add}
 use Rattle.std.proofs.lemmas.Slice.{between_is}
-use Rattle.std.proofs.lemmas.List.{drop-drop, drop-take, take-take, get_or-take}
-use Rattle.std.proofs.lemmas.List.Sums.{fails_before_first, passes_at_first, split_at_first}
-use Rattle.std.proofs.lemmas.Bool.{cases_lt, eqb-true, eqb-false}
-use Rattle.std.specs.List.{position_or_len}
+use Rattle.std.proofs.lemmas.List.{drop-drop, drop-take, take-take}
 use Rattle.std.specs.Io.KnownBytes.{prepend_known}
-use Rattle.ovn_base.specs.WindowState.{WindowState}
-use Rattle.ovn_base.specs.Lines.{HasNoFeed}
-use Rattle.ovn_base.proofs.ToldLaws.{prepend_twice}
+use Rattle.ovn_base.specs.lines.WindowState.{WindowState}
+use Rattle.ovn_base.specs.lines.Lines.{HasNoFeed}
+use Rattle.ovn_base.proofs.WhereToldLaws.{prepend_twice}
+use Rattle.ovn_base.proofs.SeparatorLaws.{IsFirstPlace, first_place}
 
 -- the front of a part
 pub range-front : (bytes : List ℕ) (start end at : ℕ) → start + at ≤ end → slice_range bytes start (start + at) ≡ take at (slice_range bytes start end)
@@ -63,27 +61,9 @@ pub cut-record : (w v : WindowState) (text held : List ℕ) (at : ℕ) → w ≡
 cut-record w v text held at e p q = rw (p, q, e) refl
 
 -- the first line feed among the bytes stands at this place
-pub record IsFirstFeed (bytes : List ℕ) (at : ℕ) : Type 0 where
-  pub before : HasNoFeed (take at bytes)
-  pub split : bytes ≡ take at bytes ++ 10 ∷ drop (at + 1) bytes
+abbrev pub IsFirstFeed : List ℕ → ℕ → Type 0
+IsFirstFeed = IsFirstPlace 10
 
 -- no line feed is among the bytes, or the first one has its place
 pub first-feed : (bytes : List ℕ) → MatchOption (position (λ byte. byte == 10) bytes) (HasNoFeed bytes) (IsFirstFeed bytes)
-first-feed bytes =
-    let p = λ (byte : ℕ). byte == 10 in
-    let i = position_or_len p bytes in
-    let misses = λ (k d : ℕ) (h : k < i). eqb-false (get_or bytes k d) 10 (fails_before_first p bytes k d h) in
-    elim (cases_lt i (length bytes)) [
-      | inl lt ↦
-          let feed = eqb-true (get_or bytes i 0) 10 (passes_at_first p bytes 0 lt) in
-          let first : IsFirstFeed bytes i = record {
-            before = λ k d h.
-                let below : k < i = omega (arith, length-take i bytes) in
-                rw (get_or-take i bytes k d below) (misses k d below);
-            split = split_at_first p bytes 0 lt ∙ ap (λ x. take i bytes ++ x ∷ drop (i + 1) bytes) feed;
-          } in
-          rw (lt-ltb i (length bytes) lt) first
-      | inr ge ↦
-          let none : HasNoFeed bytes = λ k d h. misses k d (omega arith) in
-          rw (le-ltb i (length bytes) ge) none
-    ]
+first-feed bytes = first_place 10 bytes

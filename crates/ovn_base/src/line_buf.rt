@@ -1,8 +1,8 @@
 //! A buffer of lines.
-ghost use Rattle.ovn_base.specs.Causes.{Rose};
-ghost use Rattle.ovn_base.specs.Cuts.{CutsEnded};
-ghost use Rattle.ovn_base.specs.Lines.{HasNoFeed};
-ghost use Rattle.ovn_base.specs.Reading.{taken, unread};
+ghost use Rattle.ovn_base.specs.streams.Causes.{Rose};
+ghost use Rattle.ovn_base.specs.lines.Cuts.{CutsEnded};
+ghost use Rattle.ovn_base.specs.lines.Lines.{HasNoFeed};
+ghost use Rattle.ovn_base.specs.lines.Reading.{taken, unread};
 ghost use Rattle.std.specs.Io.KnownBytes.{IsAtEnd};
 ghost use Rattle.std.specs.Prelude.{
   false,
@@ -16,25 +16,19 @@ ghost use Rattle.std.specs.Prelude.{
   true,
   ◌+◌,
   ◌<◌,
-  ◌^◌,
   if◌then◌else◌,
   ◌≡◌,
   ◌≤◌,
   [],
 };
 
+use crate::limits::{MAX_INPUT, MAX_LINE};
 use crate::memory::{Failed, NoMemory};
 use crate::next_line::LineFault;
 use crate::source::Source;
 use crate::window::{Window, find_feed};
 use std::alloc::Global;
 use std::marker::Model;
-
-/// The greatest number of bytes of a line, its line feed not counted.
-pub const LINE_LIMIT: usize = 1_048_576;
-
-/// The number of bytes within which an input must end.
-pub const INPUT_LIMIT: u64 = 1_099_511_627_776;
 
 /// The size of a buffer: room for two lines with their line feeds. So between two moves of held bytes to the front at
 /// least as many bytes are taken as are moved.
@@ -52,8 +46,9 @@ pub struct LineBuf {
 }
 
 impl Model for LineBuf {
-    ghost use Rattle.ovn_base.specs.Reading.{Reading};
-    ghost use Rattle.std.specs.Prelude.{length, true, ◌+◌, ◌<◌, ◌^◌, ◌≡◌, ◌≤◌};
+    ghost use Rattle.ovn_base.specs.lines.Reading.{Reading};
+    ghost use Rattle.ovn_base.specs.declared.limits.TheConstants.{MAX_INPUT, MAX_LINE};
+    ghost use Rattle.std.specs.Prelude.{length, true, ◌+◌, ◌<◌, ◌≡◌, ◌≤◌};
 
     ghost Value = { Reading };
 
@@ -67,8 +62,8 @@ impl Model for LineBuf {
         } };
 
     ghost invariant = { λ b.
-        (1048577 < b.window.room) × (b.given + length b.window.held ≤ 2 ^ 40)
-        × (b.ended ≡ true → b.given + length b.window.held < 2 ^ 40) };
+        (MAX_LINE + 1 < b.window.room) × (b.given + length b.window.held ≤ MAX_INPUT)
+        × (b.ended ≡ true → b.given + length b.window.held < MAX_INPUT) };
 }
 
 impl LineBuf {
@@ -125,8 +120,8 @@ impl LineBuf {
         requires no_feed { HasNoFeed (take scanned self.old.held) }
         ensures cut { MatchBool result (CutsEnded self.old self.new)
             ((self.new ≡ self.old) × HasNoFeed self.old.held) }
-        ensures limit { taken self.new ≤ 2 ^ 40 }
-        ensures below { self.new.ended ≡ true → taken self.new < 2 ^ 40 }
+        ensures limit { taken self.new ≤ MAX_INPUT }
+        ensures below { self.new.ended ≡ true → taken self.new < MAX_INPUT }
     {
         let Some(at) = find_feed(&self.window.held()[scanned..]) else {
             return false;
@@ -151,7 +146,7 @@ impl LineBuf {
 
     /// Takes more bytes from the source behind the held ones, or finds its end.
     pub(crate) fn refill<S: Source>(&mut self, source: &mut S) -> Result<(), LineFault>
-        requires room { length self.old.held ≤ LINE_LIMIT }
+        requires room { length self.old.held ≤ MAX_LINE }
         requires more { self.old.ended ≡ false }
         ensures ahead { unread self.new (S.left source.new) ≡ unread self.old (S.left source.old) }
         ensures front { take (length self.old.held) self.new.held ≡ self.old.held }
@@ -161,19 +156,19 @@ impl LineBuf {
         ensures at_end { self.new.ended ≡ true → IsAtEnd (S.left source.new) }
         ensures err { OnErr result ((self.new.held ≡ self.old.held) × (self.new.ended ≡ false)) }
         ensures read_fault { result ≡ Err LineFault.ReadFault → Rose (S.faults source.old) (S.faults source.new) }
-        ensures read_short { result ≡ Err LineFault.ReadFault → taken self.new < 2 ^ 40 }
-        ensures too_long { result ≡ Err LineFault.InputTooLong → taken self.new ≡ 2 ^ 40 }
+        ensures read_short { result ≡ Err LineFault.ReadFault → taken self.new < MAX_INPUT }
+        ensures too_long { result ≡ Err LineFault.InputTooLong → taken self.new ≡ MAX_INPUT }
         ensures faulted { self.new.faulted ≡ (if is_err result then true else self.old.faulted) }
-        ensures limit { taken self.new ≤ 2 ^ 40 }
-        ensures below { self.new.ended ≡ true → taken self.new < 2 ^ 40 }
+        ensures limit { taken self.new ≤ MAX_INPUT }
+        ensures below { self.new.ended ≡ true → taken self.new < MAX_INPUT }
         ensures faults { S.faults source.old ≤ S.faults source.new }
     {
         let taken = self.given + self.window.held().len() as u64;
-        if taken == INPUT_LIMIT {
+        if taken == MAX_INPUT {
             self.faulted = true;
             return Err(LineFault::InputTooLong);
         }
-        match self.window.refill(source, INPUT_LIMIT - taken) {
+        match self.window.refill(source, MAX_INPUT - taken) {
             Ok(0) => {
                 self.ended = true;
                 Ok(())

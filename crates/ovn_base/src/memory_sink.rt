@@ -1,6 +1,6 @@
 //! Sinks in memory.
-ghost use Rattle.ovn_base.specs.Causes.{HasCause};
-ghost use Rattle.ovn_base.specs.MemorySink.{given_to, is_to_refuse, listed};
+ghost use Rattle.ovn_base.specs.streams.Causes.{HasCause};
+ghost use Rattle.ovn_base.specs.streams.MemorySink.{given_to, is_to_refuse, listed};
 ghost use Rattle.std.specs.Io.KnownBytes.{append_known};
 ghost use Rattle.std.specs.Prelude.{
   IfOk,
@@ -36,7 +36,7 @@ pub struct MemorySink {
 }
 
 impl Model for MemorySink {
-    ghost use Rattle.ovn_base.specs.MemorySink.{SinkState};
+    ghost use Rattle.ovn_base.specs.streams.MemorySink.{SinkState};
     ghost use Rattle.std.specs.Prelude.{take, vec_len, ◌≤◌};
 
     ghost Value = { SinkState };

@@ -1,6 +1,6 @@
 //! Sources over bytes in memory.
-ghost use Rattle.ovn_base.specs.Causes.{HasCause};
-ghost use Rattle.ovn_base.specs.MemorySource.{failed_take, is_to_fail, taken_from};
+ghost use Rattle.ovn_base.specs.streams.Causes.{HasCause};
+ghost use Rattle.ovn_base.specs.streams.MemorySource.{failed_take, is_to_fail, taken_from};
 ghost use Rattle.std.specs.Io.KnownBytes.{IsAtEnd, prepend_known};
 ghost use Rattle.std.specs.Prelude.{
   drop,
@@ -43,7 +43,7 @@ pub struct MemorySource {
 }
 
 impl Model for MemorySource {
-    ghost use Rattle.ovn_base.specs.MemorySource.{SourceState};
+    ghost use Rattle.ovn_base.specs.streams.MemorySource.{SourceState};
     ghost use Rattle.std.specs.Prelude.{drop, vec_len, ◌≤◌};
 
     ghost Value = { SourceState };

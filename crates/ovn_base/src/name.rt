@@ -7,8 +7,9 @@ ghost use Rattle.std.specs.Hash.{same_Alike};
 ghost use Rattle.std.specs.Ordering.{nat_cmp};
 ghost use Rattle.std.proofs.lemmas.Cmp.{nat_list_eq_equiv, nat_list_cmp_total};
 ghost use Rattle.std.proofs.Math.Dec.{eqb as nat_eq};
-ghost use Rattle.ovn_base.specs.SameName.{bytes_decides};
-ghost use Rattle.ovn_base.specs.NameText.{IsName, name_byte};
+ghost use Rattle.ovn_base.specs.names.SameName.{bytes_decides};
+ghost use Rattle.ovn_base.specs.names.NameText as spec;
+ghost use Rattle.ovn_base.specs.names.NameText.{IsName, name_byte, spelled_name};
 
 use std::cmp::Ordering;
 use std::fmt;
@@ -27,7 +28,7 @@ impl Model for Name {
 
     ghost Value = { List ℕ };
 
-    ghost use Rattle.ovn_base.specs.Name.{IsPadded, fields_of, fields_of-take};
+    ghost use Rattle.ovn_base.specs.names.PaddedName.{IsPadded, fields_of, fields_of-take};
 
     ghost view = { λ n. take n.len n.bytes };
 
@@ -45,7 +46,8 @@ fn is_name_byte(byte: u8) -> bool
 }
 
 fn is_name(text: &[u8]) -> bool
-    ensures { IsTrue result ↔ IsName text.now }
+    ensures in_grammar { IsTrue result ↔ IsName text.now }
+    ensures exact { result ≡ spec.is_name text.now }
 {
     !text.is_empty() && text.len() <= 64 && text.iter().all(|byte| is_name_byte(*byte))
 }
@@ -62,9 +64,11 @@ fn padded(text: &[u8]) -> [u8; 64]
 
 impl Name {
     /// The name that the text is, if it is one.
+    #[tactic(auto, unfolding(crate::specs::names::NameText::spelled_name))]
     pub fn read(text: &[u8]) -> Option<Name>
         ensures found { IfSome result (λ n. n ≡ text.now) }
         ensures in_grammar { IsSome result ↔ IsName text.now }
+        ensures exact { result ≡ spelled_name text.now }
     {
         if is_name(text) {
             Some(Name {

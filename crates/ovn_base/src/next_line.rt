@@ -1,8 +1,8 @@
 //! Lines of a source, one after another.
-ghost use Rattle.ovn_base.specs.Causes.{Rose};
-ghost use Rattle.ovn_base.specs.Lines.{ended_lines};
-ghost use Rattle.ovn_base.specs.Reading.{Gives, Stops, taken, unread};
-ghost use Rattle.ovn_base.specs.Told.{WhereTold};
+ghost use Rattle.ovn_base.specs.streams.Causes.{Rose};
+ghost use Rattle.ovn_base.specs.lines.Lines.{ended_lines};
+ghost use Rattle.ovn_base.specs.lines.Reading.{Gives, Stops, taken, unread};
+ghost use Rattle.ovn_base.specs.streams.WhereTold.{WhereTold};
 ghost use Rattle.std.specs.Io.KnownBytes.{IsAtEnd};
 ghost use Rattle.std.specs.Prelude.{
   false,
@@ -14,7 +14,6 @@ ghost use Rattle.std.specs.Prelude.{
   OnErr,
   true,
   ◌<◌,
-  ◌^◌,
   ◌||◌,
   ◌≡◌,
   ◌≢◌,
@@ -22,7 +21,8 @@ ghost use Rattle.std.specs.Prelude.{
   [],
 };
 
-use crate::line_buf::{LINE_LIMIT, LineBuf};
+use crate::limits::{MAX_INPUT, MAX_LINE};
+use crate::line_buf::LineBuf;
 use crate::source::Source;
 
 /// What `next_line` found.
@@ -47,9 +47,9 @@ pub enum LineFault {
 
 /// What a line of this length is, or one of which bytes were let go already.
 fn line_of(is_skipped: bool, length: usize) -> Line
-    ensures { result ≡ (if is_skipped || nat_lt LINE_LIMIT length then Line.TooLong else Line.Text) }
+    ensures { result ≡ (if is_skipped || nat_lt MAX_LINE length then Line.TooLong else Line.Text) }
 {
-    if is_skipped || length > LINE_LIMIT {
+    if is_skipped || length > MAX_LINE {
         Line::TooLong
     } else {
         Line::Text
@@ -71,7 +71,7 @@ pub fn next_line<S: Source>(source: &mut S, buf: &mut LineBuf) -> Result<Line, L
         (unread buf.old (S.left source.old)) (unread buf.new (S.left source.new))
         (Gives line buf.old buf.new)) }
     ensures end { result ≡ Ok Line.End → (buf.new.held ≡ []) × (buf.new.ended ≡ true) }
-    ensures short { result ≡ Ok Line.Text → length buf.new.text ≤ LINE_LIMIT }
+    ensures short { result ≡ Ok Line.Text → length buf.new.text ≤ MAX_LINE }
     ensures progress { IfOk result (λ line. line ≢ Line.End → buf.old.given < buf.new.given) }
 
     // It takes nothing where a whole line is held or the end was seen before. The end is seen where nothing is left.
@@ -85,12 +85,12 @@ pub fn next_line<S: Source>(source: &mut S, buf: &mut LineBuf) -> Result<Line, L
     ensures none_held { OnErr result (ended_lines buf.new.held ≡ []) }
     ensures before_end { OnErr result (buf.old.ended ≡ false) }
     ensures read_fault { result ≡ Err LineFault.ReadFault → Rose (S.faults source.old) (S.faults source.new) }
-    ensures read_short { result ≡ Err LineFault.ReadFault → taken buf.new < 2 ^ 40 }
-    ensures too_long { result ≡ Err LineFault.InputTooLong → taken buf.new ≡ 2 ^ 40 }
+    ensures read_short { result ≡ Err LineFault.ReadFault → taken buf.new < MAX_INPUT }
+    ensures too_long { result ≡ Err LineFault.InputTooLong → taken buf.new ≡ MAX_INPUT }
     ensures faulted { buf.new.faulted ≡ is_err result }
 
-    ensures limit { taken buf.new ≤ 2 ^ 40 }
-    ensures below { buf.new.ended ≡ true → taken buf.new < 2 ^ 40 }
+    ensures limit { taken buf.new ≤ MAX_INPUT }
+    ensures below { buf.new.ended ≡ true → taken buf.new < MAX_INPUT }
     ensures faults { S.faults source.old ≤ S.faults source.new }
 {
     // How many of the held bytes have no line feed among them, and whether bytes of the line were let go.
@@ -108,7 +108,7 @@ pub fn next_line<S: Source>(source: &mut S, buf: &mut LineBuf) -> Result<Line, L
             buf.cut_all();
             return Ok(line_of(is_skipped, scanned));
         }
-        if scanned > LINE_LIMIT {
+        if scanned > MAX_LINE {
             buf.cut_all();
             is_skipped = true;
             scanned = 0;
@@ -144,14 +144,14 @@ mod tests {
     #[test]
     fn skips_a_long_line(rt: HostRuntime) -> Result<(), Fail> {
         let alloc = rt.alloc();
-        let mut bytes = vec![in alloc; b'x'; 1_048_576]?;
+        let mut bytes = vec![in alloc; b'x'; MAX_LINE]?;
         bytes.extend_from_slice(b"\nx")?;
-        bytes.extend_from_slice(&vec![in alloc; b'x'; 1_048_576]?)?;
+        bytes.extend_from_slice(&vec![in alloc; b'x'; MAX_LINE]?)?;
         bytes.extend_from_slice(b"\nnext\n")?;
         let mut source = MemorySource::new(bytes, Vec::new(alloc));
         let mut buf = LineBuf::new(alloc)?;
         assert_eq!(rt; next_line(&mut source, &mut buf)?, Line::Text);
-        assert_eq!(rt; buf.text().len(), 1_048_576);
+        assert_eq!(rt; buf.text().len(), MAX_LINE);
         assert_eq!(rt; next_line(&mut source, &mut buf)?, Line::TooLong);
         assert_eq!(rt; next_line(&mut source, &mut buf)?, Line::Text);
         assert_eq!(rt; buf.text(), b"next".as_slice());

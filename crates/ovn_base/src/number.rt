@@ -1,5 +1,7 @@
 ghost use Rattle.std.specs.Prelude.{◌≡◌, ◌≢◌, ◌+◌, ◌++◌, ◌<◌, ◌≤◌, ℕ, IfSome, IfNone, List, OnOk, OnErr};
+ghost use Rattle.std.specs.Char.{digit_value};
 ghost use Rattle.std.specs.Fmt.{decimal};
+ghost use Rattle.ovn_base.specs.numbers.NumberReading.{spelled_number, spelled_digit};
 
 use crate::memory::NoMemory;
 
@@ -13,8 +15,8 @@ fn digit(byte: u8) -> Option<u8>
     }
 }
 
-/// The number of at most `most` that the text writes in decimal, with no sign and no leading zero.
-pub fn read_number(text: &[u8], most: u64) -> Option<u64>
+// The number that the digits write, the last of them read last.
+fn number_of(text: &[u8], most: u64) -> Option<u64>
     ensures found { IfSome result (λ n. (n ≤ most) × (text.now ≡ decimal n)) }
     ensures none { IfNone result ((n : ℕ) → n ≤ most → text.now ≢ decimal n) }
 {
@@ -26,11 +28,34 @@ pub fn read_number(text: &[u8], most: u64) -> Option<u64>
     if front.is_empty() {
         return if last <= most { Some(last) } else { None };
     }
-    let tens = read_number(front, most / 10)?;
+    let tens = number_of(front, most / 10)?;
     if tens == 0 || last > most - 10 * tens {
         return None;
     }
     Some(10 * tens + last)
+}
+
+/// The number of at most `most` that the text writes in decimal, with no sign and no leading zero.
+pub fn read_number(text: &[u8], most: u64) -> Option<u64>
+    ensures found { IfSome result (λ n. (n ≤ most) × (text.now ≡ decimal n)) }
+    ensures none { IfNone result ((n : ℕ) → n ≤ most → text.now ≢ decimal n) }
+    ensures exact { result ≡ spelled_number most text.now }
+{
+    number_of(text, most)
+}
+
+/// The value of the hexadecimal digit, in either case.
+pub fn hexadecimal_digit(byte: u8) -> Option<u8>
+    ensures exact { result ≡ spelled_digit byte }
+    ensures found { IfSome result (λ d. (d ≡ digit_value byte) × (d < 16)) }
+    ensures none { IfNone result (16 ≤ digit_value byte) }
+{
+    match byte {
+        b'0'..=b'9' => Some(byte - b'0'),
+        b'a'..=b'f' => Some(byte - b'a' + 10),
+        b'A'..=b'F' => Some(byte - b'A' + 10),
+        _ => None,
+    }
 }
 
 /// Appends the number in decimal. Where memory is wanting a part of it may stand there.

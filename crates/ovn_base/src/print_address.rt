@@ -1,7 +1,6 @@
 ghost use Rattle.std.specs.Prelude.{◌≡◌, ◌<◌, ◌^◌, ◌≤◌, ◌++◌, ℕ, List, OnOk, OnErr};
 ghost use Rattle.std.specs.Char.{digit_char};
-ghost use Rattle.ovn_base.specs.Address.{IsMac};
-ghost use Rattle.ovn_base.specs.AddressText.{SpellsMac, SpellsIp4, SpellsCidr, mac_text, ip4_text, cidr_text};
+ghost use Rattle.ovn_base.specs.addresses.AddressText.{SpellsMac, SpellsIp4, SpellsCidr, mac_text, ip4_text, cidr_text};
 
 use crate::address::{Cidr, Ip4, Mac};
 use crate::memory::NoMemory;
@@ -22,7 +21,7 @@ fn digit(value: u8) -> u8
 fn text_of_mac(mac: Mac) -> [u8; 17]
     ensures { result ≡ mac_text mac }
 {
-    let [a, b, c, d, e, f] = mac.0;
+    let [a, b, c, d, e, f] = mac.bytes();
     [
         digit(a / 16),
         digit(a % 16),
@@ -82,7 +81,7 @@ pub fn push_cidr(out: &mut Vec<u8>, cidr: Cidr) -> Result<(), NoMemory>
 
 /// The printed text of an address spells it.
 pub fn printed_spells()
-    ensures mac { (mac : Mac) → IsMac mac → SpellsMac (mac_text mac) mac }
+    ensures mac { (mac : Mac) → SpellsMac (mac_text mac) mac }
     ensures ip4 { (ip : Ip4) → ip.0 < 2 ^ 32 → SpellsIp4 (ip4_text ip) ip }
     ensures cidr { (cidr : Cidr) → cidr.addr.0 < 2 ^ 32 → cidr.len ≤ 32 → SpellsCidr (cidr_text cidr) cidr }
 {}

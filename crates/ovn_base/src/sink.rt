@@ -1,5 +1,5 @@
 //! Where bytes go.
-ghost use Rattle.ovn_base.specs.Causes.{HasCause};
+ghost use Rattle.ovn_base.specs.streams.Causes.{HasCause};
 ghost use Rattle.std.specs.Io.KnownBytes.{append_known};
 ghost use Rattle.std.specs.Prelude.{List, OnErr, OnOk, Option, take, ℕ, ◌≡◌};
 

@@ -1,5 +1,5 @@
 //! Where bytes come from.
-ghost use Rattle.ovn_base.specs.Causes.{HasCause};
+ghost use Rattle.ovn_base.specs.streams.Causes.{HasCause};
 ghost use Rattle.std.specs.Io.KnownBytes.{IsAtEnd, prepend_known};
 ghost use Rattle.std.specs.Prelude.{IfOk, List, OnErr, Option, length, take, ℕ, ◌<◌, ◌≡◌, ◌≤◌};
 

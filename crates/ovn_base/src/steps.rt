@@ -1,6 +1,6 @@
 //! A count of steps.
 ghost use Rattle.std.specs.Prelude.{◌≡◌, ◌^◌, ◌<◌, ℕ};
-ghost use Rattle.ovn_base.specs.Steps.{after_steps};
+ghost use Rattle.ovn_base.specs.numbers.Steps.{after_steps};
 
 use std::marker::{Model, PhantomData};
 

@@ -1,5 +1,5 @@
 //! A fixed buffer over the bytes of a source: those that are held, and the text that was cut off last.
-ghost use Rattle.ovn_base.specs.Causes.{HasCause};
+ghost use Rattle.ovn_base.specs.streams.Causes.{HasCause};
 ghost use Rattle.std.specs.Io.KnownBytes.{IsAtEnd, prepend_known};
 ghost use Rattle.std.specs.Prelude.{
   drop,
@@ -34,7 +34,7 @@ pub(crate) struct Window {
 }
 
 impl Model for Window {
-    ghost use Rattle.ovn_base.specs.WindowState.{WindowState};
+    ghost use Rattle.ovn_base.specs.lines.WindowState.{WindowState};
     ghost use Rattle.std.specs.Prelude.{slice_range, vec_len, ◌-◌, ◌≤◌};
 
     ghost Value = { WindowState };

@@ -8,16 +8,16 @@ use Rattle.std.specs.Ordering.{is_eq, match_ordering, nat_cmp}
 use Rattle.std.specs.declared.cmp.Ordering.{Ordering}
 use Rattle.std.specs.declared.cmp.Ordering.TheVariants.{Less, Equal, Greater}
 use Rattle.std.proofs.Common.{sym, ap, subst, arith, inl, inr}
-use Rattle.ovn_base.specs.Among.{Among, here, there}
-use Rattle.ovn_base.specs.ByName.{at, in_order, put}
-use Rattle.ovn_base.specs.NameText.{IsName}
-use Rattle.ovn_base.specs.SameName.{same_name}
+use Rattle.ovn_base.specs.lists.Among.{Among, here, there}
+use Rattle.ovn_base.specs.names.ByName.{at, in_order, put}
+use Rattle.ovn_base.specs.names.NameText.{IsName}
+use Rattle.ovn_base.specs.names.SameName.{same_name}
 use Rattle.ovn_base.specs.declared.address.Birth.{Birth}
 use Rattle.ovn_base.specs.declared.address.Mac.{Mac}
 use Rattle.ovn_base.specs.declared.name.Name.{Name}
 use Rattle.ovn_base.proofs.AmongLaws.{among_all, filter_among, flat_map_among, map_among}
-use Rattle.ovn_base.proofs.Puts.{at_among}
-use Rattle.ovn_base.proofs.Puts as puts
+use Rattle.ovn_base.proofs.ByNameLaws.{at_among}
+use Rattle.ovn_base.proofs.ByNameLaws as puts
 use Rattle.chassis_sim.proofs.Waiting.{all_found, all_left}
 use Rattle.inet_packet.specs.declared.packet.Packet as inet
 use Rattle.flow_table.specs.declared.flow.Cause.TheVariants.{Loopback}
@@ -48,7 +48,7 @@ use Rattle.world_core.specs.Effects.{effects_of, crossings_in}
 use Rattle.world_core.specs.Homes.{is_at as is_bound_to, is_in, members, members_at, other_homes}
 use Rattle.world_core.specs.Numbers.{datapath_number, port_number}
 use Rattle.world_core.specs.Refusing.{refusal, refusal_of_entry, refusal_of_record, too_many_wait}
-use Rattle.world_core.specs.State.{State, empty, events_of, finished, is_chassis, settled_where_none_waits}
+use Rattle.world_core.specs.State.{State, empty, event_count, finished, is_chassis, settled_where_none_waits}
 use Rattle.world_core.specs.Step.{Step, Does, Enters, Arrives, Drains, sent_on, with_kept, most_arrivals}
 use Rattle.world_core.specs.Unbuilt.{is_unbuilt_port}
 use Rattle.world_core.specs.Visit.{End, leaves, is_dropped, crosses, is_lost, Target, HasTarget, Origin, crossing_to, sent_home, sent_to, Goes, Visit, arrival, is_gone, is_same_port, reached}
@@ -343,13 +343,13 @@ drains_named (suc most) m effects after named (inr h) =
 
 does_named : (m : State) (event : Event) (effects : List NetEffect) (after : State) → IsNamedState m → IsNamedEvent event → Does m event effects after → AreStepNamed effects after
 does_named m (Edit ops) effects after named fine h =
-    let owners = owners_of ops (events_of m + 1) in
+    let owners = owners_of ops (event_count m + 1) in
     let between : AreRanged (retire m.keys []) = record { datapaths = named.keys.datapaths; ports = named.keys.ports } in
-    let have = owners_named ops (events_of m + 1) fine in
+    let have = owners_named ops (event_count m + 1) fine in
     record {
       effects_are = subst AreNamed (sym h.effects_are) (keys_named (retire m.keys []) h.keys owners between have h.given);
       state = subst IsNamedState (sym h.state) (record {
-        ports = accepted_named m.net ops (events_of m + 1) named.ports fine;
+        ports = accepted_named m.net ops (event_count m + 1) named.ports fine;
         chassis = named.chassis;
         bindings = named.bindings;
         waiting = named.waiting;

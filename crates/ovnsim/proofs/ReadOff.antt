@@ -9,9 +9,9 @@ use Rattle.edit_reader.specs.declared.event.Event.{Event}
 use Rattle.event_lines.specs.Picks.{Pick, picks_in, AreWholeLines}
 use Rattle.event_lines.proofs.Reading as read
 use Rattle.world_core.specs.Outcome.{matched}
-use Rattle.world_core.specs.Parts.{new_world}
-use Rattle.world_core.specs.Seen.{Seen}
-use Rattle.world_core.specs.State.{events_of}
+use Rattle.world_core.specs.StepParts.{new_world}
+use Rattle.world_core.specs.WorldView.{WorldView}
+use Rattle.world_core.specs.State.{event_count}
 use Rattle.ovnsim.specs.Events.{AreEvents, AsksFor, is_too_long, is_no_json, is_read}
 use Rattle.ovnsim.specs.Runs.{Runs, Takes, accepts, refuses}
 use Rattle.ovnsim.proofs.Named.{IsNamedRecord, IsNamedEvent, IsNamedState, none_named, refusal_named, step_named}
@@ -50,22 +50,22 @@ events_named (line ∷ lines) events (inr h) = subst (λ es. AllByRecursion IsNa
 -- ---- the text of an event
 
 -- it is made of whole lines
-takes_whole : (old : Seen) (event : Event) (own : List Pick) (text : List ℕ) (new : Seen) → Takes old event own text new → AreWholeLines text
-takes_whole old event own text new (accepts h e) = subst AreWholeLines (sym h.text) (read.accepted_whole (events_of old.state + 1) (matched new.walks) h.effects)
-takes_whole old event own text new (refuses why h e) = subst AreWholeLines (sym h.text) (read.refused_whole (events_of old.state + 1) why)
+takes_whole : (old : WorldView) (event : Event) (own : List Pick) (text : List ℕ) (new : WorldView) → Takes old event own text new → AreWholeLines text
+takes_whole old event own text new (accepts h e) = subst AreWholeLines (sym h.text) (read.accepted_whole (event_count old.state + 1) (matched new.walks) h.effects)
+takes_whole old event own text new (refuses why h e) = subst AreWholeLines (sym h.text) (read.refused_whole (event_count old.state + 1) why)
 
 -- it names what was picked
-pub record IsReadOff (own : List Pick) (text : List ℕ) (new : Seen) : Type 0 where
+pub record IsReadOff (own : List Pick) (text : List ℕ) (new : WorldView) : Type 0 where
   pub picks : picks_in text ≡ own
   pub named : IsNamedState new.state
 
-takes_read : (old : Seen) (event : Event) (own : List Pick) (text : List ℕ) (new : Seen) → IsNamedState old.state → IsNamedEvent event → Takes old event own text new → IsReadOff own text new
+takes_read : (old : WorldView) (event : Event) (own : List Pick) (text : List ℕ) (new : WorldView) → IsNamedState old.state → IsNamedEvent event → Takes old event own text new → IsReadOff own text new
 takes_read old event own text new named fine (accepts h e) =
     let step = step_named old.state event h.effects new.state named fine h.step in
-    record { picks = ap picks_in h.text ∙ read.accepted (events_of old.state + 1) (matched new.walks) h.effects step.0 ∙ sym e; named = step.1 }
+    record { picks = ap picks_in h.text ∙ read.accepted (event_count old.state + 1) (matched new.walks) h.effects step.0 ∙ sym e; named = step.1 }
 takes_read old event own text new named fine (refuses why h e) = record {
-  picks = ap picks_in h.text ∙ read.refused (events_of old.state + 1) why (refusal_named old.state event why fine h.first) ∙ sym e;
-  named = subst (λ (w : Seen). IsNamedState w.state) (sym h.kept) (record { ports = named.ports; chassis = named.chassis; bindings = named.bindings; waiting = named.waiting; keys = named.keys });
+  picks = ap picks_in h.text ∙ read.refused (event_count old.state + 1) why (refusal_named old.state event why fine h.first) ∙ sym e;
+  named = subst (λ (w : WorldView). IsNamedState w.state) (sym h.kept) (record { ports = named.ports; chassis = named.chassis; bindings = named.bindings; waiting = named.waiting; keys = named.keys });
 }
 
 -- ---- the text of a run
@@ -74,12 +74,12 @@ whole_joined : (a b : List ℕ) → AreWholeLines a → AreWholeLines b → AreW
 whole_joined a b h (inl none) = subst AreWholeLines (sym (append-nil a) ∙ ap (λ x. a ++ x) (sym none)) h
 whole_joined a b h (inr some) = inr (a ++ some.0, ap (λ x. a ++ x) some.1 ∙ sym (append_assoc a some.0 (codes "\n")))
 
-pub run_whole : (old : Seen) (events : List Event) (picks : List Pick) (text : List ℕ) (last : Seen) → Runs old events picks text last → AreWholeLines text
+pub run_whole : (old : WorldView) (events : List Event) (picks : List Pick) (text : List ℕ) (last : WorldView) → Runs old events picks text last → AreWholeLines text
 run_whole old [] picks text last h = inl h.1
 run_whole old (event ∷ events) picks text last h =
     subst AreWholeLines (sym h.whole) (whole_joined h.first h.rest (takes_whole old event h.own h.first h.mid h.takes) (run_whole h.mid events h.left h.rest last h.others))
 
-run_read : (old : Seen) (events : List Event) (picks : List Pick) (text : List ℕ) (last : Seen) → IsNamedState old.state → AllByRecursion IsNamedEvent events → Runs old events picks text last → picks_in text ≡ picks
+run_read : (old : WorldView) (events : List Event) (picks : List Pick) (text : List ℕ) (last : WorldView) → IsNamedState old.state → AllByRecursion IsNamedEvent events → Runs old events picks text last → picks_in text ≡ picks
 run_read old [] picks text last named fine h = ap picks_in h.1 ∙ sym h.0
 run_read old (event ∷ events) picks text last named fine h =
     let one = takes_read old event h.own h.first h.mid named fine.0 h.takes in
@@ -89,5 +89,5 @@ run_read old (event ∷ events) picks text last named fine h =
     ∙ sym h.picked
 
 -- what was picked is what is read off the text
-pub read_off : (lines : List (List ℕ)) (events : List Event) (picks : List Pick) (text : List ℕ) (last : Seen) → AreEvents lines events → Runs new_world events picks text last → picks_in text ≡ picks
+pub read_off : (lines : List (List ℕ)) (events : List Event) (picks : List Pick) (text : List ℕ) (last : WorldView) → AreEvents lines events → Runs new_world events picks text last → picks_in text ≡ picks
 read_off lines events picks text last are run = run_read new_world events picks text last none_named (events_named lines events are) run

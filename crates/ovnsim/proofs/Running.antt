@@ -1,13 +1,13 @@
 -- How a run goes on, line by line.
 use Rattle.std.proofs.Common.{◌≡◌, ◌+◌, ◌-◌, ◌<◌, ◌++◌, ℕ, Bool, true, false, List, [], ◌∷◌, length, Option, Some, None, inl, inr, refl, sym, ap, ◌∙◌, subst, append_assoc, append-nil, arith}
 use Rattle.std.specs.Io.KnownBytes.{append_known}
-use Rattle.ovn_base.specs.Lines.{lines_within}
-use Rattle.ovn_base.specs.Reading.{Reading, GivesLine, unread}
-use Rattle.ovn_base.specs.Told.{WhereTold}
-use Rattle.ovn_base.proofs.ToldLaws.{told_then, append_none, append_twice}
+use Rattle.ovn_base.specs.lines.Lines.{lines_within}
+use Rattle.ovn_base.specs.lines.Reading.{Reading, GivesLine, unread}
+use Rattle.ovn_base.specs.streams.WhereTold.{WhereTold}
+use Rattle.ovn_base.proofs.WhereToldLaws.{told_then, append_none, append_twice}
 use Rattle.edit_reader.specs.declared.event.Event.{Event}
-use Rattle.world_core.specs.Parts.{new_world}
-use Rattle.world_core.specs.Seen.{Seen, IsSound}
+use Rattle.world_core.specs.StepParts.{new_world}
+use Rattle.world_core.specs.WorldView.{WorldView, IsSound}
 use Rattle.ovnsim.specs.declared.next_event.Next.TheVariants.{Found, Blank}
 use Rattle.ovnsim.specs.Events.{AreEvents, AsksFor, IsPassedOver, GivesNext}
 use Rattle.ovnsim.specs.Runs.{Runs, RunsLines, Takes}
@@ -16,7 +16,7 @@ use Rattle.event_lines.specs.Picks.{Pick, picks_in}
 use Rattle.ovnsim.proofs.ReadOff.{read_off}
 
 -- Some first lines of the input were taken and their texts given, and the lines of the unread bytes are the others.
-pub record Ran (m : Reading) (world : Seen) (before sent : Option (List ℕ)) (input ahead : List ℕ) : Type 0 where
+pub record Ran (m : Reading) (world : WorldView) (before sent : Option (List ℕ)) (input ahead : List ℕ) : Type 0 where
   pub done : List (List ℕ)
   pub text : List ℕ
   -- for each limit n on the input, of which r is left
@@ -44,7 +44,7 @@ events_more (l ∷ lines) events line event (inr h) a = inr (record {
 })
 
 -- one event more
-runs_more : (old : Seen) (events : List Event) (picks : List Pick) (text : List ℕ) (mid : Seen) (event : Event) (own : List Pick) (piece : List ℕ) (last : Seen) → Runs old events picks text mid
+runs_more : (old : WorldView) (events : List Event) (picks : List Pick) (text : List ℕ) (mid : WorldView) (event : Event) (own : List Pick) (piece : List ℕ) (last : WorldView) → Runs old events picks text mid
     → Takes mid event own piece last → IsSound last → Runs old (events ++ event ∷ []) (picks ++ own) (text ++ piece) last
 runs_more old [] picks text mid event own piece last h t s = record {
   mid = last;
@@ -54,7 +54,7 @@ runs_more old [] picks text mid event own piece last h t s = record {
   rest = [];
   picked = ap (λ x. x ++ own) h.0 ∙ sym (append-nil own);
   whole = ap (λ x. x ++ piece) h.1 ∙ sym (append-nil piece);
-  takes = subst (λ (w : Seen). Takes w event own piece last) h.2 t;
+  takes = subst (λ (w : WorldView). Takes w event own piece last) h.2 t;
   sound = s;
   others = (refl, refl, refl);
 }
@@ -72,11 +72,11 @@ runs_more old (first ∷ events) picks text mid event own piece last h t s = rec
 }
 
 -- a line is passed over
-pub lines_passed : (done : List (List ℕ)) (text line : List ℕ) (world : Seen) → RunsLines done (picks_in text) text world → IsPassedOver line → RunsLines (done ++ line ∷ []) (picks_in text) text world
+pub lines_passed : (done : List (List ℕ)) (text line : List ℕ) (world : WorldView) → RunsLines done (picks_in text) text world → IsPassedOver line → RunsLines (done ++ line ∷ []) (picks_in text) text world
 lines_passed done text line world h p = record { events = h.events; are = events_passed done h.events line h.are p; run = h.run }
 
 -- the event of a line is taken
-pub lines_more : (done : List (List ℕ)) (text line : List ℕ) (event : Event) (own : List Pick) (piece : List ℕ) (world last : Seen) → RunsLines done (picks_in text) text world → AsksFor line event
+pub lines_more : (done : List (List ℕ)) (text line : List ℕ) (event : Event) (own : List Pick) (piece : List ℕ) (world last : WorldView) → RunsLines done (picks_in text) text world → AsksFor line event
     → Takes world event own piece last → IsSound last → RunsLines (done ++ line ∷ []) (picks_in (text ++ piece)) (text ++ piece) last
 lines_more done text line event own piece world last h a t s =
     let are = events_more done h.events line event h.are a in
@@ -88,7 +88,7 @@ lines_more done text line event own piece world last h a t s =
     }
 
 -- the lines that are left after a line more
-pub lines_on : (m k : Reading) (world : Seen) (before sent : Option (List ℕ)) (input ahead line after : List ℕ) → m.given < k.given → (h : Ran m world before sent input ahead) → GivesLine line m k ahead after
+pub lines_on : (m k : Reading) (world : WorldView) (before sent : Option (List ℕ)) (input ahead line after : List ℕ) → m.given < k.given → (h : Ran m world before sent input ahead) → GivesLine line m k ahead after
     → (r n : ℕ) → n ≡ r + k.given → (k.ended ≡ true → 0 < r) → lines_within n input ≡ (h.done ++ line ∷ []) ++ lines_within r after
 lines_on m k world before sent input ahead line after more h g r n e p =
     let s = (r + k.given) - m.given in
@@ -97,7 +97,7 @@ lines_on m k world before sent input ahead line after more h g r n e p =
     let some : 0 < s = omega arith in
     h.lines s n first (λ _. some) ∙ ap (λ ls. h.done ++ ls) (g.lines r s second p) ∙ sym (append_assoc h.done (line ∷ []) (lines_within r after))
 
-ran_passed : (m k : Reading) (world : Seen) (before sent : Option (List ℕ)) (input ahead line after : List ℕ) → m.given < k.given → Ran m world before sent input ahead → GivesLine line m k ahead after
+ran_passed : (m k : Reading) (world : WorldView) (before sent : Option (List ℕ)) (input ahead line after : List ℕ) → m.given < k.given → Ran m world before sent input ahead → GivesLine line m k ahead after
     → IsPassedOver line → Ran k world before sent input after
 ran_passed m k world before sent input ahead line after more h g p = record {
   done = h.done ++ line ∷ [];
@@ -108,7 +108,7 @@ ran_passed m k world before sent input ahead line after more h g p = record {
   gone = h.gone;
 }
 
-ran_more : (m k : Reading) (world last : Seen) (before sent now : Option (List ℕ)) (input ahead line after : List ℕ) (event : Event) (ok : Bool) → m.given < k.given
+ran_more : (m k : Reading) (world last : WorldView) (before sent now : Option (List ℕ)) (input ahead line after : List ℕ) (event : Event) (ok : Bool) → m.given < k.given
     → Ran m world before sent input ahead → GivesLine line m k ahead after → AsksFor line event → GainsText ok world event sent now last → Ran k last before now input after
 ran_more m k world last before sent now input ahead line after event ok more h g a t = record {
   done = h.done ++ line ∷ [];
@@ -135,17 +135,17 @@ start (Some input) before = record {
 }
 
 -- nothing was taken yet
-pub ran_start : (left before : Option (List ℕ)) (m : Reading) (world : Seen) → m ≡ fresh → world ≡ new_world → WhereTold left (unread m left) (Ran m world before before)
+pub ran_start : (left before : Option (List ℕ)) (m : Reading) (world : WorldView) → m ≡ fresh → world ≡ new_world → WhereTold left (unread m left) (Ran m world before before)
 ran_start left before m world e f = rw (e, f) (start left before)
 
 -- a line that is passed over
-pub turn_passed : (X Y Z before sent : Option (List ℕ)) (m k : Reading) (world : Seen) → m.given < k.given → WhereTold X Y (Ran m world before sent) → WhereTold Y Z (GivesNext Blank m k)
+pub turn_passed : (X Y Z before sent : Option (List ℕ)) (m k : Reading) (world : WorldView) → m.given < k.given → WhereTold X Y (Ran m world before sent) → WhereTold Y Z (GivesNext Blank m k)
     → WhereTold X Z (Ran k world before sent)
 turn_passed X Y Z before sent m k world more h g =
     told_then X Y Z (Ran m world before sent) (GivesNext Blank m k) (Ran k world before sent) h g (λ x y z p q. ran_passed m k world before sent x y q.0 z more p q.1 q.2)
 
 -- a line that asks for an event
-pub turn_event : (X Y Z before sent now : Option (List ℕ)) (m k : Reading) (world last : Seen) (event : Event) (ok : Bool) → m.given < k.given → WhereTold X Y (Ran m world before sent)
+pub turn_event : (X Y Z before sent now : Option (List ℕ)) (m k : Reading) (world last : WorldView) (event : Event) (ok : Bool) → m.given < k.given → WhereTold X Y (Ran m world before sent)
     → WhereTold Y Z (GivesNext (Found event) m k) → GainsText ok world event sent now last → WhereTold X Z (Ran k last before now)
 turn_event X Y Z before sent now m k world last event ok more h g t =
     told_then X Y Z (Ran m world before sent) (GivesNext (Found event) m k) (Ran k last before now) h g (λ x y z p q. ran_more m k world last before sent now x y q.0 z event ok more p q.1 q.2 t)

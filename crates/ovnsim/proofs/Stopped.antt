@@ -2,16 +2,16 @@
 use Rattle.std.proofs.Common.{◌≡◌, ◌+◌, ◌-◌, ◌^◌, ◌<◌, ◌≤◌, ◌++◌, ℕ, Bool, true, false, List, [], ◌∷◌, length, nat_lt, Option, Some, None, IfSome, refl, sym, ap, ◌∙◌, subst, append_assoc, append-nil, arith, lt-ltb, le-ltb, cond}
 use Rattle.std.proofs.lemmas.Bool.{cond-true, cond-false}
 use Rattle.std.specs.Io.KnownBytes.{append_known, IsAtEnd}
-use Rattle.ovn_base.specs.Lines.{lines_within}
-use Rattle.ovn_base.specs.Reading.{Reading, GivesLine, Stops, taken}
-use Rattle.ovn_base.specs.Told.{WhereTold}
+use Rattle.ovn_base.specs.lines.Lines.{lines_within}
+use Rattle.ovn_base.specs.lines.Reading.{Reading, GivesLine, Stops, taken}
+use Rattle.ovn_base.specs.streams.WhereTold.{WhereTold}
 use Rattle.ovn_base.proofs.LineLaws.{within-nil}
-use Rattle.ovn_base.proofs.ToldLaws.{told_then, told_some, append_none, append_twice}
+use Rattle.ovn_base.proofs.WhereToldLaws.{told_then, told_some, append_none, append_twice}
 use Rattle.edit_reader.specs.declared.event.Event.{Event}
 use Rattle.event_lines.specs.Lines.{end_line}
-use Rattle.world_core.specs.Parts.{new_world}
-use Rattle.world_core.specs.Seen.{Seen}
-use Rattle.world_core.specs.State.{events_of}
+use Rattle.world_core.specs.StepParts.{new_world}
+use Rattle.world_core.specs.WorldView.{WorldView}
+use Rattle.world_core.specs.State.{event_count}
 use Rattle.ovnsim.specs.declared.next_event.Next.TheVariants.{Found, End}
 use Rattle.ovnsim.specs.Answers.{Answers, GainsEvents, GainsFront, GainsRead, GainsTexts, GainsToLimit, GainsWhole, end_of, end_within, lines_in, then_last}
 use Rattle.ovnsim.specs.Events.{AsksFor, GivesNext}
@@ -37,18 +37,18 @@ left_some : (m : Reading) → IsBelowLimit m → m.ended ≡ true → 0 < left_o
 left_some m w e = let l = w.below e in omega arith
 
 -- nothing was taken yet
-pub record IsStart (m : Reading) (world : Seen) : Type 0 where
+pub record IsStart (m : Reading) (world : WorldView) : Type 0 where
   pub within : IsBelowLimit m
   pub unbroken : m.faulted ≡ false
   pub not_ended : m.ended ≡ true → ⊥
-  pub events : events_of world.state ≤ m.given
+  pub events : event_count world.state ≤ m.given
   pub accepted : 0 ≡ world.state.accepted
   pub refused : 0 ≡ world.state.refused
 
 fresh_start : IsStart fresh new_world
 fresh_start = record { within = record { limit = omega arith; below = λ e. cc e }; unbroken = refl; not_ended = λ e. cc e; events = omega arith; accepted = refl; refused = refl }
 
-pub starts : (m : Reading) (world : Seen) → m ≡ fresh → world ≡ new_world → IsStart m world
+pub starts : (m : Reading) (world : WorldView) → m ≡ fresh → world ≡ new_world → IsStart m world
 starts m world e f = rw (e, f) fresh_start
 
 -- no text was given
@@ -65,7 +65,7 @@ nothing_done (Some x) before = record {
 }
 
 -- the texts so far stand
-at_memory : (X Y before sent now : Option (List ℕ)) (m : Reading) (world : Seen) → IsBelowLimit m → WhereTold X Y (Ran m world before sent) → now ≡ sent → IfSome X (GainsEvents before now)
+at_memory : (X Y before sent now : Option (List ℕ)) (m : Reading) (world : WorldView) → IsBelowLimit m → WhereTold X Y (Ran m world before sent) → now ≡ sent → IfSome X (GainsEvents before now)
 at_memory X Y before sent now m world w h same =
     told_some X Y (Ran m world before sent) (GainsEvents before now) h (λ x y p. record {
       done = p.done;
@@ -81,7 +81,7 @@ cut_text : (t piece front more z : List ℕ) → piece ≡ front ++ more → (t 
 cut_text t piece front more z e =
     append_assoc t piece z ∙ ap (λ x. t ++ (x ++ z)) e ∙ ap (λ x. t ++ x) (append_assoc front more z) ∙ sym (append_assoc t front (more ++ z))
 
-front_of : (m k : Reading) (world : Seen) (before sent now : Option (List ℕ)) (input ahead line after : List ℕ) (event : Event) → m.given < k.given → IsBelowLimit k → Ran m world before sent input ahead
+front_of : (m k : Reading) (world : WorldView) (before sent now : Option (List ℕ)) (input ahead line after : List ℕ) (event : Event) → m.given < k.given → IsBelowLimit k → Ran m world before sent input ahead
     → GivesLine line m k ahead after → AsksFor line event → GainsCut world event sent now → GainsFront before now input
 front_of m k world before sent now input ahead line after event more w h g a t =
     let rest = lines_within (left_of k) after in record {
@@ -98,7 +98,7 @@ front_of m k world before sent now input ahead line after event more w h g a t =
     }
 
 -- some first bytes of the text of an event
-at_give : (X Y Z before sent now : Option (List ℕ)) (m k : Reading) (world : Seen) (event : Event) → m.given < k.given → IsBelowLimit k → WhereTold X Y (Ran m world before sent)
+at_give : (X Y Z before sent now : Option (List ℕ)) (m k : Reading) (world : WorldView) (event : Event) → m.given < k.given → IsBelowLimit k → WhereTold X Y (Ran m world before sent)
     → WhereTold Y Z (GivesNext (Found event) m k) → GainsCut world event sent now → IfSome X (GainsFront before now)
 at_give X Y Z before sent now m k world event more w h g t =
     let R : List ℕ → List ℕ → Type 0 = λ x z. GainsFront before now x in
@@ -107,7 +107,7 @@ at_give X Y Z before sent now m k world event more w h g t =
     λ x y z p q. front_of m k world before sent now x y q.0 z event more w p q.1 q.2 t)) (λ x z p. p)
 
 -- the lines of the input within the bytes that were taken
-stop_lines : (m k : Reading) (world : Seen) (before sent : Option (List ℕ)) (input ahead left : List ℕ) → m.ended ≡ false → (h : Ran m world before sent input ahead) → Stops m k ahead left
+stop_lines : (m k : Reading) (world : WorldView) (before sent : Option (List ℕ)) (input ahead left : List ℕ) → m.ended ≡ false → (h : Ran m world before sent input ahead) → Stops m k ahead left
     → lines_within (taken k) input ≡ h.done
 stop_lines m k world before sent input ahead left open' h s =
     let r = taken k - m.given in
@@ -116,7 +116,7 @@ stop_lines m k world before sent input ahead left open' h s =
     h.lines r (taken k) first (λ e. cc (sym open' ∙ e)) ∙ ap (λ ls. h.done ++ ls) (s.none r (sym first)) ∙ append-nil h.done
 
 -- the source failed
-at_read : (X Y Z before sent : Option (List ℕ)) (m k : Reading) (world : Seen) → m.ended ≡ false → taken k < 2 ^ 40 → WhereTold X Y (Ran m world before sent) → WhereTold Y Z (Stops m k)
+at_read : (X Y Z before sent : Option (List ℕ)) (m k : Reading) (world : WorldView) → m.ended ≡ false → taken k < 2 ^ 40 → WhereTold X Y (Ran m world before sent) → WhereTold Y Z (Stops m k)
     → WhereTold X Z (GainsRead before sent)
 at_read X Y Z before sent m k world open' few h s =
     told_then X Y Z (Ran m world before sent) (Stops m k) (GainsRead before sent) h s (λ x y z p q.
@@ -131,7 +131,7 @@ at_read X Y Z before sent m k world open' few h s =
     })
 
 -- the input has no end
-at_limit : (X Y Z before sent : Option (List ℕ)) (m k : Reading) (world : Seen) → m.ended ≡ false → taken k ≡ 2 ^ 40 → WhereTold X Y (Ran m world before sent) → WhereTold Y Z (Stops m k)
+at_limit : (X Y Z before sent : Option (List ℕ)) (m k : Reading) (world : WorldView) → m.ended ≡ false → taken k ≡ 2 ^ 40 → WhereTold X Y (Ran m world before sent) → WhereTold Y Z (Stops m k)
     → WhereTold X Z (GainsToLimit before sent)
 at_limit X Y Z before sent m k world open' full h s =
     told_then X Y Z (Ran m world before sent) (Stops m k) (GainsToLimit before sent) h s (λ x y z p q.
@@ -145,14 +145,14 @@ at_limit X Y Z before sent m k world open' full h s =
     })
 
 -- where no next line was found
-pub next_stands : (stop : Stop) (X Y Z before sent : Option (List ℕ)) (m k : Reading) (world : Seen) → IsBelowLimit m → WhereTold X Y (Ran m world before sent) → StopsIn stop m k Y Z → StandsAt stop X Z before sent
+pub next_stands : (stop : Stop) (X Y Z before sent : Option (List ℕ)) (m k : Reading) (world : WorldView) → IsBelowLimit m → WhereTold X Y (Ran m world before sent) → StopsIn stop m k Y Z → StandsAt stop X Z before sent
 next_stands ReadFault X Y Z before sent m k world w h s = at_read X Y Z before sent m k world s.1.not_ended s.0 h s.1.told
 next_stands InputTooLong X Y Z before sent m k world w h s = at_limit X Y Z before sent m k world s.1.not_ended s.0 h s.1.told
 next_stands Memory X Y Z before sent m k world w h s = at_memory X Y before sent sent m world w h refl
 next_stands WriteFault X Y Z before sent m k world w h s = absurd s
 
 -- where the text of an event was not given
-pub give_stands : (stop : Stop) (X Y Z left before sent now : Option (List ℕ)) (m k : Reading) (world : Seen) (event : Event) → m.given < k.given → IsBelowLimit m → IsBelowLimit k → WhereTold X Y (Ran m world before sent)
+pub give_stands : (stop : Stop) (X Y Z left before sent now : Option (List ℕ)) (m k : Reading) (world : WorldView) (event : Event) → m.given < k.given → IsBelowLimit m → IsBelowLimit k → WhereTold X Y (Ran m world before sent)
     → WhereTold Y Z (GivesNext (Found event) m k) → CutsShort stop (GainsCut world event) sent now → StandsAt stop X left before now
 give_stands ReadFault X Y Z left before sent now m k world event more w v h g t = absurd t
 give_stands InputTooLong X Y Z left before sent now m k world event more w v h g t = absurd t
@@ -165,7 +165,7 @@ stays_at_end true c X Z was same seen e = subst IsAtEnd (sym (same refl)) (was r
 stays_at_end false c X Z was same seen e = seen refl e
 
 -- the input ended
-pub at_end : (X Y Z before sent : Option (List ℕ)) (m k : Reading) (world : Seen) → IsBelowLimit m → WhereTold X Y (Ran m world before sent) → WhereTold Y Z (GivesNext End m k)
+pub at_end : (X Y Z before sent : Option (List ℕ)) (m k : Reading) (world : WorldView) → IsBelowLimit m → WhereTold X Y (Ran m world before sent) → WhereTold Y Z (GivesNext End m k)
     → IfSome X (GainsTexts before sent world)
 at_end X Y Z before sent m k world w h g =
     let R : List ℕ → List ℕ → Type 0 = λ x z. GainsTexts before sent world x in
@@ -187,11 +187,11 @@ map_some None P Q p k = tt
 map_some (Some x) P Q p k = k x p
 
 -- the last line of a world
-end_is : (last : Seen) (a r waiting : ℕ) → a ≡ last.state.accepted → r ≡ last.state.refused → waiting ≡ length last.state.waiting → end_line (a + r) a r waiting ≡ end_of last
+end_is : (last : WorldView) (a r waiting : ℕ) → a ≡ last.state.accepted → r ≡ last.state.refused → waiting ≡ length last.state.waiting → end_line (a + r) a r waiting ≡ end_of last
 end_is last a r waiting e f z = rw (e, f, z) refl
 
 -- the last line went out
-pub whole_of : (X before sent now : Option (List ℕ)) (last : Seen) (a r waiting : ℕ) (refused : Bool) → IfSome X (GainsTexts before sent last) → a ≡ last.state.accepted → r ≡ last.state.refused → waiting ≡ length last.state.waiting
+pub whole_of : (X before sent now : Option (List ℕ)) (last : WorldView) (a r waiting : ℕ) (refused : Bool) → IfSome X (GainsTexts before sent last) → a ≡ last.state.accepted → r ≡ last.state.refused → waiting ≡ length last.state.waiting
     → refused ≡ nat_lt 0 r → now ≡ append_known sent (end_line (a + r) a r waiting) → IfSome X (GainsWhole refused before now)
 whole_of X before sent now last a r waiting refused h e f z b g = map_some X (GainsTexts before sent last) (GainsWhole refused before now) h (λ x p. record {
   short = p.short;
@@ -202,11 +202,11 @@ whole_of X before sent now last a r waiting refused h e f z b g = map_some X (Ga
   gone = g ∙ ap (append_known sent) (end_is last a r waiting e f z) ∙ ap (λ s. append_known s (end_of last)) p.gone ∙ append_twice before p.text (end_of last);
 })
 
-end_within-short : (input : List ℕ) (last : Seen) → length input < 2 ^ 40 → end_within input last ≡ end_of last
+end_within-short : (input : List ℕ) (last : WorldView) → length input < 2 ^ 40 → end_within input last ≡ end_of last
 end_within-short input last h = cond-true _ _ _ (lt-ltb (length input) (2 ^ 40) h)
 
 -- some first bytes of the last line went out
-end_cut : (X before sent now : Option (List ℕ)) (last : Seen) (a r waiting : ℕ) → IfSome X (GainsTexts before sent last) → a ≡ last.state.accepted → r ≡ last.state.refused → waiting ≡ length last.state.waiting
+end_cut : (X before sent now : Option (List ℕ)) (last : WorldView) (a r waiting : ℕ) → IfSome X (GainsTexts before sent last) → a ≡ last.state.accepted → r ≡ last.state.refused → waiting ≡ length last.state.waiting
     → WasCut (end_line (a + r) a r waiting) sent now → IfSome X (GainsFront before now)
 end_cut X before sent now last a r waiting h e f z g = map_some X (GainsTexts before sent last) (GainsFront before now) h (λ x p. record {
   done = lines_in x;
@@ -222,7 +222,7 @@ end_cut X before sent now last a r waiting h e f z g = map_some X (GainsTexts be
 })
 
 -- no memory for the last line
-end_memory : (X before sent now : Option (List ℕ)) (last : Seen) → IfSome X (GainsTexts before sent last) → now ≡ sent → IfSome X (GainsEvents before now)
+end_memory : (X before sent now : Option (List ℕ)) (last : WorldView) → IfSome X (GainsTexts before sent last) → now ≡ sent → IfSome X (GainsEvents before now)
 end_memory X before sent now last h same = map_some X (GainsTexts before sent last) (GainsEvents before now) h (λ x p. record {
   done = lines_in x;
   rest = [];
@@ -234,7 +234,7 @@ end_memory X before sent now last h same = map_some X (GainsTexts before sent la
 })
 
 -- where the last line was not given
-pub end_stands : (stop : Stop) (X left before sent now : Option (List ℕ)) (last : Seen) (a r waiting : ℕ) → IfSome X (GainsTexts before sent last) → a ≡ last.state.accepted → r ≡ last.state.refused → waiting ≡ length last.state.waiting
+pub end_stands : (stop : Stop) (X left before sent now : Option (List ℕ)) (last : WorldView) (a r waiting : ℕ) → IfSome X (GainsTexts before sent last) → a ≡ last.state.accepted → r ≡ last.state.refused → waiting ≡ length last.state.waiting
     → CutsShort stop (WasCut (end_line (a + r) a r waiting)) sent now → StandsAt stop X left before now
 end_stands ReadFault X left before sent now last a r waiting h e f z t = absurd t
 end_stands InputTooLong X left before sent now last a r waiting h e f z t = absurd t
@@ -242,13 +242,13 @@ end_stands Memory X left before sent now last a r waiting h e f z t = end_memory
 end_stands WriteFault X left before sent now last a r waiting h e f z t = end_cut X before sent now last a r waiting h e f z t
 
 -- the last line names nothing that was picked
-with_end : (input text : List ℕ) (last : Seen) → RunsLines (lines_in input) (picks_in text) text last → RunsLines (lines_in input) (picks_in (text ++ end_within input last)) text last
+with_end : (input text : List ℕ) (last : WorldView) → RunsLines (lines_in input) (picks_in text) text last → RunsLines (lines_in input) (picks_in (text ++ end_within input last)) text last
 with_end input text last h =
     let whole : AreWholeLines text = run_whole new_world h.events (picks_in text) text last h.run in
     subst (λ ps. RunsLines (lines_in input) ps text last) (sym (by whole (nat_lt (length input) (2 ^ 40)))) h
   where
     by : AreWholeLines text → (t : Bool) → picks_in (text ++ cond t (end_of last) []) ≡ picks_in text
-    by whole true = read.joined text (end_of last) whole ∙ ap (λ ps. picks_in text ++ ps) (read.end (events_of last.state) last.state.accepted last.state.refused (length last.state.waiting)) ∙ append-nil (picks_in text)
+    by whole true = read.joined text (end_of last) whole ∙ ap (λ ps. picks_in text ++ ps) (read.end (event_count last.state) last.state.accepted last.state.refused (length last.state.waiting)) ∙ append-nil (picks_in text)
     by whole false = ap picks_in (append-nil text)
 
 -- an input with an end is answered

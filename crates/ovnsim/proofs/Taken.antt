@@ -5,11 +5,11 @@ use Rattle.edit_reader.specs.declared.event.Event.{Event}
 use Rattle.edit_reader.specs.declared.event.Event.TheVariants.{Edit, Bind, AddChassis, Inject, Deliver, Lose, Repeat, Drain, Packet, Unread, NotBuilt}
 use Rattle.event_lines.specs.declared.refusal.Refusal.{Refusal}
 use Rattle.switch_engine.specs.declared.effect.NetEffect.{NetEffect}
-use Rattle.event_lines.specs.Lines.{lines_of}
+use Rattle.event_lines.specs.Lines.{accepted_lines}
 use Rattle.event_lines.specs.Picks.{picks_of}
 use Rattle.world_core.specs.Outcome.{IsAccepted, IsRefused, matched}
-use Rattle.world_core.specs.Seen.{Seen, IsSound}
-use Rattle.world_core.specs.State.{State, events_of}
+use Rattle.world_core.specs.WorldView.{WorldView, IsSound}
+use Rattle.world_core.specs.State.{State, event_count}
 use Rattle.world_core.specs.Step.{Step, Does, Arrives, Drains, most_arrivals}
 use Rattle.ovnsim.specs.Runs.{Takes, accepts, refuses}
 use Rattle.ovnsim.specs.Taking.{TakesWith, WasCut}
@@ -57,12 +57,12 @@ step_counts m event effects after h =
     let does = does_counts m event effects h.mid h.does in
     (ap (λ (s : State). s.accepted) h.state ∙ ap (λ n. n + 1) does.accepted_are, ap (λ (s : State). s.refused) h.state ∙ does.refused_are)
 
-accepts_from : (old : Seen) (event : Event) (before text : List ℕ) (new : Seen) → before ≡ [] → (h : IsAccepted old event before text new) → Takes old event (picks_of h.effects) text new
+accepts_from : (old : WorldView) (event : Event) (before text : List ℕ) (new : WorldView) → before ≡ [] → (h : IsAccepted old event before text new) → Takes old event (picks_of h.effects) text new
 accepts_from old event before text new empty h =
-    accepts (record { admitted = h.admitted; effects = h.effects; step = h.step; passed = h.passed; zones = h.zones; text = h.text ∙ ap (λ b. b ++ lines_of (events_of old.state + 1) h.effects (matched new.walks)) empty }) refl
+    accepts (record { admitted = h.admitted; effects = h.effects; step = h.step; passed = h.passed; zones = h.zones; text = h.text ∙ ap (λ b. b ++ accepted_lines (event_count old.state + 1) h.effects (matched new.walks)) empty }) refl
 
 -- an accepted event, where the text was empty
-pub takes_accepted : (old : Seen) (event : Event) (before text : List ℕ) (new : Seen) → before ≡ [] → IsAccepted old event before text new × IsSound new → TakesWith true old event text new
+pub takes_accepted : (old : WorldView) (event : Event) (before text : List ℕ) (new : WorldView) → before ≡ [] → IsAccepted old event before text new × IsSound new → TakesWith true old event text new
 takes_accepted old event before text new empty h =
     let counts = step_counts old.state event h.0.effects new.state h.0.step in
     record {
@@ -74,15 +74,15 @@ takes_accepted old event before text new empty h =
     }
 
 -- a refused event, where the text was empty
-pub takes_refused : (old : Seen) (event : Event) (why : Refusal) (before text : List ℕ) (new : Seen) → before ≡ [] → IsRefused old event why before text new × IsSound new → TakesWith false old event text new
+pub takes_refused : (old : WorldView) (event : Event) (why : Refusal) (before text : List ℕ) (new : WorldView) → before ≡ [] → IsRefused old event why before text new × IsSound new → TakesWith false old event text new
 takes_refused old event why before text new empty h =
-    let accepted : new.state.accepted ≡ old.state.accepted = ap (λ (w : Seen). w.state.accepted) h.0.kept in
+    let accepted : new.state.accepted ≡ old.state.accepted = ap (λ (w : WorldView). w.state.accepted) h.0.kept in
     record {
       picks = [];
       takes = refuses why (subst (λ b. IsRefused old event why b text new) empty h.0) refl;
       sound = h.1;
       accepted = omega (arith, accepted);
-      refused = ap (λ (w : Seen). w.state.refused) h.0.kept;
+      refused = ap (λ (w : WorldView). w.state.refused) h.0.kept;
     }
 
 -- some first bytes of a piece went out
@@ -94,7 +94,7 @@ pub was_given : (before after : Option (List ℕ)) (piece whole : List ℕ) → 
 was_given before after piece whole same h = h ∙ ap (append_known before) same
 
 -- one event more
-pub one_more_event : (ok : Bool) (old : Seen) (event : Event) (text : List ℕ) (new : Seen) → TakesWith ok old event text new → events_of new.state ≡ events_of old.state + 1
+pub one_more_event : (ok : Bool) (old : WorldView) (event : Event) (text : List ℕ) (new : WorldView) → TakesWith ok old event text new → event_count new.state ≡ event_count old.state + 1
 one_more_event true old event text new h =
     let a = h.accepted in
     let r = h.refused in omega arith

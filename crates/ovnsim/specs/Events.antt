@@ -1,8 +1,9 @@
 -- The events of an input.
 use Rattle.std.specs.Prelude.{◌≡◌, ◌<◌, ◌≤◌, ◌==◌, ◌||◌, ◌⊎◌, ℕ, Bool, List, [], ◌∷◌, length}
 use Rattle.std.specs.List.{AllPass}
+use Rattle.ovn_base.specs.declared.limits.TheConstants.{MAX_LINE}
 use Rattle.serde_json.specs.Data.{Data}
-use Rattle.ovn_base.specs.Reading.{Reading, Gives, GivesLine}
+use Rattle.ovn_base.specs.lines.Reading.{Reading, Gives, GivesLine}
 use Rattle.ovn_base.specs.declared.next_line.Line.TheVariants as line
 use Rattle.edit_reader.specs.Reads.{ReadsLine, IsReading}
 use Rattle.edit_reader.specs.declared.event.Event.{Event}
@@ -17,14 +18,14 @@ is_blank b = b == 32 || b == 9 || b == 13
 
 -- the line has blanks alone, and no more than a line may have: it is passed over
 pub record IsPassedOver (line : List ℕ) : Type 0 where
-  pub short : length line ≤ 1048576
+  pub short : length line ≤ MAX_LINE
   pub blank : AllPass is_blank line
 
 -- what a line that isn't passed over asks for: over 1,048,576 bytes it is too long, whatever its bytes, and one that is no JSON isn't read
 pub data AsksFor (line : List ℕ) (event : Event) : Type 0 where
-  is_too_long : 1048576 < length line → event ≡ Unread TooLong → AsksFor line event
-  is_no_json : length line ≤ 1048576 → ¬ AllPass is_blank line → ((d : Data) → ¬ IsReading line d) → event ≡ Unread BadJson → AsksFor line event
-  is_read : length line ≤ 1048576 → ¬ AllPass is_blank line → ReadsLine line event → AsksFor line event
+  is_too_long : MAX_LINE < length line → event ≡ Unread TooLong → AsksFor line event
+  is_no_json : length line ≤ MAX_LINE → ¬ AllPass is_blank line → ((d : Data) → ¬ IsReading line d) → event ≡ Unread BadJson → AsksFor line event
+  is_read : length line ≤ MAX_LINE → ¬ AllPass is_blank line → ReadsLine line event → AsksFor line event
 
 -- the line is the first event's, and the others are those of the lines after it
 pub record HasFirst (line : List ℕ) (events : List Event) (Others : List Event → Type 0) : Type 0 where

@@ -1,7 +1,7 @@
 -- Where a run stops, cause by cause.
 use Rattle.std.specs.Prelude.{◌≡◌, ◌≤◌, ℕ, List, Option, Result, Err, IfSome}
-use Rattle.ovn_base.specs.Causes.{Rose}
-use Rattle.ovn_base.specs.Told.{WhereTold}
+use Rattle.ovn_base.specs.streams.Causes.{Rose}
+use Rattle.ovn_base.specs.streams.WhereTold.{WhereTold}
 use Rattle.ovnsim.specs.Answers.{GainsEvents, GainsFront, GainsRead, GainsToLimit}
 use Rattle.ovnsim.specs.declared.run.Stop.{Stop}
 use Rattle.ovnsim.specs.declared.run.Stop.TheVariants.{ReadFault, WriteFault, Memory, InputTooLong}

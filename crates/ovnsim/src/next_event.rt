@@ -1,7 +1,7 @@
 //! The events of a source, one after another.
-ghost use Rattle.ovn_base.specs.Causes.{Rose};
-ghost use Rattle.ovn_base.specs.Reading.{unread};
-ghost use Rattle.ovn_base.specs.Told.{WhereTold};
+ghost use Rattle.ovn_base.specs.streams.Causes.{Rose};
+ghost use Rattle.ovn_base.specs.lines.Reading.{unread};
+ghost use Rattle.ovn_base.specs.streams.WhereTold.{WhereTold};
 ghost use Rattle.std.specs.Io.KnownBytes.{IsAtEnd};
 ghost use Rattle.std.specs.List.{AllPass};
 ghost use Rattle.std.specs.Prelude.{◌≡◌, ◌≤◌, ◌↔◌, false, true, Err, IfErr, IfOk, IsTrue, OnOk, length};
@@ -11,7 +11,8 @@ ghost use Rattle.ovnsim.specs.Next.{GoesOn, IsAdmittedNext, IsBelowLimit, StopsI
 use crate::run::Stop;
 use edit_reader::event::{Event, ReadError, ReadRefusal};
 use edit_reader::read::read_event;
-use ovn_base::line_buf::{LINE_LIMIT, LineBuf};
+use ovn_base::limits::MAX_LINE;
+use ovn_base::line_buf::LineBuf;
 use ovn_base::memory::NoMemory;
 use ovn_base::next_line::{Line, LineFault, next_line};
 use ovn_base::source::Source;
@@ -38,7 +39,7 @@ fn is_blank_line(line: &[u8]) -> bool
 
 /// What a line of at most 1,048,576 bytes is.
 fn next_of(alloc: Global, line: &[u8]) -> Result<Next, NoMemory>
-    requires { length line.now ≤ LINE_LIMIT }
+    requires { length line.now ≤ MAX_LINE }
     ensures asked { IfOk result (AskedBy line.now) }
     ensures admitted { IfOk result IsAdmittedNext }
 {

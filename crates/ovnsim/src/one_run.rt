@@ -4,9 +4,9 @@ ghost use Rattle.std.specs.List.{AllByRecursion};
 ghost use Rattle.edit_reader.specs.declared.event.Event.{Event};
 ghost use Rattle.event_lines.specs.Picks.{Pick};
 ghost use Rattle.world_core.specs.Admitted.{IsAdmitted};
-ghost use Rattle.world_core.specs.Parts.{new_world};
+ghost use Rattle.world_core.specs.StepParts.{new_world};
 ghost use Rattle.world_core.specs.Picks.{Fate, Run};
-ghost use Rattle.world_core.specs.Seen.{Seen};
+ghost use Rattle.world_core.specs.WorldView.{WorldView};
 ghost use Rattle.world_core.specs.State.{empty};
 ghost use Rattle.ovnsim.specs.Events.{AreEvents, AsksFor};
 ghost use Rattle.ovnsim.specs.Runs.{AreTexts, Runs, RunsLines};
@@ -19,14 +19,14 @@ pub fn one_run()
     ensures of_line { (line : List ℕ) (a b : Event) → AsksFor line a → AsksFor line b → a ≡ b }
     ensures of_lines { (lines : List (List ℕ)) (events others : List Event)
         → AreEvents lines events → AreEvents lines others → events ≡ others }
-    ensures of_events { (events : List Event) (picks : List Pick) (text other : List ℕ) (last end : Seen)
+    ensures of_events { (events : List Event) (picks : List Pick) (text other : List ℕ) (last end : WorldView)
         → Runs new_world events picks text last → Runs new_world events picks other end
         → (text ≡ other) × (last.state ≡ end.state) × (last.zones ≡ end.zones) }
-    ensures of_input { (lines : List (List ℕ)) (picks : List Pick) (text other : List ℕ) (last end : Seen)
+    ensures of_input { (lines : List (List ℕ)) (picks : List Pick) (text other : List ℕ) (last end : WorldView)
         → RunsLines lines picks text last → RunsLines lines picks other end
         → (text ≡ other) × (last.state ≡ end.state) × (last.zones ≡ end.zones) }
     ensures admitted { (lines : List (List ℕ)) (events : List Event) → AreEvents lines events → AllByRecursion IsAdmitted events }
-    ensures network { (events : List Event) (picks : List Pick) (text : List ℕ) (last : Seen)
+    ensures network { (events : List Event) (picks : List Pick) (text : List ℕ) (last : WorldView)
         → Runs new_world events picks text last
         → (fates : List Fate) × Run empty events picks fates last.state × AreTexts 1 fates text }
 {}

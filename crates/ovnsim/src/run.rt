@@ -1,12 +1,13 @@
 //! The events of an input, taken one after another.
-ghost use Rattle.ovn_base.specs.Causes.{Rose};
+ghost use Rattle.ovn_base.specs.declared.limits.TheConstants.{MAX_INPUT};
+ghost use Rattle.ovn_base.specs.streams.Causes.{Rose};
 ghost use Rattle.std.specs.Io.KnownBytes.{append_known, IsAtEnd};
 ghost use Rattle.std.specs.Prelude.{◌≡◌, ◌<◌, ◌≤◌, ◌+◌, ◌^◌, [], cond, false, Err, IfErr, IfOk, IfSome, OnOk};
 ghost use Rattle.event_lines.specs.Lines.{end_line};
 ghost use Rattle.world_core.specs.Admitted.{IsAdmitted};
-ghost use Rattle.world_core.specs.Parts.{new_world};
-ghost use Rattle.world_core.specs.Seen.{IsSound, Seen};
-ghost use Rattle.world_core.specs.State.{events_of};
+ghost use Rattle.world_core.specs.StepParts.{new_world};
+ghost use Rattle.world_core.specs.WorldView.{IsSound, WorldView};
+ghost use Rattle.world_core.specs.State.{event_count};
 ghost use Rattle.ovnsim.specs.Answers.{GainsTexts, GainsWhole};
 ghost use Rattle.ovnsim.specs.Stops.{CutsShort, HasCauses, StandsAt};
 ghost use Rattle.ovnsim.specs.Taking.{GainsCut, GainsText, TakesWith, WasCut};
@@ -86,7 +87,7 @@ struct Events;
 /// Takes one event, and answers whether it was accepted. `text` holds its text then.
 fn step(event: &Event, world: &mut World, text: &mut Vec<u8>) -> Result<bool, NoMemory>
     requires sound { IsSound world.old }
-    requires room { events_of world.old.state < 2 ^ 42 }
+    requires room { event_count world.old.state < 2 ^ 42 }
     requires admitted { IsAdmitted event.now }
     ensures { IfOk result (λ is_accepted. TakesWith is_accepted world.old event.now text.new.items world.new) }
 {
@@ -102,7 +103,7 @@ fn step(event: &Event, world: &mut World, text: &mut Vec<u8>) -> Result<bool, No
 /// Takes one event, which is not needed any more, and answers whether it was accepted. `text` holds its text then.
 fn take_event(event: Event, world: &mut World, text: &mut Vec<u8>) -> Result<bool, NoMemory>
     requires sound { IsSound world.old }
-    requires room { events_of world.old.state < 2 ^ 42 }
+    requires room { event_count world.old.state < 2 ^ 42 }
     requires admitted { IsAdmitted event }
     ensures { IfOk result (λ is_accepted. TakesWith is_accepted world.old event text.new.items world.new) }
 {
@@ -117,7 +118,7 @@ fn run_event<K: Sink>(
     sink: &mut K,
 ) -> Result<bool, Stop>
     requires sound { IsSound world.old }
-    requires room { events_of world.old.state < 2 ^ 42 }
+    requires room { event_count world.old.state < 2 ^ 42 }
     requires admitted { IsAdmitted event }
     ensures ok { IfOk result (λ is_accepted.
         GainsText is_accepted world.old event (K.gone sink.old) (K.gone sink.new) world.new) }
@@ -147,7 +148,7 @@ fn run_lines<S: Source, K: Sink>(
         (IfSome (S.left source.old) (GainsTexts (K.gone sink.old) (K.gone sink.new) world.new)) }
     ensures accepted { IfOk result (λ counts. counts.accepted ≡ world.new.state.accepted) }
     ensures refused { IfOk result (λ counts. counts.refused ≡ world.new.state.refused) }
-    ensures few { OnOk result (events_of world.new.state ≤ 2 ^ 40) }
+    ensures few { OnOk result (event_count world.new.state ≤ MAX_INPUT) }
     ensures at_end { OnOk result (IsAtEnd (S.left source.new)) }
     ensures stopped { IfErr result (λ stop.
         StandsAt stop (S.left source.old) (S.left source.new) (K.gone sink.old) (K.gone sink.new)) }

@@ -1,5 +1,5 @@
 //! Standard input and output as a source and a sink.
-ghost use Rattle.ovn_base.specs.Causes.{HasCause};
+ghost use Rattle.ovn_base.specs.streams.Causes.{HasCause};
 ghost use Rattle.std.specs.Io.KnownBytes.{IsAtEnd, append_known, prepend_known};
 ghost use Rattle.std.specs.Prelude.{IfOk, None, OnErr, OnOk, length, take, ℕ, ◌<◌, ◌≡◌, ◌≤◌};
 

@@ -1,6 +1,6 @@
 //! The program as one call.
-ghost use Rattle.ovn_base.specs.Causes.{Rose};
-ghost use Rattle.ovn_base.specs.Told.{WhereTold};
+ghost use Rattle.ovn_base.specs.streams.Causes.{Rose};
+ghost use Rattle.ovn_base.specs.streams.WhereTold.{WhereTold};
 ghost use Rattle.std.specs.Prelude.{◌≡◌, ◌≢◌, ◌==◌, ◌↔◌, ◌∷◌, [], IfSome, IsTrue, codes, false, map, string_bytes, true};
 ghost use Rattle.std.specs.Io.KnownBytes.{IsAtEnd};
 ghost use Rattle.std.specs.List.{list_any};

@@ -6,7 +6,7 @@ use Rattle.std.proofs.Math.Dec.{eqb as nat_eq}
 use Rattle.std.proofs.Math.Nat.{mul-le-mul_right, suc-mul}
 use Rattle.std.proofs.lemmas.List.{length-append, length-map}
 use Rattle.std.proofs.lemmas.List.Sums.{count_by-le-length, length-filter}
-use Rattle.ovn_base.specs.Among.{Among}
+use Rattle.ovn_base.specs.lists.Among.{Among}
 use Rattle.ovn_base.proofs.AmongLaws.{among_cases, among_none}
 use Rattle.inet_packet.specs.Fits.{CubeFits}
 use Rattle.flow_table.specs.declared.flow.Flow.{Flow}

@@ -1,6 +1,7 @@
 -- What the actions of a flow bring on.
 use Rattle.std.specs.Prelude.{ℕ, ◌-◌, cond, not, List, [], ◌∷◌, ◌++◌, map, filter, bit_and, bit_or}
 use Rattle.std.proofs.Math.Dec.{eqb as nat_eq, leb as nat_le}
+use Rattle.ovn_base.specs.declared.stages.TheConstants.{LOOKUP_TABLE, LOOPBACK_TABLE}
 use Rattle.ovn_base.specs.declared.name.Name.{Name}
 use Rattle.inet_packet.specs.declared.regs.Reg.{Reg}
 use Rattle.inet_packet.specs.declared.regs.Reg.TheVariants.{Dp, InPort, OutPort, Next, ZIn, ZOut, ZDnat, ZSnat, State, Verdict, Tier, Loopback, Tracked, Blocked, Own, Arrived}
@@ -46,7 +47,7 @@ with_header (Tunnel vni in_key out_key) regs = record regs { dp = vni; in_port =
 
 -- a drop names the port of entry up to the last look-up, in table 14, and the port of exit later
 abbrev pub drop_at : ℕ → Cause → Regs → Effect
-drop_at table cause regs = effect.Drop regs.dp (cond (nat_le table 14) regs.in_port regs.out_port) cause
+drop_at table cause regs = effect.Drop regs.dp (cond (nat_le table LOOKUP_TABLE) regs.in_port regs.out_port) cause
 
 -- a frame carries the keys of the datapath and of the two ports
 abbrev pub frame_to : Name → Carried → Effect
@@ -58,7 +59,7 @@ gone_on table copy = record copy { from = copy.table; table = table }
 
 -- the copy for a member goes to the member's port, and on at table 34
 abbrev pub copy_for : Carried → Member → Carried
-copy_for copy member = gone_on 34 (record copy { regs = record copy.regs { out_port = member.key; z_out = member.zone } })
+copy_for copy member = gone_on LOOPBACK_TABLE (record copy { regs = record copy.regs { out_port = member.key; z_out = member.zone } })
 
 -- one copy for each member but the port of entry, in order
 abbrev pub copies_for : Carried → List Member → List Carried

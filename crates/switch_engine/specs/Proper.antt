@@ -1,7 +1,9 @@
 -- Which flows are proper: from them each walk ends.
 use Rattle.std.specs.Prelude.{◌≡◌, ◌<◌, ℕ, ◌-◌, ◌*◌, ◌^◌, List, [], ◌∷◌, bit_and}
 use Rattle.std.specs.List.{AllByRecursion}
-use Rattle.ovn_base.specs.Among.{Among}
+use Rattle.ovn_base.specs.declared.stages.TheConstants.{LOOPBACK_TABLE}
+use Rattle.ovn_base.specs.declared.limits.TheConstants.{FLOOD_KEY}
+use Rattle.ovn_base.specs.lists.Among.{Among}
 use Rattle.inet_packet.specs.declared.cube.Bits.{Bits}
 use Rattle.inet_packet.specs.declared.cube.Cube.{Cube}
 use Rattle.inet_packet.specs.declared.regs.Reg.{Reg}
@@ -76,7 +78,7 @@ asked Arrived cube = cube.flags
 -- the number lies within the register, and that of the port of entry is one of a port, not of a group
 pub record CanBeSet (reg : Reg) (n : ℕ) : Type 0 where
   pub within : n < 2 ^ width reg
-  pub of_port : reg ≡ InPort → n < 32768
+  pub of_port : reg ≡ InPort → n < FLOOD_KEY
 
 -- an action that may stand in a flow of the table: it sets what can be set, and goes on at later tables alone; copies, which
 -- go on at table 34, are made before it
@@ -86,7 +88,7 @@ Rises table (Go next) = table < next
 Rises table (Drop cause) = Unit {0}
 Rises table Header = Unit {0}
 Rises table (Frame chassis) = Unit {0}
-Rises table (Copies members) = table < 34
+Rises table (Copies members) = table < LOOPBACK_TABLE
 Rises table (Output port) = Unit {0}
 
 -- an action that sets no register beyond what can be set in it

@@ -1,6 +1,7 @@
 -- How a packet goes from table to table.
 use Rattle.std.specs.Prelude.{◌≡◌, ℕ, cond, List, [], ◌∷◌, ◌++◌}
 use Rattle.std.proofs.Math.Dec.{eqb as nat_eq}
+use Rattle.ovn_base.specs.declared.stages.TheConstants.{LOCAL_TABLE}
 use Rattle.inet_packet.specs.declared.packet.Packet.{Packet}
 use Rattle.inet_packet.specs.declared.regs.At.{At}
 use Rattle.inet_packet.specs.declared.regs.At.TheVariants as at
@@ -51,7 +52,7 @@ stray (Tunnel vni in_key out_key) copy = cond (nat_eq copy.from 0) Lost (drop_at
 
 -- what becomes of a copy that no flow of its table matches: in table 33 its port is at home nowhere, elsewhere it ends
 abbrev pub unmatched : Entry → Carried → List Effect
-unmatched entry copy = cond (nat_eq copy.table 33) (stray entry copy ∷ []) []
+unmatched entry copy = cond (nat_eq copy.table LOCAL_TABLE) (stray entry copy ∷ []) []
 
 -- the copies that are left may match these flows in turn at the time, with these effects, each copy going to its end before the next begins
 pub data IsWalk (flows : List Flow) (entry : Entry) (now : ℕ) : List Carried → List Step → List Effect → Type 0 where

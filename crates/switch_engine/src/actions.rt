@@ -13,12 +13,7 @@ use inet_packet::regs::{Reg, RegFlags, Regs};
 use ovn_base::list::List;
 use ovn_base::memory::NoMemory;
 use ovn_base::name::Name;
-
-// The table of the last look-up on the way in.
-const LAST_OF_ENTRY: u8 = 14;
-
-// The table to which the copies for the members of a group go.
-const TO_MEMBER: u8 = 34;
+use ovn_base::stages::{LOOKUP_TABLE, LOOPBACK_TABLE};
 
 // The flags, with one of them cleared at 0 and set otherwise.
 fn with_flag(flags: RegFlags, flag: RegFlags, value: u32) -> RegFlags
@@ -78,7 +73,7 @@ pub(crate) fn dropped(table: u8, cause: Cause, regs: &Regs) -> Effect
     requires { IsInRange regs.now }
     ensures { result ≡ drop_at table cause regs.now }
 {
-    let port = if table <= LAST_OF_ENTRY {
+    let port = if table <= LOOKUP_TABLE {
         regs.in_port
     } else {
         regs.out_port
@@ -121,7 +116,7 @@ fn copy_to(members: &[Member], copy: &Carried, made: &mut List<Carried>) -> Resu
         regs.z_out = u32::from(member.zone);
         made.push(Carried {
             from: copy.table,
-            table: TO_MEMBER,
+            table: LOOPBACK_TABLE,
             regs,
             packet: copy.packet.copy()?,
         })?;

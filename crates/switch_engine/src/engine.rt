@@ -18,10 +18,8 @@ use inet_packet::packet::Packet;
 use inet_packet::regs::{At, RegFlags, Regs};
 use ovn_base::list::List;
 use ovn_base::memory::NoMemory;
+use ovn_base::stages::LOCAL_TABLE;
 use std::alloc::Global;
-
-// The table that finds the local port to which a packet goes.
-const LOCAL_OUT: u8 = 33;
 
 // The packet as it comes to table 0.
 fn at_start(entry: &Entry, packet: Packet) -> Carried
@@ -60,7 +58,7 @@ fn end_unmatched(entry: &Entry, copy: &Carried, effects: &mut List<Effect>) -> R
     ensures ok { OnOk result (effects.new ≡ effects.old ++ unmatched entry.now copy.now) }
     ensures err { OnErr result (Extends effects.old effects.new) }
 {
-    if copy.table != LOCAL_OUT {
+    if copy.table != LOCAL_TABLE {
         return Ok(());
     }
     let effect = match *entry {

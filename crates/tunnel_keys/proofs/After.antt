@@ -3,9 +3,9 @@ use Rattle.std.specs.Prelude.{◌≡◌, ◌≤◌, ◌<◌, ◌↔◌, not, Lis
 use mathlib.Core.Path.{sym, ap, subst, ◌∙◌}
 use Rattle.std.specs.List.{AllByRecursion, filter, filter_map}
 use Rattle.std.specs.List.Sorted.{IsStrictlySortedBy}
-use Rattle.ovn_base.specs.Among.{Among}
+use Rattle.ovn_base.specs.lists.Among.{Among}
 use Rattle.ovn_base.specs.declared.name.Name.{Name}
-use Rattle.ovn_base.specs.ByName.{put_all, in_order, IsByName}
+use Rattle.ovn_base.specs.names.ByName.{put_all, in_order, IsByName}
 use Rattle.tunnel_keys.specs.Owners.{is_listed, datapaths_in}
 use Rattle.tunnel_keys.specs.Order.{IsInOrder}
 use Rattle.tunnel_keys.specs.Keys.{Keys, IsKeys, retire, datapath_owner, port_owner, held_datapath, held_port, free_datapath_keys}

@@ -8,11 +8,11 @@ use Rattle.std.specs.Map.{keys_of}
 use Rattle.std.specs.Cmp.Lexicographic.{slice_cmp}
 use Rattle.std.specs.Ordering.{nat_cmp}
 use Rattle.std.specs.declared.cmp.Ordering.TheVariants.{Less}
-use Rattle.ovn_base.specs.Among.{Among, here, there}
+use Rattle.ovn_base.specs.lists.Among.{Among, here, there}
 use Rattle.ovn_base.proofs.AmongLaws.{among_none, among_cases, among_map, map_among}
 use Rattle.ovn_base.specs.declared.name.Name.{Name}
 use Rattle.ovn_base.specs.declared.address.Birth.{Birth}
-use Rattle.ovn_base.specs.ByName.{at, IsByName}
+use Rattle.ovn_base.specs.names.ByName.{at, IsByName}
 use Rattle.tunnel_keys.specs.Owners.{is_listed}
 use Rattle.tunnel_keys.specs.Keys.{Keys, IsKeys, retire, port_owner, datapath_owner, free_datapath_keys, free_port_keys}
 use Rattle.tunnel_keys.specs.Edits.{IsAfter, IsLive, IsThereAfter, GivesKeys, GivesLeastKeys, GivesLeastDatapathKeys, GivesLeastPortKeys}
@@ -24,7 +24,7 @@ use Rattle.tunnel_keys.specs.declared.owner.HeldDatapath.{HeldDatapath}
 use Rattle.tunnel_keys.specs.declared.owner.HeldPort.{HeldPort}
 use Rattle.tunnel_keys.specs.declared.owner.KeyOwner.{KeyOwner}
 use Rattle.tunnel_keys.specs.declared.owner.KeyOwner.TheVariants.{Datapath, Port}
-use Rattle.ovn_base.proofs.Puts.{at_among, among_at, above_among, below_apart}
+use Rattle.ovn_base.proofs.ByNameLaws.{at_among, among_at, above_among, below_apart}
 use Rattle.tunnel_keys.proofs.Lists.{at_filter, filter_at}
 use Rattle.tunnel_keys.proofs.Faults.{not_both}
 use Rattle.tunnel_keys.proofs.Ordered.{one_order}

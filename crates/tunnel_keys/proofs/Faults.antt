@@ -10,11 +10,11 @@ use Rattle.std.specs.List.{AllByRecursion}
 use Rattle.std.specs.List.Sorted.{IsStrictlySortedBy}
 use Rattle.std.proofs.lemmas.Bool.{true≢false}
 use Rattle.std.proofs.lemmas.Cmp.{nat_list_cmp_total}
-use Rattle.ovn_base.specs.Among.{Among}
+use Rattle.ovn_base.specs.lists.Among.{Among}
 use Rattle.ovn_base.proofs.AmongLaws.{among_all, among_append, among_cases, split_among}
 use Rattle.ovn_base.specs.declared.name.Name.{Name}
 use Rattle.ovn_base.specs.declared.address.Birth.{Birth}
-use Rattle.ovn_base.specs.ByName.{in_order, IsByName}
+use Rattle.ovn_base.specs.names.ByName.{in_order, IsByName}
 use Rattle.tunnel_keys.specs.Owners.{datapaths_in, ports_in}
 use Rattle.tunnel_keys.specs.Keys.{Keys, IsKeys, retire, free_datapath_keys, free_port_keys, free_in, taken_ports}
 use Rattle.tunnel_keys.specs.Edits.{IsEdit}
@@ -27,7 +27,7 @@ use Rattle.tunnel_keys.specs.declared.owner.DatapathKey.{DatapathKey}
 use Rattle.tunnel_keys.specs.declared.owner.PortKey.{PortKey}
 use Rattle.tunnel_keys.specs.declared.owner.HeldPort.{HeldPort}
 use Rattle.tunnel_keys.specs.declared.owner.KeyOwner.{KeyOwner}
-use Rattle.ovn_base.proofs.Puts.{at_among, among_at, below_apart, above_among}
+use Rattle.ovn_base.proofs.ByNameLaws.{at_among, among_at, below_apart, above_among}
 use Rattle.tunnel_keys.proofs.Planned.{all_datapaths, all_datapaths_sorted, HasRoom, datapaths_count, ports_count, there_datapath, found_datapath}
 
 -- a name behind another in order is above it

@@ -20,12 +20,12 @@ use Rattle.std.specs.Map.{keys_of}
 use Rattle.std.specs.declared.cmp.Ordering.TheVariants.{Less}
 use Rattle.std.specs.Cmp.Lexicographic.{slice_cmp}
 use Rattle.std.specs.Ordering.{nat_cmp}
-use Rattle.ovn_base.specs.Among.{Among, here, there}
+use Rattle.ovn_base.specs.lists.Among.{Among, here, there}
 use Rattle.ovn_base.proofs.AmongLaws.{among_same, among_none, among_cases, among_append, filter_among, among_member, member_among, all_among, among_take, get_among, among_get}
 use Rattle.ovn_base.specs.declared.name.Name.{Name}
 use Rattle.ovn_base.specs.declared.address.Birth.{Birth}
-use Rattle.ovn_base.specs.ByName.{IsByName}
-use Rattle.ovn_base.specs.Once.{EachOnce}
+use Rattle.ovn_base.specs.names.ByName.{IsByName}
+use Rattle.ovn_base.specs.lists.Once.{EachOnce}
 use Rattle.std.proofs.Common.{append_assoc, length-append}
 use Rattle.tunnel_keys.specs.Keys.{numbers_to, free_in, free_one, IsFreeIn}
 use Rattle.tunnel_keys.specs.Giving.{with_keys}

@@ -5,14 +5,14 @@ use mathlib.Core.Logic.{inl, inr}
 use Rattle.std.specs.List.{filter, filter_map}
 use Rattle.std.specs.List.Sorted.{IsStrictlySortedBy}
 use Rattle.std.proofs.lemmas.Option.{same_Some}
-use Rattle.ovn_base.specs.Among.{Among}
+use Rattle.ovn_base.specs.lists.Among.{Among}
 use Rattle.ovn_base.proofs.AmongLaws.{among_none, among_left, among_right, among_append, among_map, map_among, among_filter, filter_among, among_filter_map, filter_map_among}
 use Rattle.ovn_base.specs.declared.name.Name.{Name}
-use Rattle.ovn_base.specs.ByName.{at, IsByName}
-use Rattle.ovn_base.specs.SameName.{same_name}
+use Rattle.ovn_base.specs.names.ByName.{at, IsByName}
+use Rattle.ovn_base.specs.names.SameName.{same_name}
 use Rattle.tunnel_keys.specs.Same.{same_identity, name_own, identity_own}
 use Rattle.tunnel_keys.specs.Owners.{is_listed, ports_in}
-use Rattle.ovn_base.specs.ByName.{in_order}
+use Rattle.ovn_base.specs.names.ByName.{in_order}
 use Rattle.tunnel_keys.specs.Order.{IsByIdentity, IsInOrder}
 use Rattle.tunnel_keys.specs.Keys.{Keys, IsKeys, no_keys, settled, retire, datapath_owner, port_owner, held_datapath, held_port, held_datapaths, held_ports, free_datapath_keys, free_port_keys, taken_datapaths, taken_ports, IsFreeIn}
 use Rattle.tunnel_keys.specs.Edits.{IsEdit}
@@ -25,7 +25,7 @@ use Rattle.tunnel_keys.specs.declared.owner.HeldDatapath.{HeldDatapath}
 use Rattle.tunnel_keys.specs.declared.owner.HeldPort.{HeldPort}
 use Rattle.tunnel_keys.specs.declared.owner.KeyOwner.{KeyOwner}
 use Rattle.tunnel_keys.specs.declared.owner.KeyOwner.TheVariants.{Datapath, Port}
-use Rattle.ovn_base.proofs.Puts.{at_among, among_at}
+use Rattle.ovn_base.proofs.ByNameLaws.{at_among, among_at}
 use Rattle.tunnel_keys.proofs.Held.{found, is_found, on_datapath_key, held_port_is, is_held_port}
 use Rattle.tunnel_keys.proofs.Lists.{put_all_sorted}
 use Rattle.tunnel_keys.proofs.FreeKeys.{free_is_free, free_once, with_keys_apart}

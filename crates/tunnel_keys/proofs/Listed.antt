@@ -9,12 +9,12 @@ use Rattle.std.specs.Ordering.{nat_cmp}
 use Rattle.std.specs.List.Sorted.{IsStrictlySortedBy}
 use Rattle.ovn_base.specs.declared.name.Name.{Name}
 use Rattle.ovn_base.specs.declared.ports.Ports.{Ports}
-use Rattle.ovn_base.specs.ByName.{at, in_order, IsByName}
+use Rattle.ovn_base.specs.names.ByName.{at, in_order, IsByName}
 use Rattle.tunnel_keys.specs.Keys.{ports_on}
 use Rattle.tunnel_keys.specs.Giving.{lists_of}
 use Rattle.tunnel_keys.specs.declared.owner.DatapathKey.{DatapathKey}
 use Rattle.tunnel_keys.specs.declared.owner.PortKey.{PortKey}
-use Rattle.ovn_base.proofs.Puts.{one_or_two, at_head, at_tail}
+use Rattle.ovn_base.proofs.ByNameLaws.{one_or_two, at_head, at_tail}
 use Rattle.tunnel_keys.proofs.Lists.{in_order_same}
 
 abbrev pub list_on : List (Name × PortKey) → Name → Ports

@@ -12,12 +12,12 @@ use Rattle.std.specs.List.Sorted.{IsStrictlySortedBy}
 use Rattle.std.proofs.lemmas.Cmp.{nat_list_cmp_total}
 use Rattle.std.proofs.Common.{append_assoc}
 use Rattle.std.proofs.lemmas.Option.{none-some}
-use Rattle.ovn_base.specs.Among.{Among, here, there}
+use Rattle.ovn_base.specs.lists.Among.{Among, here, there}
 use Rattle.ovn_base.proofs.AmongLaws.{among_same, among_none, among_cases, among_append, among_filter, filter_among}
 use Rattle.ovn_base.specs.declared.name.Name.{Name}
-use Rattle.ovn_base.specs.ByName.{at, put, put_all, in_order, IsByName}
-use Rattle.ovn_base.specs.Once.{EachOnce}
-use Rattle.ovn_base.proofs.Puts.{one_or_two, at_head, at_tail, put_there, put_other, put_cases, put_length, put_sorted, at_among, among_at}
+use Rattle.ovn_base.specs.names.ByName.{at, put, put_all, in_order, IsByName}
+use Rattle.ovn_base.specs.lists.Once.{EachOnce}
+use Rattle.ovn_base.proofs.ByNameLaws.{one_or_two, at_head, at_tail, put_there, put_other, put_cases, put_length, put_sorted, at_among, among_at}
 
 -- ---- each once
 

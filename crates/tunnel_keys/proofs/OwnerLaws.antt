@@ -5,12 +5,12 @@ use mathlib.Core.Logic.{inl, inr}
 use Rattle.std.specs.List.{cons_option}
 use Rattle.std.proofs.lemmas.Bool.{true≢false}
 use Rattle.std.proofs.lemmas.Option.{none-some, same_Some}
-use Rattle.ovn_base.specs.Among.{Among, here, there}
+use Rattle.ovn_base.specs.lists.Among.{Among, here, there}
 use Rattle.ovn_base.proofs.AmongLaws.{among_cases, among_none, among_any, any_among, filter_map_among, among_filter_map}
 use Rattle.ovn_base.specs.declared.name.Name.{Name}
 use Rattle.ovn_base.specs.declared.address.Birth.{Birth}
-use Rattle.ovn_base.specs.SameName.{same_name}
-use Rattle.ovn_base.specs.Once.{EachOnce}
+use Rattle.ovn_base.specs.names.SameName.{same_name}
+use Rattle.ovn_base.specs.lists.Once.{EachOnce}
 use Rattle.tunnel_keys.specs.Same.{same_owner, owner_exact, owner_own, name_exact, name_own}
 use Rattle.tunnel_keys.specs.Owners.{is_listed, as_datapath, as_port_of, datapaths_in, ports_in}
 use Rattle.tunnel_keys.specs.declared.owner.KeyOwner.{KeyOwner}

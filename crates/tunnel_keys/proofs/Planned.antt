@@ -4,11 +4,11 @@ use mathlib.Core.Path.{sym, ap, subst, ◌∙◌}
 use mathlib.Core.Logic.{inl, inr}
 use Rattle.std.specs.List.{AllByRecursion}
 use Rattle.std.proofs.lemmas.Option.{same_Some}
-use Rattle.ovn_base.specs.Among.{Among}
+use Rattle.ovn_base.specs.lists.Among.{Among}
 use Rattle.ovn_base.proofs.AmongLaws.{among_left, among_map, among_all, among_flat_map, flat_map_among}
 use Rattle.ovn_base.specs.declared.name.Name.{Name}
 use Rattle.ovn_base.specs.declared.address.Birth.{Birth}
-use Rattle.ovn_base.specs.ByName.{at, put_all, in_order, IsByName}
+use Rattle.ovn_base.specs.names.ByName.{at, put_all, in_order, IsByName}
 use Rattle.tunnel_keys.specs.Owners.{is_listed, datapaths_in, ports_in}
 use Rattle.tunnel_keys.specs.Order.{IsInOrder}
 use Rattle.tunnel_keys.specs.Keys.{Keys, IsKeys, retire, datapath_owner, port_owner, held_datapath, free_datapath_keys, free_port_keys, taken_datapaths, taken_ports}
@@ -20,7 +20,7 @@ use Rattle.tunnel_keys.specs.declared.owner.HeldDatapath.{HeldDatapath}
 use Rattle.tunnel_keys.specs.declared.owner.HeldPort.{HeldPort}
 use Rattle.tunnel_keys.specs.declared.owner.KeyOwner.{KeyOwner}
 use Rattle.tunnel_keys.specs.declared.owner.KeyOwner.TheVariants.{Datapath, Port}
-use Rattle.ovn_base.proofs.Puts.{at_among, among_at}
+use Rattle.ovn_base.proofs.ByNameLaws.{at_among, among_at}
 use Rattle.tunnel_keys.proofs.Held.{live_owner_held}
 use Rattle.tunnel_keys.proofs.Lists.{put_all_sorted, put_all_other, put_all_cases, put_all_there, in_order_sorted, in_order_among, among_in_order, in_order_length, filter_sorted, at_filter, filter_at, NamesOnce}
 use Rattle.tunnel_keys.proofs.FreeKeys.{free_is_free, with_keys_there, with_keys_cases, with_keys_sorted, with_keys_first}

@@ -10,7 +10,7 @@ use Rattle.std.proofs.Common.{length-append}
 use Rattle.std.proofs.lemmas.Bool.{cases_lt}
 use Rattle.std.proofs.lemmas.Bool.Decides.{Decides-eqb}
 use Rattle.std.proofs.lemmas.Map.Steps.{le-length_from_below}
-use Rattle.ovn_base.specs.Among.{Among, here, there}
+use Rattle.ovn_base.specs.lists.Among.{Among, here, there}
 use Rattle.ovn_base.proofs.AmongLaws.{among_left, among_right, among_same, among_filter, among_member, member_among}
 use Rattle.tunnel_keys.specs.Keys.{Keys, numbers_to, free_in, retire, held_datapath, held_port}
 use Rattle.tunnel_keys.proofs.Lists.{append_none}

@@ -3,12 +3,12 @@ use Rattle.std.specs.Prelude.{◌≡◌, ◌≢◌, [], ◌∷◌, None, IsSome}
 use mathlib.Core.Path.{sym, ap, subst, ◌∙◌}
 use mathlib.Core.Logic.{inl, inr}
 use Rattle.std.proofs.lemmas.Option.{none-some, same_Some}
-use Rattle.ovn_base.specs.Among.{Among}
+use Rattle.ovn_base.specs.lists.Among.{Among}
 use Rattle.ovn_base.specs.declared.address.Birth.{Birth}
 use Rattle.ovn_base.specs.declared.name.Name.{Name}
-use Rattle.ovn_base.specs.ByName.{at}
+use Rattle.ovn_base.specs.names.ByName.{at}
 use Rattle.ovn_base.proofs.AmongLaws.{among_none}
-use Rattle.ovn_base.proofs.Puts.{at_among}
+use Rattle.ovn_base.proofs.ByNameLaws.{at_among}
 use Rattle.tunnel_keys.specs.Edits.{IsEdit, IsLive, IsNew, IsThereAfter}
 use Rattle.tunnel_keys.specs.Keys.{Keys, IsKeys}
 use Rattle.tunnel_keys.specs.declared.owner.DatapathKey.{DatapathKey}

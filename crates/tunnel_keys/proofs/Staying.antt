@@ -4,11 +4,11 @@ use mathlib.Core.Path.{sym, ap, subst, ◌∙◌}
 use mathlib.Core.Logic.{inl, inr}
 use Rattle.std.specs.List.{filter, filter_map}
 use Rattle.std.proofs.lemmas.Option.{same_Some}
-use Rattle.ovn_base.specs.Among.{Among}
+use Rattle.ovn_base.specs.lists.Among.{Among}
 use Rattle.ovn_base.proofs.AmongLaws.{among_append, among_left, among_right, among_filter, among_filter_map, among_map, filter_map_among, map_among}
 use Rattle.ovn_base.specs.declared.name.Name.{Name}
-use Rattle.ovn_base.specs.ByName.{at}
-use Rattle.ovn_base.proofs.Puts.{at_among, among_at}
+use Rattle.ovn_base.specs.names.ByName.{at}
+use Rattle.ovn_base.proofs.ByNameLaws.{at_among, among_at}
 use Rattle.tunnel_keys.specs.Owners.{is_listed}
 use Rattle.tunnel_keys.specs.Keys.{Keys, IsKeys, retire, datapath_owner, port_owner, held_datapath, held_datapaths, held_port, held_ports}
 use Rattle.tunnel_keys.specs.Edits.{GivesKeys, IsMoved}

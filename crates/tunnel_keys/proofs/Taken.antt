@@ -4,8 +4,8 @@ use mathlib.Core.Path.{sym, ap, ◌∙◌}
 use Rattle.std.specs.List.{filter}
 use Rattle.ovn_base.specs.declared.name.Name.{Name}
 use Rattle.ovn_base.specs.declared.address.Birth.{Birth}
-use Rattle.ovn_base.specs.ByName.{in_order}
-use Rattle.ovn_base.specs.SameName.{same_name}
+use Rattle.ovn_base.specs.names.ByName.{in_order}
+use Rattle.ovn_base.specs.names.SameName.{same_name}
 use Rattle.tunnel_keys.specs.Same.{same_birth, same_identity}
 use Rattle.tunnel_keys.specs.Owners.{ports_in}
 use Rattle.tunnel_keys.specs.Keys.{ports_on, free_in, taken_ports}

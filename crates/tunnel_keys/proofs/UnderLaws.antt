@@ -4,11 +4,11 @@ use mathlib.Core.Path.{sym, ap, ◌∙◌}
 use mathlib.Core.Logic.{inl, inr}
 use Rattle.std.specs.Option.{unwrap_or}
 use Rattle.ovn_base.specs.declared.name.Name.{Name}
-use Rattle.ovn_base.specs.ByName.{at, put}
+use Rattle.ovn_base.specs.names.ByName.{at, put}
 use Rattle.tunnel_keys.specs.Grouped.{under}
-use Rattle.ovn_base.specs.SameName.{same_name}
+use Rattle.ovn_base.specs.names.SameName.{same_name}
 use Rattle.tunnel_keys.specs.Same.{name_exact, name_own}
-use Rattle.ovn_base.proofs.Puts.{one_or_two, put_there, put_other}
+use Rattle.ovn_base.proofs.ByNameLaws.{one_or_two, put_there, put_other}
 use Rattle.tunnel_keys.proofs.Lists.{append_none}
 
 apart_false : (a b : Name) → a ≢ b → same_name a b ≡ false

@@ -1,6 +1,6 @@
 -- When the owners of keys were born.
 use Rattle.std.specs.Prelude.{◌≤◌, ℕ}
-use Rattle.ovn_base.specs.Among.{Among}
+use Rattle.ovn_base.specs.lists.Among.{Among}
 use Rattle.tunnel_keys.specs.Keys.{Keys, held_datapaths, held_ports}
 use Rattle.tunnel_keys.specs.declared.owner.HeldDatapath.{HeldDatapath}
 use Rattle.tunnel_keys.specs.declared.owner.HeldPort.{HeldPort}

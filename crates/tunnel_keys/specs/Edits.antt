@@ -1,10 +1,10 @@
 -- What an edit that adds and removes owners does to the keys.
 use Rattle.std.specs.Prelude.{◌≡◌, ◌≢◌, ℕ, ◌⊎◌, List, map, length, take, Some, ◌↔◌}
-use Rattle.ovn_base.specs.Among.{Among}
+use Rattle.ovn_base.specs.lists.Among.{Among}
 use Rattle.ovn_base.specs.declared.name.Name.{Name}
 use Rattle.ovn_base.specs.declared.address.Birth.{Birth}
-use Rattle.ovn_base.specs.ByName.{at, IsByName}
-use Rattle.ovn_base.specs.Once.{EachOnce}
+use Rattle.ovn_base.specs.names.ByName.{at, IsByName}
+use Rattle.ovn_base.specs.lists.Once.{EachOnce}
 use Rattle.tunnel_keys.specs.Order.{IsInOrder}
 use Rattle.tunnel_keys.specs.Keys.{Keys, IsKeys, retire, held_datapaths, held_ports, IsLegalDatapathKey, IsLegalPortKey, free_datapath_keys, free_port_keys}
 use Rattle.tunnel_keys.specs.declared.owner.Identity.{Identity}

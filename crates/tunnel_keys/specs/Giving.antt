@@ -3,7 +3,7 @@ use Rattle.std.specs.Prelude.{◌≡◌, ◌≤◌, ◌<◌, ℕ, List, [], ◌�
 use Rattle.std.specs.List.{filter, flat_map, AllByRecursion}
 use Rattle.ovn_base.specs.declared.name.Name.{Name}
 use Rattle.ovn_base.specs.declared.address.Birth.{Birth}
-use Rattle.ovn_base.specs.ByName.{put, in_order}
+use Rattle.ovn_base.specs.names.ByName.{put, in_order}
 use Rattle.tunnel_keys.specs.Same.{same_identity}
 use Rattle.tunnel_keys.specs.Owners.{datapaths_in, ports_in}
 use Rattle.ovn_base.specs.declared.ports.Ports.{Ports}

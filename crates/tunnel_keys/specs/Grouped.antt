@@ -2,7 +2,7 @@
 use Rattle.std.specs.Prelude.{List, []}
 use Rattle.std.specs.Option.{unwrap_or}
 use Rattle.ovn_base.specs.declared.name.Name.{Name}
-use Rattle.ovn_base.specs.ByName.{at}
+use Rattle.ovn_base.specs.names.ByName.{at}
 
 -- the values under the name, in order
 abbrev pub under : {X : Type 0} → List (Name × List X) → Name → List X

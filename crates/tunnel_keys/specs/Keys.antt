@@ -4,10 +4,11 @@ use Rattle.std.specs.Option.{option_map}
 use Rattle.std.specs.List.{filter, filter_map}
 use Rattle.std.specs.Set.{is_member}
 use Rattle.std.proofs.Math.Dec.{eqb as nat_eq}
-use Rattle.ovn_base.specs.Among.{Among}
+use Rattle.ovn_base.specs.declared.limits.TheConstants.{MAX_DATAPATH_KEY, MAX_PORT_KEY}
+use Rattle.ovn_base.specs.lists.Among.{Among}
 use Rattle.ovn_base.specs.declared.name.Name.{Name}
-use Rattle.ovn_base.specs.ByName.{at, IsByName}
-use Rattle.ovn_base.specs.SameName.{same_name}
+use Rattle.ovn_base.specs.names.ByName.{at, IsByName}
+use Rattle.ovn_base.specs.names.SameName.{same_name}
 use Rattle.tunnel_keys.specs.Same.{same_identity}
 use Rattle.tunnel_keys.specs.Order.{IsByIdentity}
 use Rattle.tunnel_keys.specs.Owners.{is_listed}
@@ -122,8 +123,8 @@ IsLegalPortKey keys datapath key = IsFreeIn keys.port_range (taken_ports keys.po
 -- ---- what always holds
 
 pub record IsKeys (keys : Keys) : Type 0 where
-  pub datapath_ranges : (1 ≤ keys.datapath_range) × (keys.datapath_range ≤ 16777215)
-  pub port_ranges : (1 ≤ keys.port_range) × (keys.port_range ≤ 32767)
+  pub datapath_ranges : (1 ≤ keys.datapath_range) × (keys.datapath_range ≤ MAX_DATAPATH_KEY)
+  pub port_ranges : (1 ≤ keys.port_range) × (keys.port_range ≤ MAX_PORT_KEY)
   pub datapaths_in_order : IsByName keys.datapaths
   pub ports_in_order : IsByName keys.ports
   pub retired_datapaths_in_order : IsByIdentity (λ (h : HeldDatapath). h.owner) keys.retired_datapaths

@@ -6,8 +6,8 @@ use Rattle.std.proofs.Math.Dec.{eqb as nat_eq}
 use Rattle.std.proofs.lemmas.Bool.{false≢true}
 use Rattle.std.proofs.lemmas.Bool.Decides.{Decides-eqb}
 use mathlib.Core.Path.{ap, subst, ◌∙◌}
-use Rattle.ovn_base.specs.SameName.{same_name, bytes_decides}
-use Rattle.ovn_base.specs.ByCode.{equiv_from_decides}
+use Rattle.ovn_base.specs.names.SameName.{same_name, bytes_decides}
+use Rattle.ovn_base.specs.lists.ByCode.{equiv_from_decides}
 use Rattle.ovn_base.specs.declared.name.Name.{Name}
 use Rattle.ovn_base.specs.declared.address.Birth.{Birth}
 use Rattle.tunnel_keys.specs.declared.owner.Identity.{Identity}

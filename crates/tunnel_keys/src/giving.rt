@@ -1,7 +1,7 @@
 //! How added owners get keys.
 ghost use Rattle.std.specs.Prelude.{◌≡◌, ◌<◌, ◌≤◌, ◌^◌, IfOk, OnOk, IfErr, length};
 ghost use Rattle.std.specs.List.{AllByRecursion};
-ghost use Rattle.ovn_base.specs.ByName.{in_order};
+ghost use Rattle.ovn_base.specs.names.ByName.{in_order};
 ghost use Rattle.tunnel_keys.specs.Owners.{as_datapath, datapaths_in};
 ghost use Rattle.tunnel_keys.specs.Keys.{free_in, taken_datapaths};
 ghost use Rattle.tunnel_keys.specs.Giving.{put_option, with_keys, datapath_key, port_key, taken_on, given_datapaths, given_ports, HasEnough, IsDatapathFault, IsPortFaultOn, IsPortFault, lists_of};

@@ -3,7 +3,7 @@ ghost use Rattle.std.specs.Prelude.{◌≡◌, ◌++◌, ◌∷◌, [], IfOk, On
 ghost use Rattle.std.specs.List.{filter, cons_option};
 ghost use Rattle.ovn_base.specs.declared.name.Name.{Name};
 ghost use Rattle.tunnel_keys.specs.Grouped.{under};
-ghost use Rattle.ovn_base.specs.SameName.{same_name};
+ghost use Rattle.ovn_base.specs.names.SameName.{same_name};
 ghost use Rattle.tunnel_keys.specs.Owners.{as_port_of, ports_in};
 ghost use Rattle.tunnel_keys.specs.Keys.{ports_on};
 

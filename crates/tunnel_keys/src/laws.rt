@@ -1,6 +1,6 @@
 //! What the definitions of keys and of edits come to.
 ghost use Rattle.std.specs.Prelude.{◌≡◌, ◌≤◌, ◌↔◌, ◌⊎◌, ℕ, List};
-ghost use Rattle.ovn_base.specs.Among.{Among};
+ghost use Rattle.ovn_base.specs.lists.Among.{Among};
 ghost use Rattle.tunnel_keys.specs.Keys.{Keys, IsKeys, held_datapaths, held_ports};
 ghost use Rattle.tunnel_keys.specs.Births.{AreKeysBorn};
 ghost use Rattle.tunnel_keys.specs.Owners.{birth_in};

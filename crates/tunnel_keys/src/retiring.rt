@@ -3,8 +3,8 @@ ghost use Rattle.std.specs.Prelude.{◌≡◌, ◌↔◌, ◌++◌, ◌∷◌, [
 ghost use Rattle.std.specs.List.{filter, filter_map, cons_option};
 ghost use Rattle.std.specs.List.Sorted.{IsStrictlySortedBy};
 ghost use Rattle.std.specs.declared.cmp.Ordering.TheVariants.{Equal};
-ghost use Rattle.ovn_base.specs.Among.{Among};
-ghost use Rattle.ovn_base.specs.ByName.{put_all, in_order};
+ghost use Rattle.ovn_base.specs.lists.Among.{Among};
+ghost use Rattle.ovn_base.specs.names.ByName.{put_all, in_order};
 ghost use Rattle.tunnel_keys.specs.Owners.{is_listed};
 ghost use Rattle.tunnel_keys.specs.Keys.{datapath_owner, port_owner, held_datapath, held_port};
 

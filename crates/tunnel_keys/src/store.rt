@@ -1,7 +1,8 @@
 //! The keys of all datapaths and ports.
 ghost use Rattle.std.specs.Prelude.{◌≡◌, ◌≤◌, IfOk, IfErr};
 ghost use Rattle.std.specs.Option.{option_copied, option_map};
-ghost use Rattle.ovn_base.specs.ByName.{at};
+ghost use Rattle.ovn_base.specs.declared.limits.TheConstants.{MAX_DATAPATH_KEY, MAX_PORT_KEY};
+ghost use Rattle.ovn_base.specs.names.ByName.{at};
 ghost use Rattle.tunnel_keys.specs.Keys.{IsKeys, no_keys, settled, ports_on};
 ghost use Rattle.tunnel_keys.specs.Edits.{IsEdit, IsAfter, IsPlanFor};
 ghost use Rattle.tunnel_keys.specs.Causes.{IsCause, HasKeys};
@@ -76,9 +77,9 @@ impl KeyStore {
     /// `ports`, which is at most 32,767.
     pub fn with_ranges(alloc: Global, datapaths: u32, ports: u16) -> Result<KeyStore, NoMemory>
         requires some_datapaths { 1 ≤ datapaths }
-        requires few_datapaths { datapaths ≤ 16777215 }
+        requires few_datapaths { datapaths ≤ MAX_DATAPATH_KEY }
         requires some_ports { 1 ≤ ports }
-        requires few_ports { ports ≤ 32767 }
+        requires few_ports { ports ≤ MAX_PORT_KEY }
         ensures { IfOk result (λ keys. keys ≡ no_keys datapaths ports) }
     {
         Ok(KeyStore {

@@ -5,12 +5,12 @@ use Rattle.std.specs.List.Sorted.{IsStrictlySortedBy}
 use Rattle.std.proofs.Common.{sym, ap, subst, ◌∙◌, inl, inr}
 use Rattle.std.proofs.lemmas.Bool.{cases_Bool}
 use Rattle.std.proofs.lemmas.Option.{none-some}
-use Rattle.ovn_base.specs.Among.{Among, here, there}
-use Rattle.ovn_base.specs.SameName.{bytes_decides, same_name}
+use Rattle.ovn_base.specs.lists.Among.{Among, here, there}
+use Rattle.ovn_base.specs.names.SameName.{bytes_decides, same_name}
 use Rattle.ovn_base.specs.declared.address.Birth.{Birth}
 use Rattle.ovn_base.specs.declared.name.Name.{Name}
-use Rattle.ovn_base.specs.ByName.{at, put, in_order, IsByName}
-use Rattle.ovn_base.proofs.Puts.{above_among, at_tail, below_apart, one_or_two}
+use Rattle.ovn_base.specs.names.ByName.{at, put, in_order, IsByName}
+use Rattle.ovn_base.proofs.ByNameLaws.{above_among, at_tail, below_apart, one_or_two}
 use Rattle.nb_records.specs.declared.record.Op.TheVariants.{Add}
 use Rattle.nb_records.specs.declared.record.Record.TheVariants as record_of
 use Rattle.nb_records.specs.declared.record.Switch.{Switch}
@@ -23,8 +23,8 @@ use Rattle.tunnel_keys.specs.declared.owner.DatapathKey.{DatapathKey}
 use Rattle.tunnel_keys.specs.declared.owner.KeyOwner.TheVariants.{Datapath, Port}
 use Rattle.world_core.specs.Consistent.{IsConsistent}
 use Rattle.world_core.specs.Editing.{Edits, datapath_effect, key_effects, port_effect}
-use Rattle.world_core.specs.New.{AreNew}
-use Rattle.world_core.specs.State.{State, events_of, finished}
+use Rattle.world_core.specs.NewPort.{AreNew}
+use Rattle.world_core.specs.State.{State, event_count, finished}
 use Rattle.world_core.proofs.Coming.{switch_comes, port_comes}
 
 -- ---- the line of the key
@@ -71,39 +71,39 @@ module _ (datapath name : Name) (birth : Birth) where
 module _ (m n : State) (after : Keys) (hold : IsKeys after) where
   -- ---- a switch
 
-  module _ (s : Switch) (gives : GivesKeys m.keys (Datapath s.name (record { 0 = events_of m + 1 }) ∷ []) [] after)
-      (is : n ≡ record m { net = record m.net { switches = put m.net.switches s.name (record s { birth = record { 0 = events_of m + 1 } }) }; keys = after }) where
-    pub edits_switch : (effects : List NetEffect) → effects ≡ datapath_effect after (s.name, record { 0 = events_of m + 1 }) ∷ [] → Edits m (Add (record_of.Switch s) ∷ []) effects n
+  module _ (s : Switch) (gives : GivesKeys m.keys (Datapath s.name (record { 0 = event_count m + 1 }) ∷ []) [] after)
+      (is : n ≡ record m { net = record m.net { switches = put m.net.switches s.name (record s { birth = record { 0 = event_count m + 1 } }) }; keys = after }) where
+    pub edits_switch : (effects : List NetEffect) → effects ≡ datapath_effect after (s.name, record { 0 = event_count m + 1 }) ∷ [] → Edits m (Add (record_of.Switch s) ∷ []) effects n
     edits_switch effects named = record {
       keys = after;
       hold = hold;
       given = gives;
-      effects_are = named ∙ sym (datapath_named s.name (record { 0 = events_of m + 1 }) after);
+      effects_are = named ∙ sym (datapath_named s.name (record { 0 = event_count m + 1 }) after);
       state = is;
     }
 
-    pub consistent_switch : (zones : List (Name × ℕ)) → IsConsistent m zones → at m.net.switches s.name ≡ None → length m.net.switches < 1024 → events_of m < 2 ^ 42 → IsConsistent (finished n) zones
+    pub consistent_switch : (zones : List (Name × ℕ)) → IsConsistent m zones → at m.net.switches s.name ≡ None → length m.net.switches < 1024 → event_count m < 2 ^ 42 → IsConsistent (finished n) zones
     consistent_switch zones old absent few room =
-        subst (λ w. IsConsistent (finished w) zones) (sym is) (switch_comes m zones old room after hold (record s { birth = record { 0 = events_of m + 1 } }) absent few refl gives)
+        subst (λ w. IsConsistent (finished w) zones) (sym is) (switch_comes m zones old room after hold (record s { birth = record { 0 = event_count m + 1 } }) absent few refl gives)
 
   -- ---- a port
 
-  module _ (p : SwitchPort) (gives : GivesKeys m.keys (Port p.switch p.name (record { 0 = events_of m + 1 }) ∷ []) [] after)
-      (is : n ≡ record m { net = record m.net { ports = put m.net.ports p.name (record p { birth = record { 0 = events_of m + 1 } }) }; keys = after }) where
-    pub edits_port : (effects : List NetEffect) → effects ≡ port_effect after (p.name, record { 0 = events_of m + 1 }) ∷ [] → Edits m (Add (record_of.SwitchPort p) ∷ []) effects n
+  module _ (p : SwitchPort) (gives : GivesKeys m.keys (Port p.switch p.name (record { 0 = event_count m + 1 }) ∷ []) [] after)
+      (is : n ≡ record m { net = record m.net { ports = put m.net.ports p.name (record p { birth = record { 0 = event_count m + 1 } }) }; keys = after }) where
+    pub edits_port : (effects : List NetEffect) → effects ≡ port_effect after (p.name, record { 0 = event_count m + 1 }) ∷ [] → Edits m (Add (record_of.SwitchPort p) ∷ []) effects n
     edits_port effects named =
-        let given = gives.port_given p.switch p.name (record { 0 = events_of m + 1 }) here in
+        let given = gives.port_given p.switch p.name (record { 0 = event_count m + 1 }) here in
         record {
           keys = after;
           hold = hold;
           given = gives;
-          effects_are = named ∙ sym (port_named p.switch p.name (record { 0 = events_of m + 1 }) after given.1 hold.datapaths_in_order given.3);
+          effects_are = named ∙ sym (port_named p.switch p.name (record { 0 = event_count m + 1 }) after given.1 hold.datapaths_in_order given.3);
           state = is;
         }
 
-    pub consistent_port : (zones : List (Name × ℕ)) → IsConsistent m zones → at m.net.ports p.name ≡ None → length m.net.ports < 10000 → IsSome (at m.net.switches p.switch) → AreNew m.net p → events_of m < 2 ^ 42
+    pub consistent_port : (zones : List (Name × ℕ)) → IsConsistent m zones → at m.net.ports p.name ≡ None → length m.net.ports < 10000 → IsSome (at m.net.switches p.switch) → AreNew m.net p → event_count m < 2 ^ 42
         → IsConsistent (finished n) zones
     consistent_port zones old absent few on new room =
         subst (λ w. IsConsistent (finished w) zones) (sym is)
-        (port_comes m zones old room after hold (record p { birth = record { 0 = events_of m + 1 } }) absent few on
-        (record { macs = new.macs; stations = new.stations; once = new.once; apart = new.apart; ips_apart = new.ips_apart }) refl gives)
+        (port_comes m zones old room after hold (record p { birth = record { 0 = event_count m + 1 } }) absent few on
+        (record { stations = new.stations; once = new.once; apart = new.apart; ips_apart = new.ips_apart }) refl gives)

@@ -4,8 +4,8 @@ use Rattle.std.specs.List.{AllZip}
 use Rattle.std.proofs.Common.{sym, ap, ◌∙◌, subst, arith, inl, inr}
 use Rattle.std.proofs.lemmas.Bool.{cases_Bool}
 use Rattle.std.proofs.lemmas.Option.{same_Some, none-some}
-use Rattle.ovn_base.specs.Among.{Among}
-use Rattle.ovn_base.specs.SameName.{bytes_decides, same_name}
+use Rattle.ovn_base.specs.lists.Among.{Among}
+use Rattle.ovn_base.specs.names.SameName.{bytes_decides, same_name}
 use Rattle.ovn_base.specs.declared.name.Name.{Name}
 use Rattle.ovn_base.proofs.AmongLaws.{among_none, any_among}
 use Rattle.chassis_sim.specs.Frames.{Carries}
@@ -32,11 +32,11 @@ use Rattle.world_core.specs.Effects.{effects_of, crossings_in, spelled, datapath
 use Rattle.world_core.specs.Naming.{IsNumbered}
 use Rattle.world_core.specs.Passing.{clock}
 use Rattle.world_core.specs.Refinement.{IsAmidst, IsRefined, ArrivalRefines}
-use Rattle.world_core.specs.Seen.{AreHeld, frame_of_crossing}
+use Rattle.world_core.specs.WorldView.{AreHeld, frame_of_crossing}
 use Rattle.world_core.specs.Sound.{MayWait, HasAimKey}
 use Rattle.switch_engine.specs.declared.effect.NetEffect.{NetEffect}
 use Rattle.world_core.specs.Crossing.{numbered_from}
-use Rattle.world_core.specs.State.{State, events_of, is_chassis}
+use Rattle.world_core.specs.State.{State, event_count, is_chassis}
 use Rattle.world_core.specs.Step.{Arrives, sent_on, with_kept}
 use Rattle.world_core.specs.Visit.{End, leaves, is_lost, arrival, reached, is_gone, is_same_port, is_switch, misses}
 use Rattle.world_core.specs.Homes.{members_at}
@@ -138,7 +138,7 @@ module _ (zones : List (Name × ℕ)) (more : ℕ) (k : State) (z new : sim.SimS
   may_none : (x : Crossing) → Among x (crossings_in ends) → MayWait k x
   may_none x m = absurd (among_none x (subst (λ xs. Among x xs) none m))
 
-  few_then : k.next + length (crossings_in ends) ≤ 1 + 2 ^ 64 * events_of k + more
+  few_then : k.next + length (crossings_in ends) ≤ 1 + 2 ^ 64 * event_count k + more
   few_then = let zero' : length (crossings_in ends) ≡ 0 = ap (λ (xs : List Crossing). length xs) none in let few = a.few_sent in omega (arith, zero', few)
 
   pub came : (Happens : List NetEffect → State → Type 0) → Happens (effects_of k.keys home k.next ends) (sent_on k ends) → IsRefined zones more before after new Happens
@@ -192,8 +192,8 @@ module _ (law : ArrivalLaw) (m : State) (zones : List (Name × ℕ)) (more : ℕ
         state = refl;
       })
 
-  arrives : (keep : Bool) → passing.Arrives s n keep clock before after new → IsRefined zones more before after new (λ es mid. Arrives m n keep es mid)
-  arrives keep (passing.Arrives.through frame flows vni in_key out_key packet steps effects waits held carries walk told) =
+  arrives : (keep : Bool) → passing.IsArrived s n keep clock before after new → IsRefined zones more before after new (λ es mid. Arrives m n keep es mid)
+  arrives keep (passing.IsArrived.through frame flows vni in_key out_key packet steps effects waits held carries walk told) =
       let c = crossing_of frame waits in
       let x = c.crossing in
       let w = a.crossings.may n x (numbered_among m.waiting n x c.waits) in
@@ -204,7 +204,7 @@ module _ (law : ArrivalLaw) (m : State) (zones : List (Name × ℕ)) (more : ℕ
       arrives_so keep x c.waits packet carries.whole read.3 steps effects
       (law m zones n x flows a.valid a.keys a.bound w known (h.flows x.home flows there) clock packet carries.whole read.3 steps effects (rw (← read.0, ← read.1, ← read.2) walk))
       (subst (λ d. IsTold (arrived s n keep) d (start.Frame n) steps effects before after new) home told)
-  arrives keep (passing.Arrives.gone frame waits none told) =
+  arrives keep (passing.IsArrived.gone frame waits none told) =
       let c = crossing_of frame waits in
       let x = c.crossing in
       let w = a.crossings.may n x (numbered_among m.waiting n x c.waits) in

@@ -11,17 +11,17 @@ use Rattle.chassis_sim.specs.InNames.{name_of}
 use Rattle.chassis_sim.specs.Settings.{AreSet}
 use Rattle.chassis_sim.specs.State as sim
 use Rattle.chassis_sim.specs.State.{KeyPair, same_pair}
-use Rattle.ovn_base.specs.ByName.{at}
+use Rattle.ovn_base.specs.names.ByName.{at}
 use Rattle.ovn_base.specs.declared.address.Birth.{Birth}
 use Rattle.ovn_base.specs.declared.name.Name.{Name}
-use Rattle.ovn_base.proofs.Puts.{one_or_two}
+use Rattle.ovn_base.proofs.ByNameLaws.{one_or_two}
 use Rattle.nb_records.specs.Network.{Network}
 use Rattle.tunnel_keys.specs.Edits.{GivesKeysAfter}
 use Rattle.tunnel_keys.specs.Keys.{Keys}
 use Rattle.tunnel_keys.specs.declared.owner.DatapathKey.{DatapathKey}
 use Rattle.tunnel_keys.specs.declared.owner.KeyOwner.TheVariants.{Datapath, Port}
 use Rattle.tunnel_keys.specs.declared.owner.PortKey.{PortKey}
-use Rattle.world_core.specs.Seen.{AreNamed}
+use Rattle.world_core.specs.WorldView.{HaveOwnersNames}
 use Rattle.world_core.specs.Sound.{HaveKeys}
 use Rattle.world_core.proofs.KeyLaws.{datapath_under, datapaths_apart, no_datapath_key, port_fits, ports_apart}
 use Rattle.tunnel_keys.specs.Owners.{name_in}
@@ -47,7 +47,7 @@ module _ (old new : List (KeyPair × Name)) (vni port : ℕ) (name : Name) (give
     | inr other ↦ ap (λ o. unwrap_or o (codes "-")) (given (a, b) ∙ ap (λ t. cond t (Some name) (lookup (same_pair (a, b)) old)) other)
   ]
 
-module _ (net later : Network) (keys after : Keys) (old new : sim.SimState) (have : HaveKeys net keys) (also : HaveKeys later after) (named : AreNamed keys old) where
+module _ (net later : Network) (keys after : Keys) (old new : sim.SimState) (have : HaveKeys net keys) (also : HaveKeys later after) (named : HaveOwnersNames keys old) where
   -- ---- a datapath comes
 
   module _ (name : Name) (birth : Birth) (absent : at net.switches name ≡ None) (gives : GivesKeysAfter keys (Datapath name birth ∷ []) after) (k : DatapathKey) (has : at after.datapaths name ≡ Some k)
@@ -70,7 +70,7 @@ module _ (net later : Network) (keys after : Keys) (old new : sim.SimState) (hav
         let under = datapath_under net keys have q p was in
         none-some under.0 (sym (no_datapath_key net keys have name absent) ∙ ap (λ n. at keys.datapaths n) (sym same) ∙ under.1)
 
-    pub datapath_called : AreNamed after new
+    pub datapath_called : HaveOwnersNames after new
     datapath_called = record {
       datapaths = λ a d at_a. elim (one_or_two a name) [
         | inl same ↦
@@ -102,7 +102,7 @@ module _ (net later : Network) (keys after : Keys) (old new : sim.SimState) (hav
       | inr comes ↦ absurd (apart (ap name_in (the_one (Port p.datapath q p.birth) (Port datapath name birth) comes)))
     ]
 
-    pub port_called : AreNamed after new
+    pub port_called : HaveOwnersNames after new
     port_called = record {
       datapaths = λ a d at_a.
           let low : 1 ≤ r.key = (port_fits later after also name r has).0 in

@@ -4,9 +4,9 @@ use Rattle.std.proofs.Common.{arith, ap}
 use Rattle.std.specs.Cmp.Lexicographic.{slice_cmp}
 use Rattle.std.specs.Ordering.{nat_cmp, match_ordering}
 use Rattle.std.specs.declared.cmp.Ordering.TheVariants.{Less, Equal, Greater}
-use Rattle.ovn_base.specs.Among.{Among}
+use Rattle.ovn_base.specs.lists.Among.{Among}
 use Rattle.ovn_base.specs.declared.name.Name.{Name}
-use Rattle.ovn_base.specs.ByName.{at, put}
+use Rattle.ovn_base.specs.names.ByName.{at, put}
 use Rattle.nb_records.specs.declared.record.Switch.{Switch}
 use Rattle.nb_records.specs.declared.record.SwitchPort.{SwitchPort}
 use Rattle.tunnel_keys.specs.Edits.{GivesKeys}
@@ -15,8 +15,8 @@ use Rattle.tunnel_keys.specs.declared.owner.KeyOwner.{KeyOwner}
 use Rattle.tunnel_keys.specs.declared.owner.KeyOwner.TheVariants.{Datapath, Port}
 use Rattle.world_core.specs.Consistent.{IsConsistent}
 use Rattle.world_core.specs.Editing.{with_name}
-use Rattle.world_core.specs.New.{AreNew}
-use Rattle.world_core.specs.State.{State, counted, events_of, finished}
+use Rattle.world_core.specs.NewPort.{AreNew}
+use Rattle.world_core.specs.State.{State, counted, event_count, finished}
 use Rattle.world_core.specs.Zones.{zone_for}
 use Rattle.tunnel_keys.proofs.Births.{born_later, keys_born}
 use Rattle.world_core.proofs.Given.{given_beside, switch_keys, port_keys}
@@ -39,14 +39,14 @@ few_put (e ∷ entries) name value =
       | Greater ↦ omega (arith, ih)
     ]
 
-module _ (m : State) (zones : List (Name × ℕ)) (old : IsConsistent m zones) (room : events_of m < 2 ^ 42) where
+module _ (m : State) (zones : List (Name × ℕ)) (old : IsConsistent m zones) (room : event_count m < 2 ^ 42) where
   -- ---- a record
 
   module _ (after : Keys) (hold : IsKeys after) where
-    in_time : (owner one : KeyOwner) → Among owner (one ∷ []) → (birth_in one).0 ≡ events_of m + 1 → (birth_in owner).0 ≤ events_of (counted m)
+    in_time : (owner one : KeyOwner) → Among owner (one ∷ []) → (birth_in one).0 ≡ event_count m + 1 → (birth_in owner).0 ≤ event_count (counted m)
     in_time owner one among late = let same : (birth_in owner).0 ≡ (birth_in one).0 = ap (λ o. (birth_in o).0) (the_one owner one among) in omega (arith, same, late)
 
-    pub switch_comes : (s : Switch) → at m.net.switches s.name ≡ None → length m.net.switches < 1024 → s.birth.0 ≡ events_of m + 1 → GivesKeys m.keys (Datapath s.name s.birth ∷ []) [] after
+    pub switch_comes : (s : Switch) → at m.net.switches s.name ≡ None → length m.net.switches < 1024 → s.birth.0 ≡ event_count m + 1 → GivesKeys m.keys (Datapath s.name s.birth ∷ []) [] after
         → IsConsistent (finished (record m { net = record m.net { switches = put m.net.switches s.name s }; keys = after })) zones
     switch_comes s absent few birth gives =
         let beside = given_beside m.keys (Datapath s.name s.birth ∷ []) after gives in
@@ -58,12 +58,12 @@ module _ (m : State) (zones : List (Name × ℕ)) (old : IsConsistent m zones) (
           keys = switch_keys m.net m.keys after old.keys hold s beside;
           bound = bound_kept m n zones old.bound refl (λ q h. h) (λ c h. h) old.bound.chassis_sorted old.bound.few_chassis;
           born = born_switch m n old.born (omega arith) (λ h. omega arith) s.name s refl (omega (arith, birth))
-              (keys_born m.keys (Datapath s.name s.birth ∷ []) [] after (events_of n) old.keys.hold hold gives (born_later m.keys (events_of m) (events_of n) (omega arith) old.born.keys) (λ owner among. in_time owner (Datapath s.name s.birth) among birth));
+              (keys_born m.keys (Datapath s.name s.birth ∷ []) [] after (event_count n) old.keys.hold hold gives (born_later m.keys (event_count m) (event_count n) (omega arith) old.born.keys) (λ owner among. in_time owner (Datapath s.name s.birth) among birth));
           on_the_way = way_on m n old.born (switch_kept m (Datapath s.name s.birth ∷ []) after old.keys.hold hold gives s birth n refl refl) old.on_the_way refl refl (omega arith) (λ h. omega arith);
           few = omega (arith, room);
         })
 
-    pub port_comes : (p : SwitchPort) → at m.net.ports p.name ≡ None → length m.net.ports < 10000 → IsSome (at m.net.switches p.switch) → AreNew m.net p → p.birth.0 ≡ events_of m + 1
+    pub port_comes : (p : SwitchPort) → at m.net.ports p.name ≡ None → length m.net.ports < 10000 → IsSome (at m.net.switches p.switch) → AreNew m.net p → p.birth.0 ≡ event_count m + 1
         → GivesKeys m.keys (Port p.switch p.name p.birth ∷ []) [] after
         → IsConsistent (finished (record m { net = record m.net { ports = put m.net.ports p.name p }; keys = after })) zones
     port_comes p absent few on new birth gives =
@@ -76,7 +76,7 @@ module _ (m : State) (zones : List (Name × ℕ)) (old : IsConsistent m zones) (
           keys = port_keys m.net m.keys after old.keys hold p beside;
           bound = bound_kept m n zones old.bound refl (λ q h. some_kept m.net.ports p.name p q h) (λ c h. h) old.bound.chassis_sorted old.bound.few_chassis;
           born = born_port m n old.born (omega arith) (λ h. omega arith) p.name p refl (omega (arith, birth))
-              (keys_born m.keys (Port p.switch p.name p.birth ∷ []) [] after (events_of n) old.keys.hold hold gives (born_later m.keys (events_of m) (events_of n) (omega arith) old.born.keys) (λ owner among. in_time owner (Port p.switch p.name p.birth) among birth));
+              (keys_born m.keys (Port p.switch p.name p.birth ∷ []) [] after (event_count n) old.keys.hold hold gives (born_later m.keys (event_count m) (event_count n) (omega arith) old.born.keys) (λ owner among. in_time owner (Port p.switch p.name p.birth) among birth));
           on_the_way = way_on m n old.born (port_kept m (Port p.switch p.name p.birth ∷ []) after old.keys.hold hold gives n refl refl) old.on_the_way refl refl (omega arith) (λ h. omega arith);
           few = omega (arith, room);
         })

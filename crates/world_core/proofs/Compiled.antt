@@ -4,13 +4,13 @@ use Rattle.std.specs.Option.{option_map}
 use mathlib.Core.Path.{sym, ap, subst, ◌∙◌}
 use mathlib.Core.Logic.{inl, inr}
 use Rattle.std.proofs.lemmas.Bool.{cases_Bool, false≢true}
-use Rattle.ovn_base.specs.Among.{Among, here, there}
-use Rattle.ovn_base.specs.ByName.{at}
-use Rattle.ovn_base.specs.SameName.{bytes_decides, same_name}
+use Rattle.ovn_base.specs.lists.Among.{Among, here, there}
+use Rattle.ovn_base.specs.names.ByName.{at}
+use Rattle.ovn_base.specs.names.SameName.{bytes_decides, same_name}
 use Rattle.ovn_base.specs.declared.name.Name.{Name}
 use Rattle.ovn_base.proofs.AmongLaws.{among_append, among_cases, among_none, among_all, among_left, among_right, among_map, map_among, among_flat_map, flat_map_among}
 use Rattle.flow_table.specs.declared.flow.Flow.{Flow}
-use Rattle.ovn_base.proofs.Puts.{among_at, at_among}
+use Rattle.ovn_base.proofs.ByNameLaws.{among_at, at_among}
 use Rattle.nb_records.specs.declared.record.Switch.{Switch}
 use Rattle.nb_records.specs.declared.record.SwitchPort.{SwitchPort}
 use Rattle.tunnel_keys.specs.declared.owner.DatapathKey.{DatapathKey}

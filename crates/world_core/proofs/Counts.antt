@@ -10,7 +10,7 @@ use Rattle.std.proofs.lemmas.Map.Keys.{IsDistinct-from_sorted}
 use Rattle.std.proofs.lemmas.Map.Made.{is_some-lookup}
 use Rattle.std.proofs.lemmas.Map.Steps.{length-le_from_keys}
 use Rattle.ovn_base.specs.declared.name.Name.{Name}
-use Rattle.ovn_base.specs.ByName.{at, IsByName}
+use Rattle.ovn_base.specs.names.ByName.{at, IsByName}
 
 some_is : {X : Type 0} (o : Option X) → is_some o ≡ true → IsSome o
 some_is o h = search h

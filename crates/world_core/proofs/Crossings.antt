@@ -4,9 +4,9 @@ use Rattle.std.specs.List.{list_any}
 use Rattle.std.proofs.Common.{sym, ap, ◌∙◌, subst, arith, inl, inr}
 use Rattle.std.proofs.lemmas.Bool.{false≢true}
 use Rattle.std.proofs.lemmas.Option.{same_Some}
-use Rattle.ovn_base.specs.Among.{Among}
-use Rattle.ovn_base.specs.ByName.{at}
-use Rattle.ovn_base.specs.SameName.{bytes_decides, same_name}
+use Rattle.ovn_base.specs.lists.Among.{Among}
+use Rattle.ovn_base.specs.names.ByName.{at}
+use Rattle.ovn_base.specs.names.SameName.{bytes_decides, same_name}
 use Rattle.ovn_base.specs.declared.name.Name.{Name}
 use Rattle.ovn_base.proofs.AmongLaws.{among_cases, among_none, map_among}
 use Rattle.inet_packet.specs.Whole.{IsWhole}

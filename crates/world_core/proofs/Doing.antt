@@ -14,12 +14,12 @@ use Rattle.nb_records.specs.declared.record.Op.TheVariants.{Add}
 use Rattle.nb_records.specs.declared.record.Record.TheVariants as record_of
 use Rattle.nb_records.specs.declared.record.Switch.{Switch}
 use Rattle.nb_records.specs.declared.record.SwitchPort.{SwitchPort}
-use Rattle.ovn_base.specs.Among.{Among, here}
-use Rattle.ovn_base.specs.ByName.{at, put}
-use Rattle.ovn_base.specs.SameName.{bytes_decides, same_name}
+use Rattle.ovn_base.specs.lists.Among.{Among, here}
+use Rattle.ovn_base.specs.names.ByName.{at, put}
+use Rattle.ovn_base.specs.names.SameName.{bytes_decides, same_name}
 use Rattle.ovn_base.specs.declared.address.Birth.{Birth}
 use Rattle.ovn_base.specs.declared.name.Name.{Name}
-use Rattle.ovn_base.proofs.Puts.{put_other, put_there}
+use Rattle.ovn_base.proofs.ByNameLaws.{put_other, put_there}
 use Rattle.switch_engine.specs.declared.effect.NetEffect.{NetEffect}
 use Rattle.switch_engine.specs.declared.walk.Walk.{Walk}
 use Rattle.tunnel_keys.specs.declared.owner.HeldDatapath.{HeldDatapath}
@@ -33,11 +33,11 @@ use Rattle.tunnel_keys.specs.declared.owner.KeyOwner.TheVariants.{Datapath, Port
 use Rattle.tunnel_keys.specs.declared.owner.PortKey.{PortKey}
 use Rattle.world_core.specs.Consistent.{IsConsistent}
 use Rattle.world_core.specs.Editing.{Edits, with_name}
-use Rattle.world_core.specs.Parts.{IsDone, IsRecompiled, IsTaken}
+use Rattle.world_core.specs.StepParts.{IsDone, IsRecompiled, IsTaken}
 use Rattle.world_core.specs.Refusing.{refusal_of_record}
-use Rattle.world_core.specs.Seen.{Seen, AreHeld, AreNamed}
+use Rattle.world_core.specs.WorldView.{WorldView, AreHeld, HaveOwnersNames}
 use Rattle.world_core.specs.Sound.{HaveKeys}
-use Rattle.world_core.specs.State.{State, events_of, finished, settled_where_none_waits}
+use Rattle.world_core.specs.State.{State, event_count, finished, settled_where_none_waits}
 use Rattle.world_core.specs.Zones.{zone_for}
 use Rattle.world_core.specs.declared.crossing.Crossing.{Crossing}
 use Rattle.world_core.proofs.Called.{datapath_called, port_called}
@@ -60,62 +60,62 @@ switch_new net s h = by (at net.switches s.name) h
     by (Some x) h = cc
 
 -- the effects and the walks of an event that has no walk
-pub done_so : (old new : Seen) (event : Event) (effects own : List NetEffect) (walks : List Walk) (count : ℕ) → own ≡ effects → walks ≡ [] → count ≡ 0 → IsDone old event effects [] 0 new → IsDone old event own walks count new
+pub done_so : (old new : WorldView) (event : Event) (effects own : List NetEffect) (walks : List Walk) (count : ℕ) → own ≡ effects → walks ≡ [] → count ≡ 0 → IsDone old event effects [] 0 new → IsDone old event own walks count new
 done_so old new event effects own walks count e w n done =
     subst (λ l. IsDone old event l walks count new) (sym e) (subst (λ l. IsDone old event effects l count new) (sym w) (subst (λ k. IsDone old event effects [] k new) (sym n) done))
 
 -- names stay where none is given
-still_named : (keys : Keys) (old new : sim.SimState) → AreSet same_pair [] old.names new.names → AreNamed keys old → AreNamed keys new
+still_named : (keys : Keys) (old new : sim.SimState) → AreSet same_pair [] old.names new.names → HaveOwnersNames keys old → HaveOwnersNames keys new
 still_named keys old new same named = record {
   datapaths = λ a k has. ap (λ o. unwrap_or o (codes "-")) (same (k.key, 0)) ∙ named.datapaths a k has;
   ports = λ q p k has under. ap (λ o. unwrap_or o (codes "-")) (same (k.key, p.key)) ∙ named.ports q p k has under;
 }
 
 -- the event is over, and all tables were made anew
-module _ (old done new : Seen) (mid : State) (bound : List (Name × Option Name)) (names : List (ℕ × ℕ × Name)) (taken : IsTaken old) (now : IsConsistent (finished mid) done.zones)
+module _ (old done new : WorldView) (mid : State) (bound : List (Name × Option Name)) (names : List (ℕ × ℕ × Name)) (taken : IsTaken old) (now : IsConsistent (finished mid) done.zones)
     (over : done ≡ record old { state = finished mid; zones = done.zones }) (made : IsRecompiled bound names done new) (kept : AreKept old.state mid)
     (stay : (c : Name) → Among c old.state.chassis → Among c mid.chassis) (waiting : mid.waiting ≡ old.state.waiting) (next : mid.next ≡ old.state.next) where
   sim_is : done.sim ≡ old.sim
-  sim_is = ap (λ (v : Seen). v.sim) over
+  sim_is = ap (λ (v : WorldView). v.sim) over
 
   held_then : AreHeld old.state old.zones done.sim
   held_then = subst (λ s. AreHeld old.state old.zones s) (sym sim_is) taken.held
 
-  pub then_taken : ((q : Name) → named new.sim.bindings q ≡ at mid.bindings q) → AreNamed mid.keys new.sim → IsTaken new
+  pub then_taken : ((q : Name) → named new.sim.bindings q ≡ at mid.bindings q) → HaveOwnersNames mid.keys new.sim → IsTaken new
   then_taken bindings called =
       let frames = frames_same old.state mid taken.consistent.born kept taken.consistent.keys.hold old.state.waiting taken.consistent.on_the_way.crossings.may in
-      let state : done.state ≡ finished mid = ap (λ (v : Seen). v.state) over in
+      let state : done.state ≡ finished mid = ap (λ (v : WorldView). v.state) over in
       let held : AreHeld (finished mid) done.zones new.sim = held_again old.state mid old.zones bound names done new held_then state made stay waiting next frames bindings called in
       record {
-        consistent = subst (λ (v : Seen). IsConsistent v.state v.zones) (sym made.kept) (subst (λ w. IsConsistent w done.zones) (sym state) now);
-        held = subst (λ (v : Seen). AreHeld v.state v.zones new.sim) (sym made.kept) (subst (λ w. AreHeld w done.zones new.sim) (sym state) held);
-        taken = ap (λ (v : Seen). v.whole) made.kept ∙ ap (λ (v : Seen). v.whole) over ∙ taken.taken;
+        consistent = subst (λ (v : WorldView). IsConsistent v.state v.zones) (sym made.kept) (subst (λ w. IsConsistent w done.zones) (sym state) now);
+        held = subst (λ (v : WorldView). AreHeld v.state v.zones new.sim) (sym made.kept) (subst (λ w. AreHeld w done.zones new.sim) (sym state) held);
+        taken = ap (λ (v : WorldView). v.whole) made.kept ∙ ap (λ (v : WorldView). v.whole) over ∙ taken.taken;
       }
 
   pub state_then : new.state ≡ finished mid
-  state_then = ap (λ (v : Seen). v.state) made.kept ∙ ap (λ (v : Seen). v.state) over
+  state_then = ap (λ (v : WorldView). v.state) made.kept ∙ ap (λ (v : WorldView). v.state) over
 
   pub zones_then : new.zones ≡ done.zones
-  zones_then = ap (λ (v : Seen). v.zones) made.kept
+  zones_then = ap (λ (v : WorldView). v.zones) made.kept
 
 -- ---- a record comes
 
-module _ (old done new : Seen) (mid : State) (names : List (ℕ × ℕ × Name)) (taken : IsTaken old) (now : IsConsistent (finished mid) done.zones)
+module _ (old done new : WorldView) (mid : State) (names : List (ℕ × ℕ × Name)) (taken : IsTaken old) (now : IsConsistent (finished mid) done.zones)
     (over : done ≡ record old { state = finished mid; zones = done.zones }) (same_zones : done.zones ≡ old.zones) (made : IsRecompiled [] names done new) where
   abbrev m : State
   m = old.state
 
   abbrev birth : Birth
-  birth = record { 0 = events_of m + 1 }
+  birth = record { 0 = event_count m + 1 }
 
   abbrev held : AreHeld m old.zones old.sim
   held = taken.held
 
   bindings_then : mid.bindings ≡ m.bindings → (q : Name) → named new.sim.bindings q ≡ at mid.bindings q
-  bindings_then same q = made.bindings q ∙ ap (λ (v : Seen). named v.sim.bindings q) over ∙ held.bindings q ∙ ap (λ l. at l q) (sym same)
+  bindings_then same q = made.bindings q ∙ ap (λ (v : WorldView). named v.sim.bindings q) over ∙ held.bindings q ∙ ap (λ l. at l q) (sym same)
 
-  names_then : AreNamed m.keys done.sim
-  names_then = subst (λ s. AreNamed m.keys s) (sym (ap (λ (v : Seen). v.sim) over)) held.names
+  names_then : HaveOwnersNames m.keys done.sim
+  names_then = subst (λ s. HaveOwnersNames m.keys s) (sym (ap (λ (v : WorldView). v.sim) over)) held.names
 
   module _ (added : List KeyOwner) (after : Keys) (net : Network) (gives : GivesKeys m.keys added [] after) (is : mid ≡ record m { net = net; keys = after }) where
     beside : GivesKeysAfter m.keys added after
@@ -128,7 +128,7 @@ module _ (old done new : Seen) (mid : State) (names : List (ℕ × ℕ × Name))
         (none_in_order (λ (h : HeldPort). h.owner) m.keys.retired_ports after.retired_ports beside.retired_ports have.no_retired_ports)
 
     keys_done : done.state.keys ≡ after
-    keys_done = ap (λ (v : Seen). v.state.keys) over ∙ ap (λ (w : State). settled_where_none_waits w.waiting w.keys) is ∙ settled_same
+    keys_done = ap (λ (v : WorldView). v.state.keys) over ∙ ap (λ (w : State). settled_where_none_waits w.waiting w.keys) is ∙ settled_same
 
     have_then : HaveKeys net after
     have_then =
@@ -147,7 +147,7 @@ module _ (old done new : Seen) (mid : State) (names : List (ℕ × ℕ × Name))
       let k : DatapathKey = record { birth = birth; key = given.0 } in
       let names_are : names ≡ (k.key, 0, s.name) ∷ [] = so k (ap (λ (x : Keys). at x.datapaths s.name) (keys_done added after net edits.given edits.state) ∙ given.1) in
       let set : AreSet same_pair (((k.key, 0), Some s.name) ∷ []) done.sim.names new.sim.names = subst (λ l. AreSet same_pair (map given_name l) done.sim.names new.sim.names) names_are made.names_are in
-      let called : AreNamed after new.sim = datapath_called m.net net m.keys after done.sim new.sim taken.consistent.keys have names_then s.name birth absent (beside added after net edits.given edits.state) k given.1 set in
+      let called : HaveOwnersNames after new.sim = datapath_called m.net net m.keys after done.sim new.sim taken.consistent.keys have names_then s.name birth absent (beside added after net edits.given edits.state) k given.1 set in
       let keys : mid.keys ≡ after = ap (λ (w : State). w.keys) edits.state in
       let kept : AreKept m mid = switch_kept m added after taken.consistent.keys.hold have.hold edits.given one refl mid keys (ap (λ (w : State). w.net.switches) edits.state) in
       let stay : (c : Name) → Among c m.chassis → Among c mid.chassis = λ c among. subst (λ (w : State). Among c w.chassis) (sym edits.state) among in
@@ -158,7 +158,7 @@ module _ (old done new : Seen) (mid : State) (names : List (ℕ × ℕ × Name))
         passed = refl;
         counts = refl;
         zones = zones_then old done new mid [] names taken now over made kept stay waiting next ∙ same_zones;
-        now = then_taken old done new mid [] names taken now over made kept stay waiting next (bindings_then (ap (λ (w : State). w.bindings) edits.state)) (subst (λ k. AreNamed k new.sim) (sym keys) called);
+        now = then_taken old done new mid [] names taken now over made kept stay waiting next (bindings_then (ap (λ (w : State). w.bindings) edits.state)) (subst (λ k. HaveOwnersNames k new.sim) (sym keys) called);
       }
 
   pub port_done : (p : SwitchPort) (effects : List NetEffect) → Edits m (Add (record_of.SwitchPort p) ∷ []) effects mid
@@ -176,7 +176,7 @@ module _ (old done new : Seen) (mid : State) (names : List (ℕ × ℕ × Name))
       let same = keys_done added after net edits.given edits.state in
       let names_are : names ≡ (k.key, r.key, p.name) ∷ [] = so k r (ap (λ (x : Keys). at x.datapaths p.switch) same ∙ given.3) (ap (λ (x : Keys). at x.ports p.name) same ∙ given.2) in
       let set : AreSet same_pair (((k.key, r.key), Some p.name) ∷ []) done.sim.names new.sim.names = subst (λ l. AreSet same_pair (map given_name l) done.sim.names new.sim.names) names_are made.names_are in
-      let called : AreNamed after new.sim = port_called m.net net m.keys after done.sim new.sim taken.consistent.keys have names_then p.switch p.name birth (beside added after net edits.given edits.state) k given.3 r given.2 refl set in
+      let called : HaveOwnersNames after new.sim = port_called m.net net m.keys after done.sim new.sim taken.consistent.keys have names_then p.switch p.name birth (beside added after net edits.given edits.state) k given.3 r given.2 refl set in
       let keys : mid.keys ≡ after = ap (λ (w : State). w.keys) edits.state in
       let kept : AreKept m mid = port_kept m added after taken.consistent.keys.hold have.hold edits.given mid keys (ap (λ (w : State). w.net.switches) edits.state) in
       let stay : (c : Name) → Among c m.chassis → Among c mid.chassis = λ c among. subst (λ (w : State). Among c w.chassis) (sym edits.state) among in
@@ -187,12 +187,12 @@ module _ (old done new : Seen) (mid : State) (names : List (ℕ × ℕ × Name))
         passed = refl;
         counts = refl;
         zones = zones_then old done new mid [] names taken now over made kept stay waiting next ∙ same_zones;
-        now = then_taken old done new mid [] names taken now over made kept stay waiting next (bindings_then (ap (λ (w : State). w.bindings) edits.state)) (subst (λ k. AreNamed k new.sim) (sym keys) called);
+        now = then_taken old done new mid [] names taken now over made kept stay waiting next (bindings_then (ap (λ (w : State). w.bindings) edits.state)) (subst (λ k. HaveOwnersNames k new.sim) (sym keys) called);
       }
 
 -- ---- a chassis comes
 
-pub chassis_done : (old done new : Seen) (c : Name) → IsTaken old → IsConsistent (finished (record old.state { chassis = with_name old.state.chassis c })) done.zones
+pub chassis_done : (old done new : WorldView) (c : Name) → IsTaken old → IsConsistent (finished (record old.state { chassis = with_name old.state.chassis c })) done.zones
     → done ≡ record old { state = finished (record old.state { chassis = with_name old.state.chassis c }); zones = done.zones } → done.zones ≡ old.zones → IsRecompiled [] [] done new → IsDone old (event_of.AddChassis c) [] [] 0 new
 chassis_done old done new c taken now over same_zones made =
     let m = old.state in
@@ -205,13 +205,13 @@ chassis_done old done new c taken now over same_zones made =
       counts = refl;
       zones = zones_then old done new mid [] [] taken now over made kept stay refl refl ∙ same_zones;
       now = then_taken old done new mid [] [] taken now over made kept stay refl refl
-          (λ q. made.bindings q ∙ ap (λ (v : Seen). named v.sim.bindings q) over ∙ taken.held.bindings q)
-          (still_named old.state.keys done.sim new.sim made.names_are (subst (λ s. AreNamed old.state.keys s) (sym (ap (λ (v : Seen). v.sim) over)) taken.held.names));
+          (λ q. made.bindings q ∙ ap (λ (v : WorldView). named v.sim.bindings q) over ∙ taken.held.bindings q)
+          (still_named old.state.keys done.sim new.sim made.names_are (subst (λ s. HaveOwnersNames old.state.keys s) (sym (ap (λ (v : WorldView). v.sim) over)) taken.held.names));
     }
 
 -- ---- a port is bound
 
-pub binding_done : (old done new : Seen) (p c : Name) → IsTaken old → IsConsistent (finished (record old.state { bindings = put old.state.bindings p c })) done.zones
+pub binding_done : (old done new : WorldView) (p c : Name) → IsTaken old → IsConsistent (finished (record old.state { bindings = put old.state.bindings p c })) done.zones
     → done ≡ record old { state = finished (record old.state { bindings = put old.state.bindings p c }); zones = done.zones } → done.zones ≡ put old.zones p (zone_for old.state.bindings old.zones p c)
     → IsRecompiled ((p, Some c) ∷ []) [] done new → IsDone old (event_of.Bind p c) [] [] 0 new
 binding_done old done new p c taken now over zones_are made =
@@ -225,7 +225,7 @@ binding_done old done new p c taken now over zones_are made =
       counts = refl;
       zones = zones_then old done new mid bound [] taken now over made kept (λ d among. among) refl refl ∙ zones_are;
       now = then_taken old done new mid bound [] taken now over made kept (λ d among. among) refl refl (bound_then m)
-          (still_named m.keys done.sim new.sim made.names_are (subst (λ s. AreNamed m.keys s) (sym (ap (λ (v : Seen). v.sim) over)) taken.held.names));
+          (still_named m.keys done.sim new.sim made.names_are (subst (λ s. HaveOwnersNames m.keys s) (sym (ap (λ (v : WorldView). v.sim) over)) taken.held.names));
     }
   where
     bound_then : (m : State) → (q : Name) → named new.sim.bindings q ≡ at (put old.state.bindings p c) q
@@ -234,6 +234,6 @@ binding_done old done new p c taken now over zones_are made =
           let is : p ≡ q = (bytes_decides p q).0 same in
           made.bindings q ∙ ap (λ b. cond b (Some c) (named done.sim.bindings q)) same ∙ sym (ap (λ n. at (put old.state.bindings p c) n) (sym is) ∙ put_there old.state.bindings p c)
       | inr other ↦
-          made.bindings q ∙ ap (λ b. cond b (Some c) (named done.sim.bindings q)) other ∙ ap (λ (v : Seen). named v.sim.bindings q) over ∙ taken.held.bindings q
+          made.bindings q ∙ ap (λ b. cond b (Some c) (named done.sim.bindings q)) other ∙ ap (λ (v : WorldView). named v.sim.bindings q) over ∙ taken.held.bindings q
           ∙ sym (put_other old.state.bindings p c q (λ is. false≢true (sym other ∙ (bytes_decides p q).1 (sym is))))
     ]

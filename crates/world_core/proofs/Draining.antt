@@ -14,13 +14,13 @@ use Rattle.world_core.specs.declared.crossing.Crossing.{Crossing}
 use Rattle.world_core.specs.Packets.{AreGone, HasArrived, most_sent}
 use Rattle.world_core.specs.Passing.{AreDrained}
 use Rattle.world_core.specs.Refinement.{IsAmidst}
-use Rattle.world_core.specs.Seen.{Seen, AreHeld, frame_of_crossing}
+use Rattle.world_core.specs.WorldView.{WorldView, AreHeld, frame_of_crossing}
 use Rattle.world_core.specs.State.{State}
 use Rattle.world_core.specs.Step.{Drains, most_arrivals}
 use Rattle.world_core.proofs.Found.{is_some_of}
 
 -- some frames arrived, and however those that are left arrive, so do all
-pub record AreDraining (old : Seen) (before : SimOut) (left : ℕ) (now : Seen) (told : SimOut) : Type 0 where
+pub record AreDraining (old : WorldView) (before : SimOut) (left : ℕ) (now : WorldView) (told : SimOut) : Type 0 where
   pub own : List NetEffect
   pub all : told.effects ≡ before.effects ++ own
   pub drained : (after : SimOut) (s : sim.SimState) → AreDrained left now.sim told after s → AreDrained most_arrivals old.sim before after s
@@ -29,7 +29,7 @@ pub record AreDraining (old : Seen) (before : SimOut) (left : ℕ) (now : Seen) 
   pub held : AreHeld now.state now.zones now.sim
   pub rest : now ≡ record old { state = now.state; sim = now.sim }
 
-pub drain_begins : (old : Seen) (before : SimOut) → IsAmidst old.state old.zones most_sent → AreHeld old.state old.zones old.sim → AreDraining old before most_arrivals old before
+pub drain_begins : (old : WorldView) (before : SimOut) → IsAmidst old.state old.zones most_sent → AreHeld old.state old.zones old.sim → AreDraining old before most_arrivals old before
 drain_begins old before a h = record { own = []; all = sym (append-nil before.effects); drained = λ after s d. d; drains = λ effects m d. d; amidst = a; held = h; rest = refl }
 
 -- the first of some entries
@@ -44,7 +44,7 @@ pub first_waits : (m : State) (n : ℕ) (x : Crossing) (behind : List (ℕ × Cr
 first_waits m n x behind e = is_some_of (numbered m.waiting n) x (ap (λ ws. numbered ws n) e ∙ ap (λ b. cond b (Some x) (numbered behind n)) (own_number n))
 
 -- one frame more
-pub drain_goes_on : (old : Seen) (before : SimOut) (left : ℕ) (now next : Seen) (told more : SimOut) (n : ℕ) (x : Crossing) (behind : List (ℕ × Crossing)) → AreDraining old before (suc left) now told → now.state.waiting ≡ (n, x) ∷ behind
+pub drain_goes_on : (old : WorldView) (before : SimOut) (left : ℕ) (now next : WorldView) (told more : SimOut) (n : ℕ) (x : Crossing) (behind : List (ℕ × Crossing)) → AreDraining old before (suc left) now told → now.state.waiting ≡ (n, x) ∷ behind
     → HasArrived now n false told more next → AreDraining old before left next more
 drain_goes_on old before left now next told more n x behind d first p = record {
   own = d.own ++ p.effects;
@@ -73,7 +73,7 @@ drain_goes_on old before left now next told more n x behind d first p = record {
   })));
   amidst = p.amidst;
   held = p.held;
-  rest = p.rest ∙ ap (λ (w : Seen). record w { state = next.state; sim = next.sim }) d.rest;
+  rest = p.rest ∙ ap (λ (w : WorldView). record w { state = next.state; sim = next.sim }) d.rest;
 }
 
 over_sim : (left : ℕ) (s : sim.SimState) (told : SimOut) → (left ≡ 0) ⊎ (s.waiting ≡ []) → AreDrained left s told told s
@@ -90,7 +90,7 @@ none_held : (m : State) (zones : List (Name × ℕ)) (s : sim.SimState) → AreH
 none_held m zones s h none = h.waiting ∙ ap (λ ws. map (frame_of_crossing m.keys) ws) none
 
 -- none is left, or enough arrived
-pub drain_ends : (old : Seen) (before : SimOut) (left : ℕ) (now : Seen) (told : SimOut) → AreDraining old before left now told → (left ≡ 0) ⊎ (now.state.waiting ≡ []) → AreGone most_arrivals old before told now
+pub drain_ends : (old : WorldView) (before : SimOut) (left : ℕ) (now : WorldView) (told : SimOut) → AreDraining old before left now told → (left ≡ 0) ⊎ (now.state.waiting ≡ []) → AreGone most_arrivals old before told now
 drain_ends old before left now told d e = record {
   passed = d.drained told now.sim (over_sim left now.sim told (elim e [ inl z ↦ inl z | inr none ↦ inr (none_held now.state now.zones now.sim d.held none) ]));
   effects = d.own;

@@ -9,10 +9,10 @@ use Rattle.event_lines.specs.Text.{StartsWith}
 use Rattle.switch_engine.specs.declared.walk.Walk.{Walk}
 use Rattle.tunnel_keys.proofs.Births.{born_later}
 use Rattle.world_core.specs.Outcome.{IsAccepted, IsRefused}
-use Rattle.world_core.specs.Parts.{IsTaken}
-use Rattle.world_core.specs.Seen.{Seen, IsSound, AreHeld}
+use Rattle.world_core.specs.StepParts.{IsTaken}
+use Rattle.world_core.specs.WorldView.{WorldView, IsSound, AreHeld}
 use Rattle.world_core.specs.Sound.{MayWait}
-use Rattle.world_core.specs.State.{State, events_of}
+use Rattle.world_core.specs.State.{State, event_count}
 use Rattle.world_core.specs.declared.crossing.Crossing.{Crossing}
 
 -- the same state with one refused event more
@@ -43,7 +43,7 @@ held_on m zones s h = record {
 }
 
 -- a refused event changes nothing but the number of refused ones
-pub refused_taken : (w : Seen) → IsTaken w → events_of w.state < 2 ^ 42 → IsTaken (record w { state = record w.state { refused = w.state.refused + 1 }; walks = [] })
+pub refused_taken : (w : WorldView) → IsTaken w → event_count w.state < 2 ^ 42 → IsTaken (record w { state = record w.state { refused = w.state.refused + 1 }; walks = [] })
 refused_taken w taken room =
     let m = w.state in
     let now = taken.consistent in
@@ -68,7 +68,7 @@ refused_taken w taken room =
         born = record {
           switches = λ a switch is. let b = now.born.switches a switch is in omega (arith, b);
           ports = λ q port is. let b = now.born.ports q port is in omega (arith, b);
-          keys = born_later m.keys (events_of m) (events_of (record m { refused = m.refused + 1 })) (omega arith) now.born.keys;
+          keys = born_later m.keys (event_count m) (event_count (record m { refused = m.refused + 1 })) (omega arith) now.born.keys;
           none = now.born.none;
         };
         on_the_way = record {
@@ -87,29 +87,29 @@ refused_taken w taken room =
     }
 
 -- the mark of an event that is taken plays no part in what it does
-pub accepted_marked : (old mid : Seen) (event : Event) (before after : List ℕ) → IsAccepted (record old { whole = false }) event before after mid → IsTaken mid → IsAccepted old event before after (record mid { whole = true }) × IsSound (record mid { whole = true })
+pub accepted_marked : (old mid : WorldView) (event : Event) (before after : List ℕ) → IsAccepted (record old { whole = false }) event before after mid → IsTaken mid → IsAccepted old event before after (record mid { whole = true }) × IsSound (record mid { whole = true })
 accepted_marked old mid event before after done taken = (
   record { admitted = done.admitted; effects = done.effects; step = done.step; passed = done.passed; zones = done.zones; text = done.text },
   record { whole = refl; consistent = taken.consistent; held = taken.held },
 )
 
-pub refused_marked : (old mid : Seen) (event : Event) (why : Refusal) (before after : List ℕ) → old.whole ≡ true → IsRefused (record old { whole = false }) event why before after mid → IsTaken mid
+pub refused_marked : (old mid : WorldView) (event : Event) (why : Refusal) (before after : List ℕ) → old.whole ≡ true → IsRefused (record old { whole = false }) event why before after mid → IsTaken mid
     → IsRefused old event why before after (record mid { whole = true }) × IsSound (record mid { whole = true })
 refused_marked old mid event why before after was done taken = (
   record {
     first = done.first;
-    kept = ap (λ (w : Seen). record w { whole = true }) done.kept ∙ ap (λ b. record old { state = record old.state { refused = old.state.refused + 1 }; walks = []; whole = b }) (sym was);
+    kept = ap (λ (w : WorldView). record w { whole = true }) done.kept ∙ ap (λ b. record old { state = record old.state { refused = old.state.refused + 1 }; walks = []; whole = b }) (sym was);
     text = done.text;
   },
   record { whole = refl; consistent = taken.consistent; held = taken.held },
 )
 
 -- once it is done, the world is sound
-pub sound_again : (w : Seen) (walks : List Walk) → IsTaken w → IsSound (record w { walks = walks; whole = true })
+pub sound_again : (w : WorldView) (walks : List Walk) → IsTaken w → IsSound (record w { walks = walks; whole = true })
 sound_again w walks taken = record { whole = refl; consistent = taken.consistent; held = taken.held }
 
 -- after want of memory the world isn't sound
-pub half_done : (w : Seen) → ¬ IsSound (record w { whole = false })
+pub half_done : (w : WorldView) → ¬ IsSound (record w { whole = false })
 half_done w sound = let h : false ≡ true = sound.whole in cc
 
 -- and the text has what it had at its front
@@ -117,5 +117,5 @@ pub front_kept : (before after : List ℕ) → StartsWith after before → (more
 front_kept before after h = (drop (length before) after, sym (take-append-drop (length before) after) ∙ ap (λ l. l ++ drop (length before) after) h)
 
 -- the same state again, taken
-pub taken_of : (w : Seen) → IsSound w → IsTaken (record w { whole = false })
+pub taken_of : (w : WorldView) → IsSound w → IsTaken (record w { whole = false })
 taken_of w sound = record { consistent = sound.consistent; held = sound.held; taken = refl }

@@ -3,8 +3,8 @@ use Rattle.std.specs.Prelude.{◌≡◌, ◌≢◌, ◌<◌, ◌≤◌, ◌^◌,
 use Rattle.std.specs.List.{AllZip}
 use Rattle.std.proofs.Common.{sym, ap, ◌∙◌, subst, arith, inl, inr}
 use Rattle.std.proofs.lemmas.Bool.{cases_Bool, false≢true, ltb-false}
-use Rattle.ovn_base.specs.Address.{is_multicast_mac}
-use Rattle.ovn_base.specs.ByName.{at}
+use Rattle.ovn_base.specs.addresses.EtherAddress.{is_multicast_mac}
+use Rattle.ovn_base.specs.names.ByName.{at}
 use Rattle.ovn_base.specs.declared.name.Name.{Name}
 use Rattle.inet_packet.specs.Fields.{ether_type}
 use Rattle.inet_packet.specs.Whole.{IsWhole, IsWholeBody}
@@ -99,14 +99,14 @@ module _ (s : Setting) (p : Name) (ours : SwitchPort) (dp entered : ℕ) (from :
     nobody f t low q port target =
         let of = port_on s q port dp target.there (subst (λ n. IsDatapath b n dp) (sym target.on_switch) from.on) in
         t.unbeaten (address_row dp packet.dst of.0) (TableFlow.in_s_lookup (LookupRow.address q port dp of.0 packet.dst of.1 target.has_address refl)) refl
-        (address_fits regs packet dp small on packet.dst whole.dst refl) low
+        (address_fits regs packet dp small on packet.dst refl) low
 
     -- nor is it that of a group
     not_many : (f : Flow) → Matched s copy_14 f → f.priority < 50 → is_multicast_mac packet.dst ≡ false
     not_many f t low = elim (cases_Bool (is_multicast_mac packet.dst)) [
       | inl many ↦
           absurd (t.unbeaten (flood_row dp) (TableFlow.in_s_lookup (LookupRow.flood_to ours.switch dp from.on refl)) refl
-          (to_group_fits regs packet dp small on (multicast_fits packet.dst whole.dst many)) (omega (arith, low)))
+          (to_group_fits regs packet dp small on (multicast_fits packet.dst many)) (omega (arith, low)))
       | inr single ↦ single
     ]
 
@@ -115,9 +115,9 @@ module _ (s : Setting) (p : Name) (ours : SwitchPort) (dp entered : ℕ) (from :
         let fits = fits_to_group regs packet d within_14 (row_fits s (Vif p) copy_14 f t (flood_row d) e) in
         let after : Regs = record regs { out_port = group_key Flood } in
         as_row s (Vif p) copy_14 AreGone f (flood_row d) e
-        (to_target (copy_at 14 32 after packet ∷ []) (group Flood) (HasTarget.many (fits_multicast packet.dst whole.dst fits.1)) (sent_group s p ours dp entered from packet Flood 14 after on came refl word))
+        (to_target (copy_at 14 32 after packet ∷ []) (group Flood) (HasTarget.many (fits_multicast packet.dst fits.1)) (sent_group s p ours dp entered from packet Flood 14 after on came refl word))
     look_14 f t (LookupRow.address q port d key mac theirs has e) =
-        let fits = fits_address regs packet d mac within_14 (s.now.valid.macs q port mac theirs.there has) whole.dst (row_fits s (Vif p) copy_14 f t (address_row d mac key) e) in
+        let fits = fits_address regs packet d mac within_14 (row_fits s (Vif p) copy_14 f t (address_row d mac key) e) in
         let same : d ≡ dp = sym fits.0 ∙ on in
         let of : IsPort b q port dp key = subst (λ n. IsPort b q port n key) same theirs in
         let together : port.switch ≡ ours.switch = one_datapath s port.switch ours.switch dp dp of.on from.on refl in
@@ -182,7 +182,7 @@ module _ (s : Setting) (p : Name) (ours : SwitchPort) (dp entered : ℕ) (from :
     a_station : (f : Flow) → Matched s copy_8 f → f.priority < 110 → is_multicast_mac packet.src ≡ false
     a_station f t low = elim (cases_Bool (is_multicast_mac packet.src)) [
       | inl many ↦
-          absurd (t.unbeaten (bad_source_row dp) (TableFlow.in_s_admit (AdmitRow.bad_source ours.switch dp from.on refl)) refl (from_group_fits regs packet dp small on (multicast_fits packet.src whole.src many)) low)
+          absurd (t.unbeaten (bad_source_row dp) (TableFlow.in_s_admit (AdmitRow.bad_source ours.switch dp from.on refl)) refl (from_group_fits regs packet dp small on (multicast_fits packet.src many)) low)
       | inr single ↦ single
     ]
 
@@ -190,7 +190,7 @@ module _ (s : Setting) (p : Name) (ours : SwitchPort) (dp entered : ℕ) (from :
     admit f t (AdmitRow.bad_source o d theirs e) =
         let fits = fits_from_group regs packet d within_8 (row_fits s (Vif p) copy_8 f t (bad_source_row d) e) in
         as_row s (Vif p) copy_8 AreGone f (bad_source_row d) e
-        (comes_none s.flows (Vif p) s.time (λ more. AreGone (effect.Drop regs.dp regs.in_port BadSource ∷ more)) (dropped regs on came BadSource (Goes.bad_source (fits_multicast packet.src whole.src fits.1) refl)))
+        (comes_none s.flows (Vif p) s.time (λ more. AreGone (effect.Drop regs.dp regs.in_port BadSource ∷ more)) (dropped regs on came BadSource (Goes.bad_source (fits_multicast packet.src fits.1) refl)))
     admit f t (AdmitRow.vlan o d theirs e) =
         let fits = fits_tag regs packet d within_8 (type_short packet.body packet.tail whole.body) (row_fits s (Vif p) copy_8 f t (vlan_row d) e) in
         let station = a_station f t (subst (λ (g : Flow). g.priority < 110) (sym e) (omega arith)) in

@@ -2,7 +2,7 @@
 use Rattle.std.specs.Prelude.{◌≡◌, ◌+◌, ℕ, List, ◌++◌, length, Some, refl}
 use Rattle.std.proofs.Common.{sym, ◌∙◌, arith}
 use Rattle.std.proofs.lemmas.Option.{none-some}
-use Rattle.ovn_base.specs.ByName.{at}
+use Rattle.ovn_base.specs.names.ByName.{at}
 use Rattle.ovn_base.specs.declared.name.Name.{Name}
 use Rattle.chassis_sim.specs.Passing as passing
 use Rattle.chassis_sim.specs.Passing.{IsTold}
@@ -18,7 +18,7 @@ use Rattle.world_core.specs.Crossing.{numbered_from}
 use Rattle.world_core.specs.Effects.{effects_of, crossings_in}
 use Rattle.world_core.specs.Passing.{GoesIn, clock}
 use Rattle.world_core.specs.Refinement.{IsAmidst, IsRefined, EntryRefines}
-use Rattle.world_core.specs.Seen.{AreHeld}
+use Rattle.world_core.specs.WorldView.{AreHeld}
 use Rattle.world_core.specs.State.{State}
 use Rattle.world_core.specs.Step.{Enters, sent_on}
 use Rattle.world_core.specs.WalkLaw.{AreVisit, EntryLaw}

@@ -1,7 +1,7 @@
 -- An event is over: it is counted, and where nothing waits no key is retired.
 use Rattle.std.specs.Prelude.{◌≡◌, ◌≤◌, ◌<◌, ◌+◌, ◌*◌, ◌^◌, ℕ, List, [], ◌∷◌, map, refl}
 use Rattle.std.proofs.Common.{sym, ap, ◌∙◌, subst, arith}
-use Rattle.ovn_base.specs.Among.{Among}
+use Rattle.ovn_base.specs.lists.Among.{Among}
 use Rattle.ovn_base.specs.declared.name.Name.{Name}
 use Rattle.ovn_base.proofs.AmongLaws.{among_none}
 use Rattle.chassis_sim.specs.State as sim
@@ -11,9 +11,9 @@ use Rattle.tunnel_keys.proofs.Invariant.{settled_hold}
 use Rattle.world_core.specs.declared.crossing.Crossing.{Crossing}
 use Rattle.world_core.specs.Consistent.{IsConsistent}
 use Rattle.world_core.specs.Refinement.{IsAmidst, Finishes}
-use Rattle.world_core.specs.Seen.{AreHeld, frame_of_crossing}
+use Rattle.world_core.specs.WorldView.{AreHeld, frame_of_crossing}
 use Rattle.world_core.specs.Sound.{HaveKeys, AreBound, AreBorn, MayWait, basis_at}
-use Rattle.world_core.specs.State.{State, events_of, settled_where_none_waits}
+use Rattle.world_core.specs.State.{State, event_count, settled_where_none_waits}
 use Rattle.world_core.proofs.SettledTables.{settle_table, unsettle_table}
 
 -- the state with other keys, and one event more
@@ -24,12 +24,12 @@ counted_births : (m : State) → AreBorn m → AreBorn (with m m.keys)
 counted_births m b = record {
   switches = λ a switch h. let old = b.switches a switch h in omega (arith, old);
   ports = λ q port h. let old = b.ports q port h in omega (arith, old);
-  keys = born_later m.keys (events_of m) (events_of (with m m.keys)) (omega arith) b.keys;
+  keys = born_later m.keys (event_count m) (event_count (with m m.keys)) (omega arith) b.keys;
   none = λ z. absurd (omega (arith, z));
 }
 
-module _ (m : State) (zones : List (Name × ℕ)) (more : ℕ) (s : sim.SimState) (a : IsAmidst m zones more) (few : more ≤ 2 ^ 64) (events : events_of m < 2 ^ 42) (h : AreHeld m zones s) where
-  few_sent : m.next ≤ 1 + 2 ^ 64 * events_of (with m m.keys)
+module _ (m : State) (zones : List (Name × ℕ)) (more : ℕ) (s : sim.SimState) (a : IsAmidst m zones more) (few : more ≤ 2 ^ 64) (events : event_count m < 2 ^ 42) (h : AreHeld m zones s) where
+  few_sent : m.next ≤ 1 + 2 ^ 64 * event_count (with m m.keys)
   few_sent = let sent = a.few_sent in omega (arith, sent, few)
 
   bound_then : (keys : Keys) → AreBound (with m keys) zones
@@ -82,7 +82,7 @@ module _ (m : State) (zones : List (Name × ℕ)) (more : ℕ) (s : sim.SimState
   born_settled = let b = counted_births m a.born in record {
     switches = b.switches;
     ports = b.ports;
-    keys = settled_born m.keys (events_of (with m m.keys)) b.keys;
+    keys = settled_born m.keys (event_count (with m m.keys)) b.keys;
     none = b.none;
   }
 

@@ -1,9 +1,9 @@
 -- The keys after an owner came: each record has its key, and no owner is younger than the event.
 use Rattle.std.specs.Prelude.{List, [], ◌∷◌, IsSome}
 use Rattle.std.proofs.Common.{sym, ap, subst, ◌∙◌, inl, inr}
-use Rattle.ovn_base.specs.Among.{here}
-use Rattle.ovn_base.specs.ByName.{at, put}
-use Rattle.ovn_base.proofs.Puts.{put_cases}
+use Rattle.ovn_base.specs.lists.Among.{here}
+use Rattle.ovn_base.specs.names.ByName.{at, put}
+use Rattle.ovn_base.proofs.ByNameLaws.{put_cases}
 use Rattle.nb_records.specs.Network.{Network}
 use Rattle.nb_records.specs.declared.record.Switch.{Switch}
 use Rattle.nb_records.specs.declared.record.SwitchPort.{SwitchPort}

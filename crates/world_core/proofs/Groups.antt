@@ -7,12 +7,12 @@ use Rattle.std.proofs.Common.{sym, ap, ◌∙◌, subst}
 use Rattle.std.proofs.Math.Dec.{eqb as nat_eq}
 use Rattle.std.proofs.lemmas.Bool.{false≢true}
 use Rattle.std.proofs.lemmas.Bool.Decides.{Decides-eqb}
-use Rattle.ovn_base.specs.Among.{Among, here, there}
-use Rattle.ovn_base.specs.ByName.{at, IsByName}
-use Rattle.ovn_base.specs.SameName.{same_name, bytes_decides}
+use Rattle.ovn_base.specs.lists.Among.{Among, here, there}
+use Rattle.ovn_base.specs.names.ByName.{at, IsByName}
+use Rattle.ovn_base.specs.names.SameName.{same_name, bytes_decides}
 use Rattle.ovn_base.specs.declared.name.Name.{Name}
 use Rattle.ovn_base.proofs.AmongLaws.{map_among, filter_among}
-use Rattle.ovn_base.proofs.Puts.{among_at}
+use Rattle.ovn_base.proofs.ByNameLaws.{among_at}
 use Rattle.inet_packet.specs.declared.packet.Packet.{Packet}
 use Rattle.inet_packet.specs.declared.regs.Regs.{Regs}
 use Rattle.flow_table.specs.declared.flow.Member.{Member}

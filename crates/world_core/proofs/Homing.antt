@@ -1,7 +1,7 @@
 -- Table 33: a packet goes on where its port is at home, and a copy to each member of a group that is.
 use Rattle.std.specs.Prelude.{◌≡◌, ◌≢◌, ◌<◌, ◌≤◌, ◌^◌, ℕ, Bool, cond, List, [], ◌++◌, Some, bit_and, refl}
 use Rattle.std.proofs.Common.{sym, ap, ◌∙◌, subst, arith, append-nil}
-use Rattle.ovn_base.specs.ByName.{at}
+use Rattle.ovn_base.specs.names.ByName.{at}
 use Rattle.ovn_base.specs.declared.name.Name.{Name}
 use Rattle.inet_packet.specs.declared.packet.Packet.{Packet}
 use Rattle.inet_packet.specs.declared.regs.Regs.{Regs}

@@ -7,11 +7,11 @@ use Rattle.std.specs.Ordering.{is_eq, match_ordering, nat_cmp}
 use Rattle.std.specs.declared.cmp.Ordering.{Ordering}
 use Rattle.std.specs.declared.cmp.Ordering.TheVariants.{Less, Equal, Greater}
 use Rattle.std.proofs.Common.{arith, sym, ap, subst, ◌∙◌, inl, inr, append_assoc}
-use Rattle.ovn_base.specs.Among.{Among, here, there}
-use Rattle.ovn_base.specs.ByName.{put}
+use Rattle.ovn_base.specs.lists.Among.{Among, here, there}
+use Rattle.ovn_base.specs.names.ByName.{put}
 use Rattle.ovn_base.specs.declared.name.Name.{Name}
 use Rattle.ovn_base.proofs.AmongLaws.{among_cases, among_none, among_same}
-use Rattle.ovn_base.proofs.Puts.{put_sorted, same_name}
+use Rattle.ovn_base.proofs.ByNameLaws.{put_sorted, same_name}
 use Rattle.world_core.specs.Editing.{with_name}
 
 -- ---- those that are there afterwards

@@ -9,7 +9,7 @@ use Rattle.std.specs.Ordering.{nat_cmp}
 use Rattle.std.specs.declared.cmp.Ordering.TheVariants.{Less, Equal, Greater}
 use Rattle.std.specs.Prelude.{nat_lt}
 use Rattle.std.proofs.Math.Dec.{eqb as nat_eq}
-use Rattle.ovn_base.specs.Among.{Among, here, there}
+use Rattle.ovn_base.specs.lists.Among.{Among, here, there}
 use Rattle.ovn_base.specs.declared.name.Name.{Name}
 use Rattle.ovn_base.proofs.AmongLaws.{among_none, split_among}
 use Rattle.chassis_sim.specs.InNames.{frames_sent, sent_by}
@@ -19,7 +19,7 @@ use Rattle.switch_engine.specs.declared.effect.NetEffect.TheVariants as net
 use Rattle.world_core.specs.declared.crossing.Crossing.{Crossing}
 use Rattle.world_core.specs.Effects.{spelled}
 use Rattle.world_core.specs.Packets.{CanBeKept, IsSentFrom}
-use Rattle.world_core.specs.Seen.{Seen, frame_of_crossing}
+use Rattle.world_core.specs.WorldView.{WorldView, frame_of_crossing}
 use Rattle.world_core.specs.State.{State}
 use Rattle.world_core.proofs.Refining.{may_still}
 use Rattle.world_core.proofs.Waiting.{put_behind}
@@ -46,14 +46,14 @@ below_last (w ∷ xs) y ys s k x (there m) = below_last xs y ys s.1 k x m
 -- ---- the effects that are left
 
 -- of these crossings some are kept, and the others are those of the effects that are left
-pub record IsKeeping (old : Seen) (left : List NetEffect) (ws : List (ℕ × Crossing)) (now : Seen) : Type 0 where
+pub record IsKeeping (old : WorldView) (left : List NetEffect) (ws : List (ℕ × Crossing)) (now : WorldView) : Type 0 where
   pub done : List (ℕ × Crossing)
   pub rest : List (ℕ × Crossing)
   pub all : ws ≡ done ++ rest
   pub frames : frames_sent left ≡ map (frame_of_crossing old.state.keys) rest
   pub now_is : now ≡ record old { state = record old.state { waiting = old.state.waiting ++ done } }
 
-pub keeping_begins : (old : Seen) (p : Name) (effects : List NetEffect) (ws : List (ℕ × Crossing)) → CanBeKept old.state p effects ws → IsKeeping old effects ws old
+pub keeping_begins : (old : WorldView) (p : Name) (effects : List NetEffect) (ws : List (ℕ × Crossing)) → CanBeKept old.state p effects ws → IsKeeping old effects ws old
 keeping_begins old p effects ws k = record {
   done = [];
   rest = ws;
@@ -63,7 +63,7 @@ keeping_begins old p effects ws k = record {
 }
 
 -- an effect that sends nothing
-pub keeping_passes : (old : Seen) (effect : NetEffect) (left : List NetEffect) (ws : List (ℕ × Crossing)) (now : Seen) → sent_by effect ≡ [] → IsKeeping old (effect ∷ left) ws now → IsKeeping old left ws now
+pub keeping_passes : (old : WorldView) (effect : NetEffect) (left : List NetEffect) (ws : List (ℕ × Crossing)) (now : WorldView) → sent_by effect ≡ [] → IsKeeping old (effect ∷ left) ws now → IsKeeping old left ws now
 keeping_passes old effect left ws now none k = record { done = k.done; rest = k.rest; all = k.all; frames = ap (λ l. l ++ frames_sent left) (sym none) ∙ k.frames; now_is = k.now_is }
 
 -- the next crossing
@@ -75,7 +75,7 @@ pub record IsNext (m : State) (ws done : List (ℕ × Crossing)) (n : ℕ) (to :
   pub bytes_are : spelled m.keys crossing ≡ bytes
   pub frames : frames_sent left ≡ map (frame_of_crossing m.keys) behind
 
-pub next_of : (old : Seen) (n : ℕ) (from to : Name) (bytes : List ℕ) (left : List NetEffect) (ws : List (ℕ × Crossing)) (now : Seen) → (k : IsKeeping old (net.Tunnel n from to bytes ∷ left) ws now) → IsNext old.state ws k.done n to bytes left
+pub next_of : (old : WorldView) (n : ℕ) (from to : Name) (bytes : List ℕ) (left : List NetEffect) (ws : List (ℕ × Crossing)) (now : WorldView) → (k : IsKeeping old (net.Tunnel n from to bytes ∷ left) ws now) → IsNext old.state ws k.done n to bytes left
 next_of old n from to bytes left ws now k = by k.rest k.all k.frames
   where
     head_or : ℕ × WaitingFrame → List (ℕ × WaitingFrame) → ℕ × WaitingFrame
@@ -114,15 +114,15 @@ sent_still m waiting p to bytes x f = record {
   spelled_so = f.spelled_so;
 }
 
-pub next_sent : (old : Seen) (p : Name) (effects : List NetEffect) (n : ℕ) (to : Name) (bytes : List ℕ) (left : List NetEffect) (ws done : List (ℕ × Crossing)) (now : Seen) → CanBeKept old.state p effects ws → (h : IsNext old.state ws done n to bytes left)
+pub next_sent : (old : WorldView) (p : Name) (effects : List NetEffect) (n : ℕ) (to : Name) (bytes : List ℕ) (left : List NetEffect) (ws done : List (ℕ × Crossing)) (now : WorldView) → CanBeKept old.state p effects ws → (h : IsNext old.state ws done n to bytes left)
     → now ≡ record old { state = record old.state { waiting = old.state.waiting ++ done } } → IsSentFrom now.state p to bytes h.crossing
 next_sent old p effects n to bytes left ws done now k h is =
     let f = k.sent.from n h.crossing (subst (λ l. Among (n, h.crossing) l) (sym h.all) (split_among (n, h.crossing) done h.behind)) in
     let g : IsSentFrom old.state p to bytes h.crossing = subst (λ d. IsSentFrom old.state p d bytes h.crossing) h.home (subst (λ bs. IsSentFrom old.state p h.crossing.home bs h.crossing) h.bytes_are f) in
-    subst (λ (w : Seen). IsSentFrom w.state p to bytes h.crossing) (sym is) (sent_still old.state (old.state.waiting ++ done) p to bytes h.crossing g)
+    subst (λ (w : WorldView). IsSentFrom w.state p to bytes h.crossing) (sym is) (sent_still old.state (old.state.waiting ++ done) p to bytes h.crossing g)
 
 -- and it is put behind the others
-pub keeping_goes_on : (old : Seen) (p : Name) (effects : List NetEffect) (n : ℕ) (to : Name) (bytes : List ℕ) (left : List NetEffect) (ws done : List (ℕ × Crossing)) (now next : Seen) (x : Crossing) → CanBeKept old.state p effects ws
+pub keeping_goes_on : (old : WorldView) (p : Name) (effects : List NetEffect) (n : ℕ) (to : Name) (bytes : List ℕ) (left : List NetEffect) (ws done : List (ℕ × Crossing)) (now next : WorldView) (x : Crossing) → CanBeKept old.state p effects ws
     → (h : IsNext old.state ws done n to bytes left) → now ≡ record old { state = record old.state { waiting = old.state.waiting ++ done } } → x ≡ h.crossing
     → next ≡ record now { state = record now.state { waiting = insert_entry nat_cmp now.state.waiting n x } } → IsKeeping old left ws next
 keeping_goes_on old p effects n to bytes left ws done now next x k h is same then =
@@ -131,7 +131,7 @@ keeping_goes_on old p effects n to bytes left ws done now next x k h is same the
     let put : insert_entry nat_cmp (old.state.waiting ++ done) n h.crossing ≡ (old.state.waiting ++ done) ++ (n, h.crossing) ∷ [] =
     put_behind (old.state.waiting ++ done) n h.crossing (below_last (old.state.waiting ++ done) (n, h.crossing) h.behind sorted) in
     let waiting : insert_entry nat_cmp now.state.waiting n x ≡ old.state.waiting ++ (done ++ (n, h.crossing) ∷ []) =
-    ap (λ (w : Seen). insert_entry nat_cmp w.state.waiting n x) is ∙ ap (λ y. insert_entry nat_cmp (old.state.waiting ++ done) n y) same ∙ put ∙ append_assoc old.state.waiting done ((n, h.crossing) ∷ []) in
+    ap (λ (w : WorldView). insert_entry nat_cmp w.state.waiting n x) is ∙ ap (λ y. insert_entry nat_cmp (old.state.waiting ++ done) n y) same ∙ put ∙ append_assoc old.state.waiting done ((n, h.crossing) ∷ []) in
     record {
       done = done ++ (n, h.crossing) ∷ [];
       rest = h.behind;
@@ -141,7 +141,7 @@ keeping_goes_on old p effects n to bytes left ws done now next x k h is same the
     }
 
 -- all are kept
-pub keeping_ends : (old : Seen) (ws : List (ℕ × Crossing)) (now : Seen) → IsKeeping old [] ws now → now ≡ record old { state = record old.state { waiting = old.state.waiting ++ ws } }
+pub keeping_ends : (old : WorldView) (ws : List (ℕ × Crossing)) (now : WorldView) → IsKeeping old [] ws now → now ≡ record old { state = record old.state { waiting = old.state.waiting ++ ws } }
 keeping_ends old ws now k = by k.rest k.all k.frames
   where
     by : (rest : List (ℕ × Crossing)) → ws ≡ k.done ++ rest → [] ≡ map (frame_of_crossing old.state.keys) rest → now ≡ record old { state = record old.state { waiting = old.state.waiting ++ ws } }

@@ -7,19 +7,19 @@ use Rattle.std.specs.Cmp.Lexicographic.{slice_cmp}
 use Rattle.std.specs.List.Sorted.{IsStrictlySortedBy}
 use Rattle.std.specs.Ordering.{nat_cmp}
 use Rattle.std.proofs.lemmas.Option.{none-some}
-use Rattle.ovn_base.specs.Among.{Among}
+use Rattle.ovn_base.specs.lists.Among.{Among}
 use Rattle.ovn_base.specs.declared.name.Name.{Name}
-use Rattle.ovn_base.specs.Once.{EachOnce}
-use Rattle.ovn_base.specs.ByName.{at, put, IsByName}
+use Rattle.ovn_base.specs.lists.Once.{EachOnce}
+use Rattle.ovn_base.specs.names.ByName.{at, put, IsByName}
 use Rattle.nb_records.specs.Network.{Network}
-use Rattle.ovn_base.proofs.Puts.{put_there, put_other, put_cases, put_sorted, one_or_two}
+use Rattle.ovn_base.proofs.ByNameLaws.{put_there, put_other, put_cases, put_sorted, one_or_two}
 use Rattle.nb_records.specs.declared.record.Switch.{Switch}
 use Rattle.nb_records.specs.declared.record.SwitchPort.{SwitchPort}
 use Rattle.tunnel_keys.specs.Births.{AreKeysBorn}
 use Rattle.tunnel_keys.proofs.Births.{born_later}
-use Rattle.world_core.specs.State.{State, events_of}
+use Rattle.world_core.specs.State.{State, event_count}
 use Rattle.world_core.specs.Addresses.{macs_in, HasMac, HasIp}
-use Rattle.world_core.specs.New.{AreNew}
+use Rattle.world_core.specs.NewPort.{AreNew}
 use Rattle.world_core.specs.Sound.{IsValid, AreBound, AreBorn}
 use Rattle.world_core.proofs.Found.{some_of, is_some_of}
 
@@ -47,7 +47,6 @@ module _ (net : Network) (name : Name) (switch : Switch) where
     ];
     port_names = valid.port_names;
     on_switch = λ q port found. some_kept net.switches name switch port.switch (valid.on_switch q port found);
-    macs = valid.macs;
     stations = valid.stations;
     once = valid.once;
     apart = valid.apart;
@@ -69,10 +68,6 @@ module _ (net : Network) (name : Name) (port : SwitchPort) where
     on_switch = λ q p found. elim (put_cases net.ports name port q p found) [
       | inl is ↦ subst (λ (w : SwitchPort). IsSome (at net.switches w.switch)) (sym is.1) on
       | inr old ↦ valid.on_switch q p old.1
-    ];
-    macs = λ q p mac found m. elim (put_cases net.ports name port q p found) [
-      | inl is ↦ new.macs mac (subst (λ (w : SwitchPort). HasMac w.addresses mac) is.1 m)
-      | inr old ↦ valid.macs q p mac old.1 m
     ];
     stations = λ q p mac found m. elim (put_cases net.ports name port q p found) [
       | inl is ↦ new.stations mac (subst (λ (w : SwitchPort). HasMac w.addresses mac) is.1 m)
@@ -187,33 +182,33 @@ no_zone m zones p bound free = by (at zones p) refl
 
 -- ---- births
 
-module _ (m n : State) (born : AreBorn m) (later : events_of m ≤ events_of n) where
+module _ (m n : State) (born : AreBorn m) (later : event_count m ≤ event_count n) where
   pub born_kept : (n.accepted ≡ 0 → m.accepted ≡ 0) → n.net ≡ m.net → n.keys ≡ m.keys → AreBorn n
   born_kept fresh net keys = record {
     none = λ h. net ∙ born.none (fresh h);
-    switches = λ a s e. let old : s.birth.0 ≤ events_of m = born.switches a s (ap (λ (w : Network). at w.switches a) (sym net) ∙ e) in omega (arith, old, later);
-    ports = λ q p e. let old : p.birth.0 ≤ events_of m = born.ports q p (ap (λ (w : Network). at w.ports q) (sym net) ∙ e) in omega (arith, old, later);
-    keys = subst (λ k. AreKeysBorn k (events_of n)) (sym keys) (born_later m.keys (events_of m) (events_of n) later born.keys);
+    switches = λ a s e. let old : s.birth.0 ≤ event_count m = born.switches a s (ap (λ (w : Network). at w.switches a) (sym net) ∙ e) in omega (arith, old, later);
+    ports = λ q p e. let old : p.birth.0 ≤ event_count m = born.ports q p (ap (λ (w : Network). at w.ports q) (sym net) ∙ e) in omega (arith, old, later);
+    keys = subst (λ k. AreKeysBorn k (event_count n)) (sym keys) (born_later m.keys (event_count m) (event_count n) later born.keys);
   }
 
-  pub born_switch : n.accepted ≢ 0 → (name : Name) (switch : Switch) → n.net ≡ record m.net { switches = put m.net.switches name switch } → switch.birth.0 ≤ events_of n → AreKeysBorn n.keys (events_of n) → AreBorn n
+  pub born_switch : n.accepted ≢ 0 → (name : Name) (switch : Switch) → n.net ≡ record m.net { switches = put m.net.switches name switch } → switch.birth.0 ≤ event_count n → AreKeysBorn n.keys (event_count n) → AreBorn n
   born_switch some name switch net in_time keys = record {
     none = λ h. absurd (some h);
     switches = λ a s e. elim (put_cases m.net.switches name switch a s (ap (λ (w : Network). at w.switches a) (sym net) ∙ e)) [
-      | inl is ↦ subst (λ (w : Switch). w.birth.0 ≤ events_of n) (sym is.1) in_time
-      | inr rest ↦ let old : s.birth.0 ≤ events_of m = born.switches a s rest.1 in omega (arith, old, later)
+      | inl is ↦ subst (λ (w : Switch). w.birth.0 ≤ event_count n) (sym is.1) in_time
+      | inr rest ↦ let old : s.birth.0 ≤ event_count m = born.switches a s rest.1 in omega (arith, old, later)
     ];
-    ports = λ q p e. let old : p.birth.0 ≤ events_of m = born.ports q p (ap (λ (w : Network). at w.ports q) (sym net) ∙ e) in omega (arith, old, later);
+    ports = λ q p e. let old : p.birth.0 ≤ event_count m = born.ports q p (ap (λ (w : Network). at w.ports q) (sym net) ∙ e) in omega (arith, old, later);
     keys = keys;
   }
 
-  pub born_port : n.accepted ≢ 0 → (name : Name) (port : SwitchPort) → n.net ≡ record m.net { ports = put m.net.ports name port } → port.birth.0 ≤ events_of n → AreKeysBorn n.keys (events_of n) → AreBorn n
+  pub born_port : n.accepted ≢ 0 → (name : Name) (port : SwitchPort) → n.net ≡ record m.net { ports = put m.net.ports name port } → port.birth.0 ≤ event_count n → AreKeysBorn n.keys (event_count n) → AreBorn n
   born_port some name port net in_time keys = record {
     none = λ h. absurd (some h);
-    switches = λ a s e. let old : s.birth.0 ≤ events_of m = born.switches a s (ap (λ (w : Network). at w.switches a) (sym net) ∙ e) in omega (arith, old, later);
+    switches = λ a s e. let old : s.birth.0 ≤ event_count m = born.switches a s (ap (λ (w : Network). at w.switches a) (sym net) ∙ e) in omega (arith, old, later);
     ports = λ q p e. elim (put_cases m.net.ports name port q p (ap (λ (w : Network). at w.ports q) (sym net) ∙ e)) [
-      | inl is ↦ subst (λ (w : SwitchPort). w.birth.0 ≤ events_of n) (sym is.1) in_time
-      | inr rest ↦ let old : p.birth.0 ≤ events_of m = born.ports q p rest.1 in omega (arith, old, later)
+      | inl is ↦ subst (λ (w : SwitchPort). w.birth.0 ≤ event_count n) (sym is.1) in_time
+      | inr rest ↦ let old : p.birth.0 ≤ event_count m = born.ports q p rest.1 in omega (arith, old, later)
     ];
     keys = keys;
   }

@@ -3,7 +3,7 @@ use Rattle.std.specs.Prelude.{◌≡◌, Bool, true, false, cond, List, [], ◌�
 use Rattle.std.specs.List.{find}
 use Rattle.std.specs.Option.{option_map, unwrap_or}
 use Rattle.std.proofs.Common.{sym, ap, ◌∙◌, subst}
-use Rattle.ovn_base.specs.Among.{Among, here, there}
+use Rattle.ovn_base.specs.lists.Among.{Among, here, there}
 use Rattle.tunnel_keys.specs.Keys.{Keys, IsKeys, held_datapaths, held_ports}
 use Rattle.tunnel_keys.specs.Same.{same_identity, identity_exact, identity_own}
 use Rattle.tunnel_keys.specs.declared.owner.HeldDatapath.{HeldDatapath}

@@ -8,11 +8,11 @@ use Rattle.std.proofs.Common.{arith, sym, ap, subst, ◌∙◌, inl, inr}
 use Rattle.std.proofs.Math.Dec.{eqb as nat_eq}
 use Rattle.std.proofs.lemmas.Bool.Decides.{Decides-eqb}
 use Rattle.geneve_frames.specs.Meaning.{canon}
-use Rattle.ovn_base.specs.Among.{Among, here, there}
-use Rattle.ovn_base.specs.ByName.{at, put}
+use Rattle.ovn_base.specs.lists.Among.{Among, here, there}
+use Rattle.ovn_base.specs.names.ByName.{at, put}
 use Rattle.ovn_base.specs.declared.name.Name.{Name}
 use Rattle.ovn_base.proofs.AmongLaws.{among_none}
-use Rattle.ovn_base.proofs.Puts.{one_or_two, put_other, put_there}
+use Rattle.ovn_base.proofs.ByNameLaws.{one_or_two, put_other, put_there}
 use Rattle.nb_records.specs.declared.record.Switch.{Switch}
 use Rattle.tunnel_keys.specs.Edits.{GivesKeys}
 use Rattle.tunnel_keys.specs.Keys.{Keys, IsKeys, held_datapaths, held_ports}
@@ -26,9 +26,9 @@ use Rattle.world_core.specs.declared.crossing.Crossing.{Crossing}
 use Rattle.world_core.specs.declared.crossing.Aim.{Aim}
 use Rattle.world_core.specs.declared.crossing.Aim.TheVariants.{ToPort, ToGroup}
 use Rattle.world_core.specs.Effects.{datapath_key, port_key, aim_key, spelled}
-use Rattle.world_core.specs.Seen.{frame_of_crossing}
+use Rattle.world_core.specs.WorldView.{frame_of_crossing}
 use Rattle.world_core.specs.Sound.{AreBorn, AreOnTheWay, HasAimKey, IsAimOnLive, IsOnLive, MayWait}
-use Rattle.world_core.specs.State.{State, events_of}
+use Rattle.world_core.specs.State.{State, event_count}
 use Rattle.world_core.specs.Visit.{has_birth, is_switch}
 use Rattle.world_core.proofs.KeysFound.{datapath_key_is, port_key_is}
 
@@ -37,12 +37,12 @@ pub record AreKept (m n : State) : Type 0 where
   pub hold : IsKeys n.keys
   pub datapaths : (h : HeldDatapath) → Among h (held_datapaths m.keys) → Among h (held_datapaths n.keys)
   pub ports : (h : HeldPort) → Among h (held_ports m.keys) → Among h (held_ports n.keys)
-  pub switches : (id : Identity) → id.birth.0 ≤ events_of m → IsTrue (is_switch n.net id) → IsTrue (is_switch m.net id)
+  pub switches : (id : Identity) → id.birth.0 ≤ event_count m → IsTrue (is_switch n.net id) → IsTrue (is_switch m.net id)
 
 module _ (m n : State) (born : AreBorn m) (kept : AreKept m n) where
   live_on : (datapath port : Identity) → (h : HeldDatapath) × Among h (held_datapaths m.keys) × (h.owner ≡ datapath) → (h : HeldPort) × Among h (held_ports m.keys) × (h.owner ≡ port) → IsOnLive m datapath port → IsOnLive n datapath port
   live_on datapath port d p live now h among owns =
-      let early : datapath.birth.0 ≤ events_of m = subst (λ (o : Identity). o.birth.0 ≤ events_of m) d.2 (born.keys.datapaths d.0 d.1) in
+      let early : datapath.birth.0 ≤ event_count m = subst (λ (o : Identity). o.birth.0 ≤ event_count m) d.2 (born.keys.datapaths d.0 d.1) in
       let one : h ≡ p.0 = kept.hold.port_once h p.0 among (kept.ports p.0 p.1) (owns ∙ sym p.2) in
       ap (λ (g : HeldPort). g.datapath) one ∙ live (kept.switches datapath early now) p.0 p.1 p.2
 
@@ -69,14 +69,14 @@ module _ (m n : State) (born : AreBorn m) (kept : AreKept m n) where
   }
 
   -- so do all that wait
-  pub way_on : AreOnTheWay m → n.waiting ≡ m.waiting → n.next ≡ m.next → events_of m ≤ events_of n → n.accepted ≢ 0 → AreOnTheWay n
+  pub way_on : AreOnTheWay m → n.waiting ≡ m.waiting → n.next ≡ m.next → event_count m ≤ event_count n → n.accepted ≢ 0 → AreOnTheWay n
   way_on way waiting next later some = record {
     crossings = record {
       in_order = subst (λ ws. IsStrictlySortedBy nat_cmp (keys_of ws)) (sym waiting) way.crossings.in_order;
       below = λ k x among. subst (λ t. k < t) (sym next) (way.crossings.below k x (subst (λ ws. Among (k, x) ws) waiting among));
       may = λ k x among. may_wait x (way.crossings.may k x (subst (λ ws. Among (k, x) ws) waiting among));
     };
-    few = let old : m.next ≤ 1 + 2 ^ 64 * events_of m = way.few in omega (arith, old, next, later);
+    few = let old : m.next ≤ 1 + 2 ^ 64 * event_count m = way.few in omega (arith, old, next, later);
     none = λ z. absurd (some z);
   }
 
@@ -134,11 +134,11 @@ module _ (m : State) (added : List KeyOwner) (after : Keys) (hold : IsKeys m.key
     switches = λ id early is. subst (λ w. IsTrue (has_birth (option_map (λ (s : Switch). s.birth) (at w id.name)) id.birth)) net is;
   }
 
-  module _ (s : Switch) (late : s.birth.0 ≡ events_of m + 1) where
+  module _ (s : Switch) (late : s.birth.0 ≡ event_count m + 1) where
     abbrev born_at : List (Name × Switch) → Identity → Bool
     born_at switches id = has_birth (option_map (λ (t : Switch). t.birth) (at switches id.name)) id.birth
 
-    still_there : (id : Identity) → id.birth.0 ≤ events_of m → born_at (put m.net.switches s.name s) id ≡ true → born_at m.net.switches id ≡ true
+    still_there : (id : Identity) → id.birth.0 ≤ event_count m → born_at (put m.net.switches s.name s) id ≡ true → born_at m.net.switches id ≡ true
     still_there id early is = elim (one_or_two id.name s.name) [
       | inl same ↦
           let found : at (put m.net.switches s.name s) id.name ≡ Some s = ap (λ n. at (put m.net.switches s.name s) n) same ∙ put_there m.net.switches s.name s in

@@ -1,5 +1,5 @@
 -- The Ethernet addresses of a port, as a list and one by one.
-use Rattle.ovn_base.specs.Among.{Among}
+use Rattle.ovn_base.specs.lists.Among.{Among}
 use Rattle.ovn_base.specs.declared.address.Mac.{Mac}
 use Rattle.ovn_base.proofs.AmongLaws.{among_filter_map, filter_map_among}
 use Rattle.std.specs.Prelude.{List}

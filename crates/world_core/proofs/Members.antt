@@ -14,12 +14,12 @@ use Rattle.std.proofs.lemmas.List.{length-map}
 use Rattle.std.proofs.lemmas.Option.{same_Some}
 use mathlib.Core.Path.{sym, ap, subst, ◌∙◌}
 use mathlib.Core.Logic.{inl, inr}
-use Rattle.ovn_base.specs.Among.{Among, here, there}
-use Rattle.ovn_base.specs.ByName.{at, IsByName}
-use Rattle.ovn_base.specs.SameName.{bytes_decides, same_name}
+use Rattle.ovn_base.specs.lists.Among.{Among, here, there}
+use Rattle.ovn_base.specs.names.ByName.{at, IsByName}
+use Rattle.ovn_base.specs.names.SameName.{bytes_decides, same_name}
 use Rattle.ovn_base.specs.declared.name.Name.{Name}
 use Rattle.ovn_base.proofs.AmongLaws.{among_cases, among_none, among_all, among_filter, filter_among, among_map, map_among}
-use Rattle.ovn_base.proofs.Puts.{below_apart, among_at, at_among}
+use Rattle.ovn_base.proofs.ByNameLaws.{below_apart, among_at, at_among}
 use Rattle.flow_table.specs.declared.flow.Flow.{Flow}
 use Rattle.nb_records.specs.declared.record.SwitchPort.{SwitchPort}
 use Rattle.tunnel_keys.specs.Keys.{ports_on}

@@ -2,7 +2,7 @@
 use Rattle.std.specs.Prelude.{◌≡◌, ℕ, ◌+◌, List, [], ◌∷◌, length, map, Some, refl}
 use Rattle.std.specs.List.{AllZip}
 use Rattle.std.proofs.Common.{sym, ap, ◌∙◌, subst, arith}
-use Rattle.ovn_base.specs.ByName.{at}
+use Rattle.ovn_base.specs.names.ByName.{at}
 use Rattle.ovn_base.specs.declared.name.Name.{Name}
 use Rattle.chassis_sim.specs.InNames.{all_in_names, arrived_as, frames_sent, name_of, next_after_all}
 use Rattle.chassis_sim.specs.State as sim
@@ -15,7 +15,7 @@ use Rattle.world_core.specs.Crossing.{numbered_from}
 use Rattle.world_core.specs.Effects.{effects_of, crossings_in, spelled, datapath_key, port_key, aim_key}
 use Rattle.world_core.specs.Naming.{HasDatapathKey, HasPortKey, IsNumbered}
 use Rattle.world_core.specs.Naming.IsNumbered.{out, drop, frame, lost}
-use Rattle.world_core.specs.Seen.{AreNamed, frame_of_crossing}
+use Rattle.world_core.specs.WorldView.{HaveOwnersNames, frame_of_crossing}
 use Rattle.world_core.specs.Visit.{End, leaves, is_dropped, crosses, is_lost}
 
 -- what is lost is the frame of this number
@@ -29,7 +29,7 @@ abbrev pub AreLostAs : ℕ → List End → Type 0
 AreLostAs n [] = Unit {0}
 AreLostAs n (e ∷ es) = IsLostAs n e × AreLostAs n es
 
-module _ (keys : Keys) (s : sim.SimState) (named : AreNamed keys s) (chassis : Name) (from : Start) where
+module _ (keys : Keys) (s : sim.SimState) (named : HaveOwnersNames keys s) (chassis : Name) (from : Start) where
   datapath_name : (a : Name) (vni : ℕ) → HasDatapathKey keys a vni → name_of s.names vni 0 ≡ a
   datapath_name a vni h = ap (λ n. name_of s.names n 0) (sym h.number) ∙ named.datapaths a h.live h.has
 

@@ -6,20 +6,19 @@ use native.Mathlib.Omega.{arith}
 use Rattle.std.proofs.Math.Dec.{eqb as nat_eq}
 use Rattle.std.proofs.lemmas.Bool.{false≢true, lt-ltb}
 use Rattle.std.proofs.lemmas.Option.{same_Some}
-use Rattle.ovn_base.specs.Among.{Among}
-use Rattle.ovn_base.specs.Address.{IsMac}
+use Rattle.ovn_base.specs.lists.Among.{Among}
+use Rattle.ovn_base.specs.addresses.EtherAddress.{same_ether}
 use Rattle.ovn_base.specs.declared.address.Mac.{Mac}
 use Rattle.ovn_base.specs.declared.name.Name.{Name}
-use Rattle.ovn_base.specs.SameName.{same_name}
+use Rattle.ovn_base.specs.names.SameName.{same_name}
 use Rattle.ovn_base.proofs.AmongLaws.{among_append, among_cases, among_none, among_all, map_among, flat_map_among}
-use Rattle.ovn_base.proofs.MacLemmas.{same_mac_number}
-use Rattle.ovn_base.specs.Once.{EachOnce}
-use Rattle.ovn_base.specs.ByName.{at}
+use Rattle.ovn_base.specs.lists.Once.{EachOnce}
+use Rattle.ovn_base.specs.names.ByName.{at}
 use Rattle.flow_table.proofs.OnceLaws.{once_append, once_map}
 use Rattle.flow_table.specs.declared.flow.Flow.{Flow}
 use Rattle.flow_table.specs.declared.flow.FlowOp.{FlowOp}
 use Rattle.flow_table.specs.declared.flow.FlowOp.TheVariants.{Set, Go, Drop, Header, Frame, Copies, Output}
-use Rattle.ovn_base.proofs.Puts.{among_at}
+use Rattle.ovn_base.proofs.ByNameLaws.{among_at}
 use Rattle.nb_records.specs.declared.record.PortAddress.{PortAddress}
 use Rattle.nb_records.specs.declared.record.Switch.{Switch}
 use Rattle.nb_records.specs.declared.record.SwitchPort.{SwitchPort}
@@ -158,16 +157,16 @@ module _ (dp key : ℕ) (small : key < 2 ^ 15) where
         ]
       ]
 
-      once_addresses : (addresses : List PortAddress) → ((mac : Mac) → Among mac (macs_in addresses) → IsMac mac) → EachOnce (macs_in addresses) → EachOnce (address_rows dp addresses key)
-      once_addresses addresses macs once =
+      once_addresses : (addresses : List PortAddress) → EachOnce (macs_in addresses) → EachOnce (address_rows dp addresses key)
+      once_addresses addresses once =
           once_map (λ mac. address_row dp mac key) (macs_in addresses) once
-          (λ x y m n e. same_mac_number x y (macs x m) (macs y n) (ap (λ f. f.cube.eth_dst.value) e))
+          (λ x y m n e. same_ether x y (ap (λ f. f.cube.eth_dst.value) e))
 
-      once_port : (port : SwitchPort) → ((mac : Mac) → Among mac (macs_in port.addresses) → IsMac mac) → EachOnce (macs_in port.addresses)
+      once_port : (port : SwitchPort) → EachOnce (macs_in port.addresses)
           → EachOnce (port_rows dp q port key ++ bound_rows chassis home number dp q key)
-      once_port port macs once =
+      once_port port once =
           let rest : EachOnce (address_rows dp port.addresses key ++ bound_rows chassis home number dp q key) =
-          once_append (address_rows dp port.addresses key) (bound_rows chassis home number dp q key) (once_addresses port.addresses macs once) (once_bound home number q)
+          once_append (address_rows dp port.addresses key) (bound_rows chassis home number dp q key) (once_addresses port.addresses once) (once_bound home number q)
           (λ f m n. let t = (is_address_row f port.addresses m).1 in elim (is_bound_row home number q f n).2 [ inl e ↦ omega (arith, t, e) | inr e ↦ omega (arith, t, e) ]) in (
             λ m. elim (among_cases (return_row dp key) (output_row dp q key) _ m) [
               | inl e ↦ let tables : 34 ≡ 64 = ap (λ f. f.table) e in omega arith
@@ -195,11 +194,11 @@ module _ (b : Basis) where
   port_part_row q port (Some dp) None small f m = absurd (among_none f m)
   port_part_row q port (Some dp) (Some key) small f m = (dp, key, refl, refl, port_row dp key (small key refl) b.chassis (at b.bindings q) (at b.zones q) q port f m)
 
-  once_port_part : (q : Name) (port : SwitchPort) (datapath of : Option ℕ) → ((key : ℕ) → of ≡ Some key → key < 2 ^ 15) → ((mac : Mac) → Among mac (macs_in port.addresses) → IsMac mac)
+  once_port_part : (q : Name) (port : SwitchPort) (datapath of : Option ℕ) → ((key : ℕ) → of ≡ Some key → key < 2 ^ 15)
       → EachOnce (macs_in port.addresses) → EachOnce (port_part b q port datapath of)
-  once_port_part q port None of small macs once = tt
-  once_port_part q port (Some dp) None small macs once = tt
-  once_port_part q port (Some dp) (Some key) small macs once = once_port dp key (small key refl) b.chassis (at b.bindings q) (at b.zones q) q port macs once
+  once_port_part q port None of small once = tt
+  once_port_part q port (Some dp) None small once = tt
+  once_port_part q port (Some dp) (Some key) small once = once_port dp key (small key refl) b.chassis (at b.bindings q) (at b.zones q) q port once
 
 module _ (b : Basis) (valid : IsValid b.net) (keys : HaveKeys b.net b.keys) where
   abbrev of_switch : Name × Switch → List Flow
@@ -248,7 +247,7 @@ module _ (b : Basis) (valid : IsValid b.net) (keys : HaveKeys b.net b.keys) wher
       (λ e m.
       let found : at b.net.ports e.0 ≡ Some e.1 = among_at e.0 e.1 b.net.ports valid.ports_sorted m in
       once_port_part b e.0 e.1 (datapath_number b.keys e.1.switch) (port_number b.keys e.0) (small_key e.0)
-      (λ mac n. valid.macs e.0 e.1 mac found (listed_mac e.1.addresses mac n)) (valid.once e.0 e.1 found))
+      (valid.once e.0 e.1 found))
       (λ d e f m n p q.
       let r = row_of_port d f p in
       let s = row_of_port e f q in

@@ -23,7 +23,7 @@ use Rattle.switch_engine.specs.declared.walk.Start.TheVariants as start_at
 use Rattle.switch_engine.specs.declared.walk.Step.{Step}
 use Rattle.chassis_sim.specs.Frames.{Carries}
 use Rattle.chassis_sim.specs.InNames.{all_in_names, frames_sent, next_after_all}
-use Rattle.chassis_sim.specs.Passing.{Arrives, IsInjected, IsTold, arrived, with_frames}
+use Rattle.chassis_sim.specs.Passing.{IsArrived, IsInjected, IsTold, arrived, with_frames}
 use Rattle.chassis_sim.specs.State as sim
 use Rattle.chassis_sim.specs.State.{named, numbered, KeyPair}
 use Rattle.chassis_sim.specs.declared.out.SimOut.{SimOut}
@@ -32,7 +32,7 @@ use Rattle.edit_reader.specs.declared.event.Event.{Event}
 use Rattle.edit_reader.specs.declared.event.Event.TheVariants as event_of
 use Rattle.world_core.specs.Passing.{GoesIn, AreDrained, Passes, clock, no_out}
 use Rattle.world_core.specs.Step.{most_arrivals}
-use Rattle.world_core.specs.Seen.{Seen, IsSound, AreHeld}
+use Rattle.world_core.specs.WorldView.{WorldView, IsSound, AreHeld}
 use Rattle.world_core.proofs.Found.{some_of, is_some_of}
 use Rattle.world_core.proofs.OneVisit.{first_number, some_wait}
 use Rattle.world_core.proofs.OneWalk as walk
@@ -51,7 +51,7 @@ record AreAlike (a b : sim.SimState) : Type 0 where
   waiting : a.waiting ≡ b.waiting
   next : a.next ≡ b.next
 
-sound_alike : (one two : Seen) → IsSound one → IsSound two → one.state ≡ two.state → one.zones ≡ two.zones → AreAlike one.sim two.sim
+sound_alike : (one two : WorldView) → IsSound one → IsSound two → one.state ≡ two.state → one.zones ≡ two.zones → AreAlike one.sim two.sim
 sound_alike one two sound also states zones =
     let now = sound.consistent in
     let first : AreHeld one.state one.zones one.sim = sound.held in
@@ -163,8 +163,8 @@ module _ (a b : sim.SimState) (alike : AreAlike a b) (n : ℕ) (keep : Bool) whe
   one_frame : (f g : WaitingFrame) → numbered a.waiting n ≡ Some f → numbered b.waiting n ≡ Some g → f ≡ g
   one_frame f g h k = same_Some f g (sym h ∙ ap (λ ws. numbered ws n) alike.waiting ∙ k)
 
-  arrives_alike : (before then after later : SimOut) (new other : sim.SimState) → before.walks ≡ then.walks → Arrives a n keep clock before after new → Arrives b n keep clock then later other → Same after later new other
-  arrives_alike before then after later new other walks (Arrives.through f flows v i o packet steps effects waits held carried walked told) (Arrives.through g more w j p own others last waits_too kept carries again said) =
+  arrives_alike : (before then after later : SimOut) (new other : sim.SimState) → before.walks ≡ then.walks → IsArrived a n keep clock before after new → IsArrived b n keep clock then later other → Same after later new other
+  arrives_alike before then after later new other walks (IsArrived.through f flows v i o packet steps effects waits held carried walked told) (IsArrived.through g more w j p own others last waits_too kept carries again said) =
       let frame : f ≡ g = one_frame f g waits waits_too in
       let to : f.to ≡ g.to = ap (λ (x : WaitingFrame). x.to) frame in
       let same = one_carried g.bytes v i o packet w j p own (subst (λ (x : WaitingFrame). Carries x.bytes v i o packet) frame carried) carries in
@@ -173,11 +173,11 @@ module _ (a b : sim.SimState) (alike : AreAlike a b) (n : ℕ) (keep : Bool) whe
       let one = alike.walks f.to flows more held (ap (λ c. named b.chassis c) to ∙ kept) (Tunnel w j p) clock own steps others effects last moved again in
       told_alike (arrived a n keep) (arrived b n keep) (arrived_still a b alike n keep) f.to (start_at.Frame n) steps effects before then after later new other walks told
       (told_as (arrived a n keep) (arrived b n keep) (arrived_still a b alike n keep) f.to g.to (start_at.Frame n) steps others effects last then later other to one said)
-  arrives_alike before then after later new other walks (Arrives.through f flows v i o packet steps effects waits held carried walked told) (Arrives.gone g waits_too none said) =
+  arrives_alike before then after later new other walks (IsArrived.through f flows v i o packet steps effects waits held carried walked told) (IsArrived.gone g waits_too none said) =
       absurd (both_held a b alike f.to g.to flows (ap (λ (x : WaitingFrame). x.to) (one_frame f g waits waits_too)) held none)
-  arrives_alike before then after later new other walks (Arrives.gone f waits none told) (Arrives.through g more w j p own others last waits_too kept carries again said) =
+  arrives_alike before then after later new other walks (IsArrived.gone f waits none told) (IsArrived.through g more w j p own others last waits_too kept carries again said) =
       absurd (both_held_too a b alike f.to g.to more (ap (λ (x : WaitingFrame). x.to) (one_frame f g waits waits_too)) kept none)
-  arrives_alike before then after later new other walks (Arrives.gone f waits none told) (Arrives.gone g waits_too never said) =
+  arrives_alike before then after later new other walks (IsArrived.gone f waits none told) (IsArrived.gone g waits_too never said) =
       let to : f.to ≡ g.to = ap (λ (x : WaitingFrame). x.to) (one_frame f g waits waits_too) in
       told_alike (arrived a n keep) (arrived b n keep) (arrived_still a b alike n keep) f.to (start_at.Frame n) [] (Lost ∷ []) before then after later new other walks told
       (told_as (arrived a n keep) (arrived b n keep) (arrived_still a b alike n keep) f.to g.to (start_at.Frame n) [] [] (Lost ∷ []) (Lost ∷ []) then later other to (refl, refl) said)
@@ -191,7 +191,7 @@ drained_alike (suc most) a b alike before then after later new other walks (inl 
 drained_alike (suc most) a b alike before then after later new other walks (inr h) (inl k) = absurd (some_wait (h.n, h.frame) h.behind a.waiting h.first (alike.waiting ∙ k.0))
 drained_alike (suc most) a b alike before then after later new other walks (inr h) (inr k) =
     let number : h.n ≡ k.n = ap first_number (sym h.first ∙ alike.waiting ∙ k.first) in
-    let first = arrives_alike a b alike k.n false before then h.between k.between h.mid k.mid walks (subst (λ n. Arrives a n false clock before h.between h.mid) number h.arrives) k.arrives in
+    let first = arrives_alike a b alike k.n false before then h.between k.between h.mid k.mid walks (subst (λ n. IsArrived a n false clock before h.between h.mid) number h.arrives) k.arrives in
     drained_alike most h.mid k.mid first.alike h.between k.between after later new other first.walks h.others k.others
 
 through_alike : (most : ℕ) (a b : sim.SimState) → AreAlike a b → (p : Name) (frame : List ℕ) (between amid after later : SimOut) (mid half new other : sim.SimState) → GoesIn a p frame no_out between mid → AreDrained most mid between after new
@@ -202,7 +202,7 @@ through_alike most a b alike p frame between amid after later mid half new other
 
 -- ---- events
 
-pub same_walks : (one two : Seen) (event : Event) (out more : SimOut) (new other : sim.SimState) → IsSound one → IsSound two → one.state ≡ two.state → one.zones ≡ two.zones
+pub same_walks : (one two : WorldView) (event : Event) (out more : SimOut) (new other : sim.SimState) → IsSound one → IsSound two → one.state ≡ two.state → one.zones ≡ two.zones
     → Passes one.sim event out new → Passes two.sim event more other → out.walks ≡ more.walks
 same_walks one two (event_of.Edit ops) out more new other sound also states zones h k = h ∙ sym k
 same_walks one two (event_of.Bind p chassis) out more new other sound also states zones h k = h ∙ sym k

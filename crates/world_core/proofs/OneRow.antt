@@ -3,9 +3,9 @@ use Rattle.std.specs.Prelude.{◌≡◌, ◌<◌, ℕ, Bool, true, false, cond, 
 use Rattle.std.proofs.Common.{sym, ap, ◌∙◌, subst, arith}
 use Rattle.std.proofs.lemmas.Bool.{false≢true}
 use Rattle.std.proofs.lemmas.Option.{same_Some}
-use Rattle.ovn_base.specs.ByName.{at}
+use Rattle.ovn_base.specs.names.ByName.{at}
 use Rattle.ovn_base.specs.declared.name.Name.{Name}
-use Rattle.ovn_base.proofs.MacLemmas.{same_mac_number}
+use Rattle.ovn_base.specs.addresses.EtherAddress.{same_ether}
 use Rattle.inet_packet.specs.Fits.{CubeFits}
 use Rattle.flow_table.specs.declared.flow.Flow.{Flow}
 use Rattle.switch_engine.specs.declared.carried.Carried.{Carried}
@@ -103,7 +103,7 @@ module _ (s : Setting) where
         let i = right (address_row d also k) x in
         let on : dp ≡ d = sym h.place.dp_fits ∙ i.place.dp_fits in
         let to : mac ≡ also =
-        same_mac_number mac also (s.now.valid.macs q port mac of.there has) (s.now.valid.macs r other also their.there in_it) (sym h.ether.eth_dst_fits ∙ i.ether.eth_dst_fits) in
+        same_ether mac also (sym h.ether.eth_dst_fits ∙ i.ether.eth_dst_fits) in
         let switch : port.switch ≡ other.switch = one_datapath s port.switch other.switch dp d of.on their.on on in
         let same : q ≡ r = s.now.valid.apart q r port other mac of.there their.there switch has (subst (λ n. HasMac other.addresses n) (sym to) in_it) in
         let number = one_key s q r port other dp d key k of their same in

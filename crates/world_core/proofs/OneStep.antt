@@ -5,11 +5,11 @@ use Rattle.std.specs.Option.{option_map}
 use Rattle.std.proofs.Common.{sym, ap, ◌∙◌, subst, inl, inr}
 use Rattle.std.proofs.lemmas.Option.{none-some, same_Some}
 use Rattle.ovn_base.specs.declared.name.Name.{Name}
-use Rattle.ovn_base.specs.Among.{Among}
-use Rattle.ovn_base.specs.ByName.{at, put, put_all, in_order, IsByName}
+use Rattle.ovn_base.specs.lists.Among.{Among}
+use Rattle.ovn_base.specs.names.ByName.{at, put, put_all, in_order, IsByName}
 use Rattle.ovn_base.specs.declared.address.Birth.{Birth}
 use Rattle.ovn_base.proofs.AmongLaws.{among_cases, among_flat_map, among_none}
-use Rattle.ovn_base.proofs.Puts.{at_among, one_or_two, put_other, put_there}
+use Rattle.ovn_base.proofs.ByNameLaws.{at_among, one_or_two, put_other, put_there}
 use Rattle.nb_records.specs.declared.record.Op.TheVariants.{Add}
 use Rattle.nb_records.specs.declared.record.Record.{Record}
 use Rattle.nb_records.specs.declared.record.Record.TheVariants as record_of
@@ -30,13 +30,13 @@ use Rattle.tunnel_keys.specs.declared.owner.KeyOwner.{KeyOwner}
 use Rattle.tunnel_keys.specs.declared.owner.PortKey.{PortKey}
 use Rattle.tunnel_keys.proofs.Determined.{same_found}
 use Rattle.tunnel_keys.proofs.OwnerLaws.{datapaths_have, ports_have}
-use Rattle.world_core.specs.Admitted.{IsAdmitted, IsAdmittedRecord}
+use Rattle.world_core.specs.Admitted.{IsAdmitted}
 use Rattle.world_core.specs.Editing.{owners_of, datapath_effect, port_effect, added_ports, key_effects, accepted}
 use Rattle.world_core.specs.Numbers.{datapath_number, port_number}
 use Rattle.world_core.specs.Picks.{Fate, was_refused, was_accepted, Happens, Run}
 use Rattle.world_core.specs.Refusing.{refusal, refusal_of_record}
 use Rattle.world_core.specs.Sound.{IsValid}
-use Rattle.world_core.specs.State.{State, events_of, finished}
+use Rattle.world_core.specs.State.{State, event_count, finished}
 use Rattle.world_core.specs.Step.{Step, Does, most_arrivals}
 use Rattle.world_core.specs.Unbuilt.{is_unbuilt_port}
 use Rattle.world_core.proofs.Kept.{switch_valid, port_valid}
@@ -194,12 +194,12 @@ moves effects others after later left more one h k e = record { effects_are = on
 does_with : (m : State) (event : Event) (effects others : List NetEffect) (after later : State) (left more : List Pick) → IsValid m.net → Does m event effects after → Does m event others later
     → picks_of effects ++ left ≡ picks_of others ++ more → Same effects others after later left more
 does_with m (Edit ops) effects others after later left more valid h k e =
-    let owners = owners_of ops (events_of m + 1) in
+    let owners = owners_of ops (event_count m + 1) in
     let picked = sym (ap (λ es. picks_of es ++ left) h.effects_are) ∙ e ∙ ap (λ es. picks_of es ++ more) k.effects_are in
     let same = same_keys (retire m.keys []) owners h.keys k.keys h.given k.given h.hold.datapaths_in_order h.hold.ports_in_order k.hold.datapaths_in_order k.hold.ports_in_order left more picked in
     record {
       effects_are = h.effects_are ∙ ap (λ keys. key_effects owners keys) same.0 ∙ sym k.effects_are;
-      state = h.state ∙ ap (λ (keys : Keys). record m { net = accepted m.net ops (events_of m + 1); keys = keys }) same.0 ∙ sym k.state;
+      state = h.state ∙ ap (λ (keys : Keys). record m { net = accepted m.net ops (event_count m + 1); keys = keys }) same.0 ∙ sym k.state;
       rest = same.1;
     }
 does_with m (Bind p chassis) effects others after later left more valid h k e = still effects others after later left more _ h.0 k.0 h.1 k.1 e
@@ -244,18 +244,18 @@ is_there true there x y h = cc
 is_there false true x y h = refl
 is_there false false x y h = cc
 
-valid_with : (m : State) (row : Record) → IsValid m.net → IsAdmittedRecord row → refusal_of_record m.net row ≡ None → IsValid (accepted m.net (Add row ∷ []) (events_of m + 1))
-valid_with m (record_of.Switch switch) valid admitted allowed =
-    switch_valid m.net switch.name (record switch { birth = record { 0 = events_of m + 1 } }) valid (not_there (at m.net.switches switch.name) (nat_le 1024 (length m.net.switches)) why.NotBuilt allowed) refl
-valid_with m (record_of.SwitchPort port) valid admitted allowed =
-    let new = is_new m.net port allowed admitted in
-    port_valid m.net port.name (record port { birth = record { 0 = events_of m + 1 } }) valid (is_built m.net port allowed).absent refl
+valid_with : (m : State) (row : Record) → IsValid m.net → refusal_of_record m.net row ≡ None → IsValid (accepted m.net (Add row ∷ []) (event_count m + 1))
+valid_with m (record_of.Switch switch) valid allowed =
+    switch_valid m.net switch.name (record switch { birth = record { 0 = event_count m + 1 } }) valid (not_there (at m.net.switches switch.name) (nat_le 1024 (length m.net.switches)) why.NotBuilt allowed) refl
+valid_with m (record_of.SwitchPort port) valid allowed =
+    let new = is_new m.net port allowed in
+    port_valid m.net port.name (record port { birth = record { 0 = event_count m + 1 } }) valid (is_built m.net port allowed).absent refl
     (is_there (is_unbuilt_port m.net port) (is_some (at m.net.switches port.switch)) why.NotBuilt (why.NoSuch port.switch) allowed)
-    (record { macs = new.macs; stations = new.stations; once = new.once; apart = new.apart; ips_apart = new.ips_apart })
+    (record { stations = new.stations; once = new.once; apart = new.apart; ips_apart = new.ips_apart })
 
 does_valid : (m : State) (event : Event) (effects : List NetEffect) (after : State) → IsValid m.net → IsAdmitted event → refusal m event ≡ None → Does m event effects after → IsValid after.net
 does_valid m (Edit []) effects after valid admitted allowed h = cc
-does_valid m (Edit (Add row ∷ [])) effects after valid admitted allowed h = subst (λ (s : State). IsValid s.net) (sym h.state) (valid_with m row valid admitted.0 allowed)
+does_valid m (Edit (Add row ∷ [])) effects after valid admitted allowed h = subst (λ (s : State). IsValid s.net) (sym h.state) (valid_with m row valid allowed)
 does_valid m (Edit (op ∷ next ∷ ops)) effects after valid admitted allowed h = cc
 does_valid m (Bind p chassis) effects after valid admitted allowed h = subst (λ (s : State). IsValid s.net) (sym h.1) valid
 does_valid m (AddChassis chassis) effects after valid admitted allowed h = subst (λ (s : State). IsValid s.net) (sym h.1) valid

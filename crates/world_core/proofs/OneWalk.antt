@@ -1,7 +1,7 @@
 -- A packet has one walk through the flows of a chassis, in whatever order they are held.
 use Rattle.std.specs.Prelude.{◌≡◌, List, [], ◌∷◌, ◌++◌, refl}
 use Rattle.std.proofs.Common.{sym, ap, ◌∙◌, subst}
-use Rattle.ovn_base.specs.Among.{Among}
+use Rattle.ovn_base.specs.lists.Among.{Among}
 use Rattle.flow_table.specs.Matching.{IsBest, NoneMatches}
 use Rattle.flow_table.specs.declared.flow.Flow.{Flow}
 use Rattle.switch_engine.specs.Actions.{outcome, going_on}

@@ -10,11 +10,11 @@ use Rattle.switch_engine.specs.declared.effect.NetEffect.{NetEffect}
 use Rattle.switch_engine.specs.declared.walk.Walk.{Walk}
 use Rattle.world_core.specs.Outcome.{matched}
 use Rattle.world_core.specs.Packets.{AreGone, HasArrived, HasEntered, most_sent}
-use Rattle.world_core.specs.Parts.{IsDone, IsTaken}
+use Rattle.world_core.specs.StepParts.{IsDone, IsTaken}
 use Rattle.world_core.specs.Passing.{AreDrained, GoesIn, Passes, clock, no_out}
 use Rattle.world_core.specs.Refinement.{IsAmidst}
-use Rattle.world_core.specs.Seen.{Seen, AreHeld}
-use Rattle.world_core.specs.State.{State, events_of, finished}
+use Rattle.world_core.specs.WorldView.{WorldView, AreHeld}
+use Rattle.world_core.specs.State.{State, event_count, finished}
 use Rattle.world_core.specs.Step.{Arrives, Does, Drains, Enters, most_arrivals, with_kept}
 use Rattle.world_core.specs.Zones.{zones_after}
 use Rattle.world_core.proofs.Finished.{finishes}
@@ -22,35 +22,35 @@ use Rattle.world_core.proofs.Refining.{amidst_with, crossings_kept, held_kept}
 
 -- ---- packets are no events
 
-kept_events : (keep : Bool) (m : State) (n : ℕ) → events_of (with_kept keep m n) ≡ events_of m
+kept_events : (keep : Bool) (m : State) (n : ℕ) → event_count (with_kept keep m n) ≡ event_count m
 kept_events true m n = refl
 kept_events false m n = refl
 
-pub enters_events : (m : State) (p : Name) (frame : List ℕ) (effects : List NetEffect) (after : State) → Enters m p frame effects after → events_of after ≡ events_of m
-enters_events m p frame effects after h = ap events_of h.state
+pub enters_events : (m : State) (p : Name) (frame : List ℕ) (effects : List NetEffect) (after : State) → Enters m p frame effects after → event_count after ≡ event_count m
+enters_events m p frame effects after h = ap event_count h.state
 
-pub arrives_events : (m : State) (n : ℕ) (keep : Bool) (effects : List NetEffect) (after : State) → Arrives m n keep effects after → events_of after ≡ events_of m
-arrives_events m n keep effects after h = ap events_of h.state ∙ kept_events keep m n
+pub arrives_events : (m : State) (n : ℕ) (keep : Bool) (effects : List NetEffect) (after : State) → Arrives m n keep effects after → event_count after ≡ event_count m
+arrives_events m n keep effects after h = ap event_count h.state ∙ kept_events keep m n
 
-pub drains_events : (k : ℕ) (m : State) (effects : List NetEffect) (after : State) → Drains k m effects after → events_of after ≡ events_of m
-drains_events zero m effects after h = ap events_of h.1
-drains_events (suc k) m effects after (inl h) = ap events_of h.2
+pub drains_events : (k : ℕ) (m : State) (effects : List NetEffect) (after : State) → Drains k m effects after → event_count after ≡ event_count m
+drains_events zero m effects after h = ap event_count h.1
+drains_events (suc k) m effects after (inl h) = ap event_count h.2
 drains_events (suc k) m effects after (inr h) = drains_events k h.mid h.more after h.others ∙ arrives_events m h.n false h.own h.mid h.arrives
 
 -- ---- the event is done
 
-pub finish_done : (old : Seen) (event : Event) (effects : List NetEffect) (walks : List Walk) (mid new : Seen) (count : ℕ) → IsTaken old → events_of old.state < 2 ^ 42 → events_of mid.state ≡ events_of old.state → Does old.state event effects mid.state
+pub finish_done : (old : WorldView) (event : Event) (effects : List NetEffect) (walks : List Walk) (mid new : WorldView) (count : ℕ) → IsTaken old → event_count old.state < 2 ^ 42 → event_count mid.state ≡ event_count old.state → Does old.state event effects mid.state
     → Passes old.sim event (record { effects = effects; walks = walks }) mid.sim → IsAmidst mid.state mid.zones most_sent → AreHeld mid.state mid.zones mid.sim → mid ≡ record old { state = mid.state; sim = mid.sim }
     → new ≡ record mid { state = finished mid.state } → zones_after old.state.bindings old.zones event ≡ old.zones → count ≡ matched walks → IsDone old event effects walks count new
 finish_done old event effects walks mid new count t room same does passes amidst held rest then zones counts =
     let end = finishes mid.state mid.zones most_sent mid.sim amidst (omega arith) (omega (arith, room, same)) held in
-    let whole : mid.whole ≡ false = ap (λ (w : Seen). w.whole) rest ∙ t.taken in
-    let zoned : mid.zones ≡ old.zones = ap (λ (w : Seen). w.zones) rest in
+    let whole : mid.whole ≡ false = ap (λ (w : WorldView). w.whole) rest ∙ t.taken in
+    let zoned : mid.zones ≡ old.zones = ap (λ (w : WorldView). w.zones) rest in
     record {
-      step = record { mid = mid.state; does = does; state = ap (λ (w : Seen). w.state) then };
-      passed = subst (λ s. Passes old.sim event (record { effects = effects; walks = walks }) s) (sym (ap (λ (w : Seen). w.sim) then)) passes;
+      step = record { mid = mid.state; does = does; state = ap (λ (w : WorldView). w.state) then };
+      passed = subst (λ s. Passes old.sim event (record { effects = effects; walks = walks }) s) (sym (ap (λ (w : WorldView). w.sim) then)) passes;
       counts = counts;
-      zones = ap (λ (w : Seen). w.zones) then ∙ zoned ∙ sym zones;
+      zones = ap (λ (w : WorldView). w.zones) then ∙ zoned ∙ sym zones;
       now = subst IsTaken (sym then) (record { consistent = end.0; held = end.1; taken = whole });
     }
 
@@ -62,49 +62,49 @@ pub record IsNothing (out : SimOut) : Type 0 where
 nothing : (out : SimOut) → IsNothing out → out ≡ no_out
 nothing out n = λ i. record { effects = n.effects i; walks = n.walks i }
 
-pub entry_done : (old : Seen) (p : Name) (frame : List ℕ) (before after : SimOut) (mid new : Seen) (count : ℕ) → IsTaken old → events_of old.state < 2 ^ 42 → IsNothing before → HasEntered old p frame before after mid
+pub entry_done : (old : WorldView) (p : Name) (frame : List ℕ) (before after : SimOut) (mid new : WorldView) (count : ℕ) → IsTaken old → event_count old.state < 2 ^ 42 → IsNothing before → HasEntered old p frame before after mid
     → new ≡ record mid { state = finished mid.state } → count ≡ matched after.walks → IsDone old (event_of.Inject p frame) after.effects after.walks count new
 entry_done old p frame before after mid new count t room none h then counts =
     let own : after.effects ≡ h.effects = h.all ∙ ap (λ l. l ++ h.effects) none.effects in
     finish_done old (event_of.Inject p frame) after.effects after.walks mid new count t room (enters_events old.state p frame h.effects mid.state h.happens) (subst (λ es. Enters old.state p frame es mid.state) (sym own) h.happens)
     (subst (λ b. GoesIn old.sim p frame b after mid.sim) (nothing before none) h.passed) h.amidst h.held h.rest then refl counts
 
-pub arrival_done : (old : Seen) (n : ℕ) (keep : Bool) (before after : SimOut) (mid new : Seen) (count : ℕ) → IsTaken old → events_of old.state < 2 ^ 42 → IsNothing before → HasArrived old n keep before after mid
+pub arrival_done : (old : WorldView) (n : ℕ) (keep : Bool) (before after : SimOut) (mid new : WorldView) (count : ℕ) → IsTaken old → event_count old.state < 2 ^ 42 → IsNothing before → HasArrived old n keep before after mid
     → new ≡ record mid { state = finished mid.state } → count ≡ matched after.walks → IsDone old (cond keep (event_of.Repeat n) (event_of.Deliver n)) after.effects after.walks count new
 arrival_done old n true before after mid new count t room none h then counts =
     let own : after.effects ≡ h.effects = h.all ∙ ap (λ l. l ++ h.effects) none.effects in
     finish_done old (event_of.Repeat n) after.effects after.walks mid new count t room (arrives_events old.state n true h.effects mid.state h.happens) (subst (λ es. Arrives old.state n true es mid.state) (sym own) h.happens)
-    (subst (λ b. passing.Arrives old.sim n true clock b after mid.sim) (nothing before none) h.passed) h.amidst h.held h.rest then refl counts
+    (subst (λ b. passing.IsArrived old.sim n true clock b after mid.sim) (nothing before none) h.passed) h.amidst h.held h.rest then refl counts
 arrival_done old n false before after mid new count t room none h then counts =
     let own : after.effects ≡ h.effects = h.all ∙ ap (λ l. l ++ h.effects) none.effects in
     finish_done old (event_of.Deliver n) after.effects after.walks mid new count t room (arrives_events old.state n false h.effects mid.state h.happens) (subst (λ es. Arrives old.state n false es mid.state) (sym own) h.happens)
-    (subst (λ b. passing.Arrives old.sim n false clock b after mid.sim) (nothing before none) h.passed) h.amidst h.held h.rest then refl counts
+    (subst (λ b. passing.IsArrived old.sim n false clock b after mid.sim) (nothing before none) h.passed) h.amidst h.held h.rest then refl counts
 
-pub drain_done : (old : Seen) (before after : SimOut) (mid new : Seen) (count : ℕ) → IsTaken old → events_of old.state < 2 ^ 42 → IsNothing before → AreGone most_arrivals old before after mid
+pub drain_done : (old : WorldView) (before after : SimOut) (mid new : WorldView) (count : ℕ) → IsTaken old → event_count old.state < 2 ^ 42 → IsNothing before → AreGone most_arrivals old before after mid
     → new ≡ record mid { state = finished mid.state } → count ≡ matched after.walks → IsDone old event_of.Drain after.effects after.walks count new
 drain_done old before after mid new count t room none h then counts =
     let own : after.effects ≡ h.effects = h.all ∙ ap (λ l. l ++ h.effects) none.effects in
     finish_done old event_of.Drain after.effects after.walks mid new count t room (drains_events most_arrivals old.state h.effects mid.state h.happens) (subst (λ es. Drains most_arrivals old.state es mid.state) (sym own) h.happens)
     (subst (λ b. AreDrained most_arrivals old.sim b after mid.sim) (nothing before none) h.passed) h.amidst h.held h.rest then refl counts
 
-pub packet_done : (old : Seen) (p : Name) (frame : List ℕ) (before between after : SimOut) (first mid new : Seen) (count : ℕ) → IsTaken old → events_of old.state < 2 ^ 42 → IsNothing before → HasEntered old p frame before between first
+pub packet_done : (old : WorldView) (p : Name) (frame : List ℕ) (before between after : SimOut) (first mid new : WorldView) (count : ℕ) → IsTaken old → event_count old.state < 2 ^ 42 → IsNothing before → HasEntered old p frame before between first
     → AreGone most_arrivals first between after mid → new ≡ record mid { state = finished mid.state } → count ≡ matched after.walks → IsDone old (event_of.Packet p frame) after.effects after.walks count new
 packet_done old p frame before between after first mid new count t room none e d then counts =
     let own : between.effects ≡ e.effects = e.all ∙ ap (λ l. l ++ e.effects) none.effects in
     let all : after.effects ≡ e.effects ++ d.effects = d.all ∙ ap (λ l. l ++ d.effects) own in
     let events = drains_events most_arrivals first.state d.effects mid.state d.happens ∙ enters_events old.state p frame e.effects first.state e.happens in
-    let rest : mid ≡ record old { state = mid.state; sim = mid.sim } = d.rest ∙ ap (λ (w : Seen). record w { state = mid.state; sim = mid.sim }) e.rest in
+    let rest : mid ≡ record old { state = mid.state; sim = mid.sim } = d.rest ∙ ap (λ (w : WorldView). record w { state = mid.state; sim = mid.sim }) e.rest in
     finish_done old (event_of.Packet p frame) after.effects after.walks mid new count t room events
     (record { own = e.effects; more = d.effects; all = all; mid = first.state; enters = e.happens; drains = d.happens })
     (record { between = between; mid = first.sim; goes_in = subst (λ b. GoesIn old.sim p frame b between first.sim) (nothing before none) e.passed; drained = d.passed }) d.amidst d.held rest then refl counts
 
 -- what is handed on is what came
-pub handed_on : (old new : Seen) (event : Event) (out : SimOut) (effects : List NetEffect) (walks : List Walk) (count : ℕ) → effects ≡ out.effects → walks ≡ out.walks → IsDone old event out.effects out.walks count new
+pub handed_on : (old new : WorldView) (event : Event) (out : SimOut) (effects : List NetEffect) (walks : List Walk) (count : ℕ) → effects ≡ out.effects → walks ≡ out.walks → IsDone old event out.effects out.walks count new
     → IsDone old event effects walks count new
 handed_on old new event out effects walks count e w done =
     subst (λ es. IsDone old event es walks count new) (sym e) (subst (λ ws. IsDone old event out.effects ws count new) (sym w) done)
 
-pub loss_done : (old : Seen) (n : ℕ) (mid new : Seen) (effects : List NetEffect) (walks : List Walk) (count : ℕ) → IsTaken old → events_of old.state < 2 ^ 42
+pub loss_done : (old : WorldView) (n : ℕ) (mid new : WorldView) (effects : List NetEffect) (walks : List Walk) (count : ℕ) → IsTaken old → event_count old.state < 2 ^ 42
     → mid ≡ record old { state = with_kept false old.state n; sim = passing.arrived old.sim n false } → new ≡ record mid { state = finished mid.state } → effects ≡ [] → walks ≡ [] → count ≡ 0
     → IsDone old (event_of.Lose n) effects walks count new
 loss_done old n mid new effects walks count t room lost then no_effects no_walks none =
@@ -115,6 +115,6 @@ loss_done old n mid new effects walks count t room lost then no_effects no_walks
     let amidst = amidst_with m old.zones 0 most_sent (with_kept false m n).waiting m.next a (crossings_kept false m n a.crossings) (omega (arith, few)) in
     let held = held_kept false m old.zones old.sim n t.held in
     handed_on old new (event_of.Lose n) no_out effects walks count no_effects no_walks
-    (finish_done old (event_of.Lose n) [] [] mid new count t room (ap (λ (v : Seen). events_of v.state) lost) (refl, ap (λ (v : Seen). v.state) lost) refl
-    (subst (λ (v : Seen). IsAmidst v.state v.zones most_sent) (sym lost) amidst) (subst (λ (v : Seen). AreHeld v.state v.zones v.sim) (sym lost) held)
-    (subst (λ (v : Seen). v ≡ record old { state = v.state; sim = v.sim }) (sym lost) refl) then refl none)
+    (finish_done old (event_of.Lose n) [] [] mid new count t room (ap (λ (v : WorldView). event_count v.state) lost) (refl, ap (λ (v : WorldView). v.state) lost) refl
+    (subst (λ (v : WorldView). IsAmidst v.state v.zones most_sent) (sym lost) amidst) (subst (λ (v : WorldView). AreHeld v.state v.zones v.sim) (sym lost) held)
+    (subst (λ (v : WorldView). v ≡ record old { state = v.state; sim = v.sim }) (sym lost) refl) then refl none)

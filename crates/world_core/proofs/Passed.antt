@@ -5,7 +5,7 @@ use Rattle.std.specs.List.Sorted.{IsStrictlySortedBy}
 use Rattle.std.specs.Map.{keys_of}
 use Rattle.std.specs.Ordering.{nat_cmp}
 use Rattle.std.proofs.lemmas.List.{drop_at}
-use Rattle.ovn_base.specs.ByName.{at}
+use Rattle.ovn_base.specs.names.ByName.{at}
 use Rattle.ovn_base.specs.declared.name.Name.{Name}
 use Rattle.chassis_sim.specs.InNames.{frames_sent}
 use Rattle.chassis_sim.specs.Passing as passing
@@ -18,7 +18,7 @@ use Rattle.world_core.specs.Effects.{effects_of, crossings_in, spelled}
 use Rattle.world_core.specs.Packets.{CanBeKept, HasArrived, HasEntered, HasPassed, IsSentFrom, most_sent}
 use Rattle.world_core.specs.Passing.{GoesIn, clock}
 use Rattle.world_core.specs.Refinement.{IsAmidst, IsRefined}
-use Rattle.world_core.specs.Seen.{Seen, AreHeld}
+use Rattle.world_core.specs.WorldView.{WorldView, AreHeld}
 use Rattle.world_core.specs.State.{State}
 use Rattle.world_core.specs.Step.{Arrives, Enters, with_kept}
 use Rattle.world_core.specs.Visit.{arrival}
@@ -34,10 +34,10 @@ abbrev pub crossing_with : State → List (ℕ × Crossing) → ℕ → State
 crossing_with m waiting next = record m { waiting = waiting; next = next }
 
 -- the world with other crossings, and other simulated chassis
-abbrev pub world_with : Seen → List (ℕ × Crossing) → sim.SimState → Seen
+abbrev pub world_with : WorldView → List (ℕ × Crossing) → sim.SimState → WorldView
 world_with w waiting s = record w { state = crossing_with w.state waiting s.next; sim = s }
 
-passed_at : (old : Seen) (waiting : List (ℕ × Crossing)) (s : sim.SimState) (before after : SimOut) (Passed : sim.SimState → SimOut → SimOut → sim.SimState → Type 0) (Happens : State → List NetEffect → State → Type 0)
+passed_at : (old : WorldView) (waiting : List (ℕ × Crossing)) (s : sim.SimState) (before after : SimOut) (Passed : sim.SimState → SimOut → SimOut → sim.SimState → Type 0) (Happens : State → List NetEffect → State → Type 0)
     → Passed old.sim before after s → (r : IsRefined old.zones most_sent before after s (Happens old.state)) → crossing_with old.state waiting s.next ≡ r.mid → HasPassed old before after (world_with old waiting s) Passed Happens
 passed_at old waiting s before after Passed Happens passed r same = record {
   passed = passed;
@@ -61,8 +61,8 @@ next_of false m n = refl
 none_numbered : (n : ℕ) (xs : List Crossing) → xs ≡ [] → numbered_from n xs ≡ []
 none_numbered n xs e = ap (λ l. numbered_from n l) e
 
-pub arrived_passed : (old : Seen) (n : ℕ) (keep : Bool) (before after : SimOut) (s : sim.SimState) (waiting : List (ℕ × Crossing)) → IsAmidst old.state old.zones most_sent → AreHeld old.state old.zones old.sim
-    → passing.Arrives old.sim n keep clock before after s → waiting ≡ (with_kept keep old.state n).waiting → HasArrived old n keep before after (world_with old waiting s)
+pub arrived_passed : (old : WorldView) (n : ℕ) (keep : Bool) (before after : SimOut) (s : sim.SimState) (waiting : List (ℕ × Crossing)) → IsAmidst old.state old.zones most_sent → AreHeld old.state old.zones old.sim
+    → passing.IsArrived old.sim n keep clock before after s → waiting ≡ (with_kept keep old.state n).waiting → HasArrived old n keep before after (world_with old waiting s)
 arrived_passed old n keep before after s waiting a h arrives kept =
     let r = arrival_refines law.arrival old.state old.zones most_sent old.sim s n keep before after a h arrives in
     let own = r.happens in
@@ -70,7 +70,7 @@ arrived_passed old n keep before after s waiting a h arrives kept =
     let none = arrival_cross old.state n own.crossing own.packet in
     let zero' : length (crossings_in ends) ≡ 0 = ap (λ (xs : List Crossing). length xs) none in
     let next : s.next ≡ old.state.next + length (crossings_in ends) = r.held.next ∙ ap (λ (m : State). m.next) own.state ∙ ap (λ k. k + length (crossings_in ends)) (next_of keep old.state n) in
-    passed_at old waiting s before after (λ s b a t. passing.Arrives s n keep clock b a t) (λ m effects k. Arrives m n keep effects k) arrives r
+    passed_at old waiting s before after (λ s b a t. passing.IsArrived s n keep clock b a t) (λ m effects k. Arrives m n keep effects k) arrives r
     (
     kept_state keep old.state n waiting (numbered_from (with_kept keep old.state n).next (crossings_in ends)) (none_numbered (with_kept keep old.state n).next (crossings_in ends) none) s.next (length (crossings_in ends)) kept next zero'
     ∙ sym own.state
@@ -79,11 +79,11 @@ arrived_passed old n keep before after s waiting a h arrives kept =
 -- ---- a packet that goes in
 
 -- the state that `m` is once its packets are sent
-abbrev pub behind_with : Seen → List (ℕ × Crossing) → sim.SimState → Seen
+abbrev pub behind_with : WorldView → List (ℕ × Crossing) → sim.SimState → WorldView
 behind_with w crossings s = record w { state = record w.state { waiting = w.state.waiting ++ crossings; next = s.next }; sim = s }
 
 -- what a packet that goes in leaves, once its crossings are kept
-pub record GoesOn (old : Seen) (p : Name) (frame : List ℕ) (before after : SimOut) (s : sim.SimState) (effects : List NetEffect) : Type 0 where
+pub record GoesOn (old : WorldView) (p : Name) (frame : List ℕ) (before after : SimOut) (s : sim.SimState) (effects : List NetEffect) : Type 0 where
   pub crossings : List (ℕ × Crossing)
   pub can : CanBeKept (record old.state { next = s.next }) p effects crossings
   pub entered : HasEntered old p frame before after (behind_with old crossings s)
@@ -101,7 +101,7 @@ sent_also m next p to bytes x f = record {
   spelled_so = f.spelled_so;
 }
 
-pub goes_on : (old : Seen) (p : Name) (frame : List ℕ) (before after : SimOut) (s : sim.SimState) (effects : List NetEffect) → IsAmidst old.state old.zones 0 → AreHeld old.state old.zones old.sim → IsSome (at old.state.bindings p)
+pub goes_on : (old : WorldView) (p : Name) (frame : List ℕ) (before after : SimOut) (s : sim.SimState) (effects : List NetEffect) → IsAmidst old.state old.zones 0 → AreHeld old.state old.zones old.sim → IsSome (at old.state.bindings p)
     → GoesIn old.sim p frame before after s → effects ≡ drop (length before.effects) after.effects → GoesOn old p frame before after s effects
 goes_on old p frame before after s effects a h bound g are =
     let r = entry_refines law.entry old.state old.zones 0 old.sim s p frame before after a h g in

@@ -2,10 +2,10 @@
 use Rattle.std.specs.Prelude.{◌≡◌, ◌≤◌, ◌<◌, ◌+◌, suc, Bool, true, false, cond, List, [], ◌∷◌, Option, Some, None, IsSome, length, map, filter, refl}
 use Rattle.std.specs.List.{cons_option}
 use Rattle.std.proofs.Common.{arith, ap, subst, ◌∙◌, length-append}
-use Rattle.ovn_base.specs.SameName.{same_name}
+use Rattle.ovn_base.specs.names.SameName.{same_name}
 use Rattle.ovn_base.specs.declared.address.Birth.{Birth}
 use Rattle.ovn_base.specs.declared.name.Name.{Name}
-use Rattle.ovn_base.specs.ByName.{at}
+use Rattle.ovn_base.specs.names.ByName.{at}
 use Rattle.tunnel_keys.specs.Causes.{HasKeys}
 use Rattle.tunnel_keys.specs.Edits.{IsEdit}
 use Rattle.tunnel_keys.specs.Keys.{free_datapath_keys, free_port_keys, taken_datapaths, taken_ports}
@@ -20,7 +20,7 @@ use Rattle.tunnel_keys.proofs.Single.{datapath_fits}
 use Rattle.tunnel_keys.proofs.Single as single
 use Rattle.tunnel_keys.proofs.Room.{filter_few, free_count, retire_none}
 use Rattle.world_core.specs.Sound.{AreBorn, HaveKeys}
-use Rattle.world_core.specs.State.{State, events_of}
+use Rattle.world_core.specs.State.{State, event_count}
 use Rattle.world_core.proofs.Counts.{few_entries}
 use Rattle.world_core.proofs.Found.{some_of}
 use Rattle.world_core.proofs.KeyLaws.{no_datapath_key, no_port_key}
@@ -32,18 +32,18 @@ map_length f (x ∷ xs) = ap suc (map_length f xs)
 module _ (m : State) (have : HaveKeys m.net m.keys) (born : AreBorn m) where
   -- the birth of what the next event adds
   abbrev next : Birth
-  next = record { 0 = events_of m + 1 }
+  next = record { 0 = event_count m + 1 }
 
   -- ---- the edit fits
 
   pub switch_fits : (name : Name) → at m.net.switches name ≡ None → IsEdit m.keys (Datapath name next ∷ []) []
-  switch_fits name absent = datapath_fits m.keys have.hold name next (datapath_new m.keys (events_of m) born.keys next (omega arith) name) (datapath_bare m.keys (events_of m) born.keys next (omega arith) name) (no_datapath_key m.net m.keys have name absent)
+  switch_fits name absent = datapath_fits m.keys have.hold name next (datapath_new m.keys (event_count m) born.keys next (omega arith) name) (datapath_bare m.keys (event_count m) born.keys next (omega arith) name) (no_datapath_key m.net m.keys have name absent)
 
   pub port_fits : (switch name : Name) → IsSome (at m.net.switches switch) → at m.net.ports name ≡ None → IsEdit m.keys (Port switch name next ∷ []) []
   port_fits switch name there absent =
       let record' = some_of (at m.net.switches switch) there in
       let own = have.datapath_has switch record'.0 record'.1 in
-      single.port_fits m.keys have.hold switch name next (port_new m.keys (events_of m) born.keys next (omega arith) switch name) (is_found (at m.keys.datapaths switch) own.0 own.1) (no_port_key m.net m.keys have name absent)
+      single.port_fits m.keys have.hold switch name next (port_new m.keys (event_count m) born.keys next (omega arith) switch name) (is_found (at m.keys.datapaths switch) own.0 own.1) (no_port_key m.net m.keys have name absent)
 
   -- ---- there is a key
 

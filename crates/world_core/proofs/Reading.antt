@@ -3,11 +3,11 @@ use Rattle.std.specs.Prelude.{◌≡◌, ℕ, IsTrue, List, filter_map, option_m
 use Rattle.std.proofs.Common.{sym, ap, ◌∙◌, subst, inl, inr}
 use Rattle.std.proofs.lemmas.Bool.Decides.{Decides-eqb}
 use Rattle.std.proofs.lemmas.Option.{same_Some}
-use Rattle.ovn_base.specs.Among.{Among}
-use Rattle.ovn_base.specs.ByName.{at}
+use Rattle.ovn_base.specs.lists.Among.{Among}
+use Rattle.ovn_base.specs.names.ByName.{at}
 use Rattle.ovn_base.specs.declared.name.Name.{Name}
 use Rattle.ovn_base.proofs.AmongLaws.{among_append, among_none, filter_map_among}
-use Rattle.ovn_base.proofs.Puts.{among_at}
+use Rattle.ovn_base.proofs.ByNameLaws.{among_at}
 use Rattle.geneve_frames.specs.Meaning.{Spells}
 use Rattle.geneve_frames.proofs.Canon.{canon_spells}
 use Rattle.nb_records.specs.declared.record.Switch.{Switch}

@@ -1,7 +1,7 @@
 -- Tables that hold the compiled flows hold exactly those of the set.
 use Rattle.std.specs.Prelude.{◌≡◌, List}
 use Rattle.std.proofs.Common.{subst, sym}
-use Rattle.ovn_base.specs.Among.{Among}
+use Rattle.ovn_base.specs.lists.Among.{Among}
 use Rattle.flow_table.specs.declared.flow.Flow.{Flow}
 use Rattle.world_core.specs.Holding.{HaveSame}
 use Rattle.world_core.specs.Sound.{IsValid, HaveKeys, AreExactly}

@@ -6,7 +6,7 @@ use Rattle.std.specs.BTreeMap.{is_at}
 use Rattle.std.specs.Ordering.{nat_cmp}
 use Rattle.std.specs.List.Sorted.{IsStrictlySortedBy}
 use Rattle.std.proofs.Common.{sym, ap, ◌∙◌, subst, arith, inl, inr}
-use Rattle.ovn_base.specs.Among.{Among, here, there}
+use Rattle.ovn_base.specs.lists.Among.{Among, here, there}
 use Rattle.ovn_base.proofs.AmongLaws.{among_append, among_cases, among_none}
 use Rattle.ovn_base.specs.declared.name.Name.{Name}
 use Rattle.chassis_sim.specs.InNames.{all_in_names, arrived_as, frames_sent}
@@ -24,9 +24,9 @@ use Rattle.world_core.specs.Crossing.{numbered_from}
 use Rattle.world_core.specs.Effects.{effects_of, crossings_in}
 use Rattle.world_core.specs.Naming.{IsNumbered}
 use Rattle.world_core.specs.Refinement.{IsAmidst}
-use Rattle.world_core.specs.Seen.{AreHeld, AreNamed, frame_of_crossing}
+use Rattle.world_core.specs.WorldView.{AreHeld, HaveOwnersNames, frame_of_crossing}
 use Rattle.world_core.specs.Sound.{AreCrossings, AreFlowsOf, MayWait}
-use Rattle.world_core.specs.State.{State, events_of}
+use Rattle.world_core.specs.State.{State, event_count}
 use Rattle.world_core.specs.Step.{sent_on, with_kept}
 use Rattle.world_core.specs.Visit.{End}
 use Rattle.world_core.specs.declared.crossing.Crossing.{Crossing}
@@ -89,7 +89,7 @@ module _ (k : State) (zones : List (Name × ℕ)) (z new : sim.SimState) (h : Ar
   pub told_held : AreHeld (sent_on k ends) zones new
   told_held = record {
     bindings = λ q. ap (λ (s : sim.SimState). sim.named s.bindings q) told.state ∙ h.bindings q;
-    names = subst (λ (s : sim.SimState). AreNamed k.keys s) (sym told.state) (record { datapaths = h.names.datapaths; ports = h.names.ports });
+    names = subst (λ (s : sim.SimState). HaveOwnersNames k.keys s) (sym told.state) (record { datapaths = h.names.datapaths; ports = h.names.ports });
     held = λ c. subst (λ (s : sim.SimState). IsSome (sim.named s.chassis c) ↔ Among c k.chassis) (sym told.state) (h.held c);
     flows = λ c flows is. flows_then c flows (sym (ap (λ (s : sim.SimState). sim.named s.chassis c) told.state) ∙ is);
     waiting = new_waiting;
@@ -116,7 +116,7 @@ may_still m waiting next x w = record {
 }
 
 pub amidst_with : (m : State) (zones : List (Name × ℕ)) (more most : ℕ) (waiting : List (ℕ × Crossing)) (next : ℕ) → IsAmidst m zones more → AreCrossings (with_waiting m waiting next)
-    → next ≤ 1 + 2 ^ 64 * events_of m + most → IsAmidst (with_waiting m waiting next) zones most
+    → next ≤ 1 + 2 ^ 64 * event_count m + most → IsAmidst (with_waiting m waiting next) zones most
 amidst_with m zones more most waiting next a crossings few = record {
   valid = a.valid;
   within = a.within;

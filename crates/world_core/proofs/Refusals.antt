@@ -3,11 +3,11 @@ use Rattle.std.specs.Prelude.{◌≡◌, ◌<◌, ℕ, Bool, true, false, List, 
 use Rattle.std.proofs.Common.{sym, subst}
 use Rattle.std.specs.Prelude.{◌||◌}
 use Rattle.std.specs.List.{list_any}
-use Rattle.ovn_base.specs.Among.{Among}
+use Rattle.ovn_base.specs.lists.Among.{Among}
 use Rattle.ovn_base.proofs.NameLemmas.{same_bytes}
 use Rattle.ovn_base.specs.declared.name.Name.{Name}
-use Rattle.ovn_base.specs.ByName.{at}
-use Rattle.ovn_base.specs.SameName.{same_name}
+use Rattle.ovn_base.specs.names.ByName.{at}
+use Rattle.ovn_base.specs.names.SameName.{same_name}
 use Rattle.nb_records.specs.Network.{Network}
 use Rattle.nb_records.specs.declared.record.Record.TheVariants as record_of
 use Rattle.nb_records.specs.declared.record.SwitchPort.{SwitchPort}
@@ -16,8 +16,7 @@ use Rattle.chassis_sim.specs.State.{numbered}
 use Rattle.event_lines.specs.declared.refusal.Refusal.{Refusal}
 use Rattle.event_lines.specs.declared.refusal.Refusal.TheVariants as why
 use Rattle.std.proofs.lemmas.Bool.{leb-false}
-use Rattle.world_core.specs.Admitted.{IsAdmittedRecord}
-use Rattle.world_core.specs.New.{AreNew}
+use Rattle.world_core.specs.NewPort.{AreNew}
 use Rattle.world_core.specs.Refusing.{refusal, refusal_of_entry, refusal_of_record, too_many_wait}
 use Rattle.world_core.specs.State.{State, is_chassis}
 use Rattle.world_core.specs.Unbuilt.{is_unbuilt_port}
@@ -82,7 +81,7 @@ among_chassis (c ∷ names) chassis h =
 pub is_built : (net : Network) (port : SwitchPort) → refusal_of_record net (record_of.SwitchPort port) ≡ None → IsBuilt net port
 is_built net port h = built net port (none_first (is_unbuilt_port net port) _ _ h)
 
-pub is_new : (net : Network) (port : SwitchPort) → refusal_of_record net (record_of.SwitchPort port) ≡ None → IsAdmittedRecord (record_of.SwitchPort port) → AreNew net port
-is_new net port h admitted =
+pub is_new : (net : Network) (port : SwitchPort) → refusal_of_record net (record_of.SwitchPort port) ≡ None → AreNew net port
+is_new net port h =
     let is = is_built net port h in
-    record { macs = admitted; stations = all_of_stations port.addresses is.entries; once = macs_once port.addresses is.entries; apart = is.apart; ips_apart = is.ips_apart }
+    record { stations = all_of_stations port.addresses is.entries; once = macs_once port.addresses is.entries; apart = is.apart; ips_apart = is.ips_apart }

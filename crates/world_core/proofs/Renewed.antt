@@ -12,14 +12,14 @@ use Rattle.chassis_sim.specs.State.{named, same_pair}
 use Rattle.chassis_sim.specs.declared.change.SimChange.{SimChange}
 use Rattle.flow_table.specs.declared.flow.Flow.{Flow}
 use Rattle.switch_engine.specs.Proper.{IsProper}
-use Rattle.ovn_base.specs.Among.{Among, here, there}
-use Rattle.ovn_base.specs.ByName.{at}
-use Rattle.ovn_base.specs.SameName.{bytes_decides, same_name}
+use Rattle.ovn_base.specs.lists.Among.{Among, here, there}
+use Rattle.ovn_base.specs.names.ByName.{at}
+use Rattle.ovn_base.specs.names.SameName.{bytes_decides, same_name}
 use Rattle.ovn_base.specs.declared.name.Name.{Name}
 use Rattle.ovn_base.proofs.AmongLaws.{among_all, among_any, among_cases, among_map, among_none, any_among}
 use Rattle.tunnel_keys.specs.Keys.{Keys}
-use Rattle.world_core.specs.Parts.{IsRecompiled}
-use Rattle.world_core.specs.Seen.{Seen, AreHeld, AreNamed, frame_of_crossing}
+use Rattle.world_core.specs.StepParts.{IsRecompiled}
+use Rattle.world_core.specs.WorldView.{WorldView, AreHeld, HaveOwnersNames, frame_of_crossing}
 use Rattle.world_core.specs.Sound.{HaveKeys, AreBound, AreFlowsOf}
 use Rattle.world_core.specs.State.{State, finished, settled_where_none_waits}
 use Rattle.world_core.specs.declared.crossing.Crossing.{Crossing}
@@ -113,19 +113,19 @@ settled_frames : (ws : List (ℕ × Crossing)) (keys : Keys) → map (frame_of_c
 settled_frames [] keys = refl
 settled_frames (w ∷ ws) keys = refl
 
-settled_names : (ws : List (ℕ × Crossing)) (keys : Keys) (s : sim.SimState) → AreNamed keys s → AreNamed (settled_where_none_waits ws keys) s
+settled_names : (ws : List (ℕ × Crossing)) (keys : Keys) (s : sim.SimState) → HaveOwnersNames keys s → HaveOwnersNames (settled_where_none_waits ws keys) s
 settled_names [] keys s names = record { datapaths = names.datapaths; ports = names.ports }
 settled_names (w ∷ ws) keys s names = names
 
 -- bindings and names are those of the state, no chassis went, the frames are spelled as before, and all tables were made anew
-pub held_again : (m mid : State) (zones : List (Name × ℕ)) (bound : List (Name × Option Name)) (names : List (ℕ × ℕ × Name)) (between new : Seen) → AreHeld m zones between.sim → between.state ≡ finished mid
+pub held_again : (m mid : State) (zones : List (Name × ℕ)) (bound : List (Name × Option Name)) (names : List (ℕ × ℕ × Name)) (between new : WorldView) → AreHeld m zones between.sim → between.state ≡ finished mid
     → IsRecompiled bound names between new → ((c : Name) → Among c m.chassis → Among c mid.chassis) → mid.waiting ≡ m.waiting → mid.next ≡ m.next → map (frame_of_crossing mid.keys) m.waiting ≡ map (frame_of_crossing m.keys) m.waiting
-    → ((q : Name) → named new.sim.bindings q ≡ at mid.bindings q) → AreNamed mid.keys new.sim → AreHeld (finished mid) between.zones new.sim
+    → ((q : Name) → named new.sim.bindings q ≡ at mid.bindings q) → HaveOwnersNames mid.keys new.sim → AreHeld (finished mid) between.zones new.sim
 held_again m mid zones bound names between new held is made stay waiting next frames bindings called = record {
   bindings = bindings;
   names = settled_names mid.waiting mid.keys new.sim called;
   held = λ c. (forward c, backward c);
-  flows = λ c flows has. subst (λ w. AreFlowsOf w between.zones c flows) state_is (subst (λ (v : Seen). AreFlowsOf v.state v.zones c flows) made.kept (made.flows c flows (inside c (forward c (is_some_of (named new.sim.chassis c) flows has))) has));
+  flows = λ c flows has. subst (λ w. AreFlowsOf w between.zones c flows) state_is (subst (λ (v : WorldView). AreFlowsOf v.state v.zones c flows) made.kept (made.flows c flows (inside c (forward c (is_some_of (named new.sim.chassis c) flows has))) has));
   waiting =
       made.waiting ∙ held.waiting ∙ sym frames ∙ ap (λ ws. map (frame_of_crossing mid.keys) ws) (sym waiting)
       ∙ settled_frames mid.waiting mid.keys;
@@ -136,7 +136,7 @@ held_again m mid zones bound names between new held is made stay waiting next fr
     state_is = is
 
     chassis_are : new.state.chassis ≡ mid.chassis
-    chassis_are = ap (λ (v : Seen). v.state.chassis) made.kept ∙ ap (λ (w : State). w.chassis) is
+    chassis_are = ap (λ (v : WorldView). v.state.chassis) made.kept ∙ ap (λ (w : State). w.chassis) is
 
     inside : (c : Name) → Among c mid.chassis → Among c new.state.chassis
     inside c among = subst (λ l. Among c l) (sym chassis_are) among

@@ -2,10 +2,10 @@
 use Rattle.std.specs.Prelude.{◌≡◌, ◌<◌, ◌-◌, ◌^◌, ℕ, Bool, cond, Some, None, Option, bit_and}
 use Rattle.std.specs.Int.Bits.{and_zero_r}
 use Rattle.std.proofs.Common.{sym, ap, ◌∙◌, arith}
-use Rattle.ovn_base.specs.Address.{IsMac, mac_number}
+use Rattle.ovn_base.specs.addresses.EtherAddress.{mac_number, same_ether}
 use Rattle.ovn_base.specs.declared.address.Mac.{Mac}
 use Rattle.ovn_base.specs.declared.name.Name.{Name}
-use Rattle.ovn_base.proofs.MacLemmas.{and_all, same_mac_number, mac_number-below}
+use Rattle.ovn_base.proofs.MacLemmas.{and_all}
 use Rattle.inet_packet.specs.declared.cube.Bits.{Bits}
 use Rattle.inet_packet.specs.declared.cube.Cube.{Cube}
 use Rattle.inet_packet.specs.declared.packet.Packet.{Packet}
@@ -16,7 +16,8 @@ use Rattle.inet_packet.specs.Fields.{ether_type}
 use Rattle.inet_packet.specs.Fits.{Fits, EntryFits, CubeFits}
 use Rattle.world_core.specs.Crossing.{group_key}
 use Rattle.world_core.specs.declared.crossing.Group.{Group}
-use Rattle.world_core.specs.Rows.{any, exactly, everything, of_a_group, arrived_is, on_entry, on_tunnel, on_datapath, on_address, on_exit, on_return, on_group, from_a_group, to_a_group, with_tag}
+use Rattle.inet_packet.specs.Cubes.{any, exactly, everything}
+use Rattle.world_core.specs.Rows.{of_a_group, arrived_is, on_entry, on_tunnel, on_datapath, on_address, on_exit, on_return, on_group, from_a_group, to_a_group, with_tag}
 
 -- ---- one field
 
@@ -86,10 +87,10 @@ module _ (regs : Regs) (packet : Packet) where
     pub datapath_fits : CubeFits (on_datapath dp) regs packet
     datapath_fits = asking_fits None (exactly 24 dp) any any any any any any tt on_fits any_from any_to any_word any_source any_address any_kind
 
-    pub address_fits : (mac : Mac) → IsMac mac → packet.dst ≡ mac → CubeFits (on_address dp mac) regs packet
-    address_fits mac is_mac to =
+    pub address_fits : (mac : Mac) → packet.dst ≡ mac → CubeFits (on_address dp mac) regs packet
+    address_fits mac to =
         asking_fits None (exactly 24 dp) any any any any (exactly 48 (mac_number mac)) any tt on_fits any_from any_to any_word any_source
-        (exactly_fits 48 (mac_number mac) (mac_number packet.dst) (mac_number-below mac is_mac) (ap (λ m. mac_number m) to)) any_kind
+        (exactly_fits 48 (mac_number mac) (mac_number packet.dst) mac.below (ap (λ m. mac_number m) to)) any_kind
 
     pub from_group_fits : Fits of_a_group (mac_number packet.src) → CubeFits (from_a_group dp) regs packet
     from_group_fits s = asking_fits None (exactly 24 dp) any any any of_a_group any any tt on_fits any_from any_to any_word s any_address any_kind
@@ -127,10 +128,10 @@ module _ (regs : Regs) (packet : Packet) where
   pub fits_tunnel : CubeFits on_tunnel regs packet → regs.at ≡ Tunnel
   fits_tunnel fits = fits.entry
 
-  pub fits_address : (dp : ℕ) (mac : Mac) → regs.dp < 2 ^ 24 → IsMac mac → IsMac packet.dst → CubeFits (on_address dp mac) regs packet → (regs.dp ≡ dp) × (packet.dst ≡ mac)
-  fits_address dp mac small is_mac to_mac fits = (
+  pub fits_address : (dp : ℕ) (mac : Mac) → regs.dp < 2 ^ 24 → CubeFits (on_address dp mac) regs packet → (regs.dp ≡ dp) × (packet.dst ≡ mac)
+  fits_address dp mac small fits = (
     exactly_is 24 dp regs.dp small fits.place.dp_fits,
-    same_mac_number packet.dst mac to_mac is_mac (exactly_is 48 (mac_number mac) (mac_number packet.dst) (mac_number-below packet.dst to_mac) fits.ether.eth_dst_fits),
+    same_ether packet.dst mac (exactly_is 48 (mac_number mac) (mac_number packet.dst) packet.dst.below fits.ether.eth_dst_fits),
   )
 
   pub fits_datapath : (dp : ℕ) → regs.dp < 2 ^ 24 → CubeFits (on_datapath dp) regs packet → regs.dp ≡ dp

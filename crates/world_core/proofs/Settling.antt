@@ -1,7 +1,7 @@
 -- A state stays consistent where retired keys are given up because nothing waits.
 use Rattle.std.specs.Prelude.{◌≡◌, ℕ, List, [], ◌∷◌, refl}
 use Rattle.std.proofs.Common.{subst}
-use Rattle.ovn_base.specs.Among.{Among}
+use Rattle.ovn_base.specs.lists.Among.{Among}
 use Rattle.ovn_base.specs.declared.name.Name.{Name}
 use Rattle.ovn_base.proofs.AmongLaws.{among_none}
 use Rattle.tunnel_keys.proofs.Births.{settled_born}
@@ -9,7 +9,7 @@ use Rattle.tunnel_keys.specs.Keys.{Keys, settled}
 use Rattle.tunnel_keys.proofs.Invariant.{settled_hold}
 use Rattle.world_core.specs.declared.crossing.Crossing.{Crossing}
 use Rattle.world_core.specs.Consistent.{IsConsistent}
-use Rattle.world_core.specs.State.{State, events_of, counted, finished, settled_where_none_waits}
+use Rattle.world_core.specs.State.{State, event_count, counted, finished, settled_where_none_waits}
 
 module _ (c : State) (zones : List (Name × ℕ)) (old : IsConsistent c zones) where
   abbrev under : Keys → State
@@ -48,7 +48,7 @@ module _ (c : State) (zones : List (Name × ℕ)) (old : IsConsistent c zones) w
     born = record {
       switches = old.born.switches;
       ports = old.born.ports;
-      keys = settled_born c.keys (events_of (under (settled c.keys))) old.born.keys;
+      keys = settled_born c.keys (event_count (under (settled c.keys))) old.born.keys;
       none = old.born.none;
     };
     on_the_way = record {

@@ -11,9 +11,9 @@ use Rattle.switch_engine.specs.declared.walk.Walk.{Walk}
 use Rattle.world_core.specs.declared.crossing.Crossing.{Crossing}
 use Rattle.tunnel_keys.specs.Keys.{Keys, IsKeys, no_keys}
 use Rattle.world_core.specs.Consistent.{IsConsistent}
-use Rattle.world_core.specs.Parts.{new_world}
+use Rattle.world_core.specs.StepParts.{new_world}
 use Rattle.tunnel_keys.proofs.Invariant.{none_hold}
-use Rattle.world_core.specs.Seen.{IsSound, AreHeld}
+use Rattle.world_core.specs.WorldView.{IsSound, AreHeld}
 use Rattle.world_core.specs.Sound.{IsValid, HaveKeys, AreBound, AreBorn, AreCrossings}
 use Rattle.world_core.specs.State.{empty}
 use Rattle.world_core.proofs.Found.{some_of}
@@ -32,7 +32,6 @@ new_valid = record {
   switch_names = λ a switch e. absurd (none-some switch e);
   port_names = λ q port e. absurd (none-some port e);
   on_switch = λ q port e. absurd (none-some port e);
-  macs = λ q port mac e has. absurd (none-some port e);
   stations = λ q port mac e has. absurd (none-some port e);
   once = λ q port e. absurd (none-some port e);
   apart = λ p q ours theirs mac e f switch has also. absurd (none-some ours e);

@@ -6,17 +6,17 @@ use Rattle.std.proofs.Math.Dec.{eqb as nat_eq}
 use Rattle.std.proofs.lemmas.Bool.{false≢true, or_parts, or_right, leb-false}
 use Rattle.std.proofs.lemmas.Bool.Decides.{Decides-eqb}
 use Rattle.std.proofs.lemmas.Option.{same_Some, none-some}
-use Rattle.ovn_base.specs.Among.{Among, here, there}
-use Rattle.ovn_base.specs.Once.{EachOnce}
-use Rattle.ovn_base.specs.Address.{is_multicast_mac}
-use Rattle.ovn_base.specs.ByName.{at}
-use Rattle.ovn_base.specs.SameName.{bytes_decides, same_name}
+use Rattle.ovn_base.specs.lists.Among.{Among, here, there}
+use Rattle.ovn_base.specs.lists.Once.{EachOnce}
+use Rattle.ovn_base.specs.addresses.EtherAddress.{is_multicast_mac, same_ether_decides}
+use Rattle.ovn_base.specs.names.ByName.{at}
+use Rattle.ovn_base.specs.names.SameName.{bytes_decides, same_name}
 use Rattle.ovn_base.specs.declared.address.Ip4.{Ip4}
 use Rattle.ovn_base.specs.declared.address.Mac.{Mac}
 use Rattle.ovn_base.specs.declared.name.Name.{Name}
 use Rattle.ovn_base.proofs.AmongLaws.{among_any, among_none, filter_map_among}
 use Rattle.nb_records.specs.Network.{Network}
-use Rattle.ovn_base.proofs.Puts.{at_among}
+use Rattle.ovn_base.proofs.ByNameLaws.{at_among}
 use Rattle.nb_records.specs.declared.record.PortAddress.{PortAddress}
 use Rattle.nb_records.specs.declared.record.PortAddress.TheVariants.{Ether, Unknown}
 use Rattle.nb_records.specs.declared.record.SwitchPort.{SwitchPort}
@@ -27,7 +27,7 @@ use Rattle.world_core.specs.Unbuilt.{same_mac, is_zero_mac, is_among, repeats, i
 one_mac : (a b : PortAddress) (mac : Mac) → mac_in a ≡ Some mac → mac_in b ≡ Some mac → clash a b ≡ true
 one_mac (Ether mac ips) (Ether other others) one is also =
     let same : mac ≡ other = same_Some mac one is ∙ sym (same_Some other one also) in
-    ap (λ (t : Bool). t || has_common ips others) ((bytes_decides mac.0 other.0).1 (ap (λ (m : Mac). m.0) same))
+    ap (λ (t : Bool). t || has_common ips others) ((same_ether_decides mac other).1 same)
 one_mac (Ether mac ips) Unknown one is also = absurd (none-some one also)
 one_mac Unknown theirs one is also = absurd (none-some one is)
 
@@ -74,7 +74,7 @@ of_station (Ether own ips) mac h is =
     let addresses = or_parts (is_zero_mac own) (is_multicast_mac own) parts.0 in
     subst IsOfStation (same_Some own mac is) (record {
       no_group = addresses.1;
-      not_zero = λ zero. false≢true (sym addresses.0 ∙ (bytes_decides own.0 (0 ∷ 0 ∷ 0 ∷ 0 ∷ 0 ∷ 0 ∷ [])).1 zero);
+      not_zero = λ zero. false≢true (sym addresses.0 ∙ (Decides-eqb own.number 0).1 zero);
     })
 of_station Unknown mac h is = absurd (none-some mac is)
 

@@ -11,7 +11,7 @@ use Rattle.std.specs.List.Sorted.{IsStrictlySortedBy}
 use Rattle.std.specs.Map.{keys_of, remove_entry}
 use Rattle.std.specs.Ordering.{is_eq, match_ordering, nat_cmp}
 use Rattle.std.specs.declared.cmp.Ordering.TheVariants.{Less, Equal, Greater}
-use Rattle.ovn_base.specs.Among.{Among, here, there}
+use Rattle.ovn_base.specs.lists.Among.{Among, here, there}
 use Rattle.ovn_base.proofs.AmongLaws.{among_cases}
 use Rattle.chassis_sim.specs.State.{numbered}
 

@@ -6,12 +6,12 @@ use Rattle.std.proofs.Common.{arith, sym, ap, subst, ◌∙◌, inl, inr}
 use Rattle.std.proofs.Math.Dec.{eqb as nat_eq}
 use Rattle.std.proofs.lemmas.Bool.{cases_Bool, false≢true}
 use Rattle.std.proofs.lemmas.Bool.Decides.{Decides-eqb}
-use Rattle.ovn_base.specs.Among.{Among, here}
-use Rattle.ovn_base.specs.ByName.{at}
-use Rattle.ovn_base.specs.SameName.{bytes_decides}
+use Rattle.ovn_base.specs.lists.Among.{Among, here}
+use Rattle.ovn_base.specs.names.ByName.{at}
+use Rattle.ovn_base.specs.names.SameName.{bytes_decides}
 use Rattle.ovn_base.specs.declared.name.Name.{Name}
 use Rattle.ovn_base.proofs.AmongLaws.{among_any, among_filter, among_map, among_member, any_among, member_among}
-use Rattle.ovn_base.proofs.Puts.{at_among}
+use Rattle.ovn_base.proofs.ByNameLaws.{at_among}
 use Rattle.tunnel_keys.specs.Keys.{free_in, IsFreeIn}
 use Rattle.tunnel_keys.proofs.FreeKeys.{free_first, free_is_free, free_more, free_none}
 use Rattle.tunnel_keys.proofs.Room.{filter_few, free_count}

@@ -1,8 +1,8 @@
 -- The addresses of a port.
 use Rattle.std.specs.Prelude.{◌≡◌, ◌≢◌, Bool, true, false, List, [], ◌∷◌, Option, Some, None, flat_map}
 use Rattle.std.specs.List.{list_any, filter_map}
-use Rattle.ovn_base.specs.Address.{is_multicast_mac}
-use Rattle.ovn_base.specs.Among.{Among}
+use Rattle.ovn_base.specs.addresses.EtherAddress.{is_multicast_mac}
+use Rattle.ovn_base.specs.lists.Among.{Among}
 use Rattle.ovn_base.specs.declared.address.Ip4.{Ip4}
 use Rattle.ovn_base.specs.declared.address.Mac.{Mac}
 use Rattle.nb_records.specs.declared.record.PortAddress.{PortAddress}
@@ -49,4 +49,4 @@ takes_unknown addresses = list_any is_unknown addresses
 -- the Ethernet address is that of a station: neither one of a group nor zero
 pub record IsOfStation (mac : Mac) : Type 0 where
   pub no_group : is_multicast_mac mac ≡ false
-  pub not_zero : mac.0 ≢ 0 ∷ 0 ∷ 0 ∷ 0 ∷ 0 ∷ 0 ∷ []
+  pub not_zero : mac.number ≢ 0

@@ -2,7 +2,7 @@
 use Rattle.std.specs.Prelude.{◌≤◌, ◌^◌, ℕ, List}
 use Rattle.ovn_base.specs.declared.name.Name.{Name}
 use Rattle.world_core.specs.Sound.{IsValid, IsWithin, HaveKeys, AreBound, AreBorn, AreOnTheWay}
-use Rattle.world_core.specs.State.{State, events_of}
+use Rattle.world_core.specs.State.{State, event_count}
 
 -- the state is one that events can leave
 pub record IsConsistent (m : State) (zones : List (Name × ℕ)) : Type 0 where
@@ -12,4 +12,4 @@ pub record IsConsistent (m : State) (zones : List (Name × ℕ)) : Type 0 where
   pub bound : AreBound m zones
   pub born : AreBorn m
   pub on_the_way : AreOnTheWay m
-  pub few : events_of m ≤ 2 ^ 42
+  pub few : event_count m ≤ 2 ^ 42

@@ -4,7 +4,7 @@ use Rattle.std.specs.Ordering.{nat_cmp, match_ordering}
 use Rattle.std.specs.Cmp.Lexicographic.{slice_cmp}
 use Rattle.ovn_base.specs.declared.address.Birth.{Birth}
 use Rattle.ovn_base.specs.declared.name.Name.{Name}
-use Rattle.ovn_base.specs.ByName.{in_order}
+use Rattle.ovn_base.specs.names.ByName.{in_order}
 use Rattle.nb_records.specs.Network.{Network, with_record}
 use Rattle.nb_records.specs.declared.record.Op.{Op}
 use Rattle.nb_records.specs.declared.record.Op.TheVariants.{Add}
@@ -18,7 +18,7 @@ use Rattle.tunnel_keys.specs.Owners.{datapaths_in, ports_in}
 use Rattle.tunnel_keys.specs.declared.owner.KeyOwner.{KeyOwner}
 use Rattle.tunnel_keys.specs.declared.owner.KeyOwner.TheVariants.{Datapath, Port}
 use Rattle.world_core.specs.Numbers.{datapath_number, port_number}
-use Rattle.world_core.specs.State.{State, events_of}
+use Rattle.world_core.specs.State.{State, event_count}
 
 -- the record, added by the event of this number
 abbrev pub born : ℕ → Record → Record
@@ -60,9 +60,9 @@ pub record Edits (m : State) (ops : List Op) (effects : List NetEffect) (after :
   pub keys : Keys
   -- they are in range and in order of name, and nobody has another's
   pub hold : IsKeys keys
-  pub given : GivesKeys m.keys (owners_of ops (events_of m + 1)) [] keys
-  pub effects_are : effects ≡ key_effects (owners_of ops (events_of m + 1)) keys
-  pub state : after ≡ record m { net = accepted m.net ops (events_of m + 1); keys = keys }
+  pub given : GivesKeys m.keys (owners_of ops (event_count m + 1)) [] keys
+  pub effects_are : effects ≡ key_effects (owners_of ops (event_count m + 1)) keys
+  pub state : after ≡ record m { net = accepted m.net ops (event_count m + 1); keys = keys }
 
 -- the names with one more, in order
 abbrev pub with_name : List Name → Name → List Name

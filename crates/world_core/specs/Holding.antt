@@ -1,7 +1,7 @@
 -- What tables hold of wanted flows.
 use Rattle.std.specs.Prelude.{◌↔◌, List}
-use Rattle.ovn_base.specs.Among.{Among}
-use Rattle.ovn_base.specs.Once.{EachOnce}
+use Rattle.ovn_base.specs.lists.Among.{Among}
+use Rattle.ovn_base.specs.lists.Once.{EachOnce}
 use Rattle.flow_table.specs.declared.flow.Flow.{Flow}
 
 -- the same flows, each once

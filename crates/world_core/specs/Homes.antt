@@ -2,8 +2,8 @@
 use Rattle.std.specs.Prelude.{Bool, true, false, ◌&&◌, not, List, Option, Some, None, filter}
 use Rattle.std.specs.List.{list_any}
 use Rattle.std.specs.Map.{keys_of}
-use Rattle.ovn_base.specs.ByName.{at}
-use Rattle.ovn_base.specs.SameName.{same_name}
+use Rattle.ovn_base.specs.names.ByName.{at}
+use Rattle.ovn_base.specs.names.SameName.{same_name}
 use Rattle.ovn_base.specs.declared.name.Name.{Name}
 use Rattle.nb_records.specs.Network.{Network}
 use Rattle.nb_records.specs.declared.record.SwitchPort.{SwitchPort}

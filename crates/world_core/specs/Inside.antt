@@ -1,9 +1,9 @@
 -- How a world is kept: its view, and what holds of it between events.
 use Rattle.std.specs.Prelude.{◌≡◌, true}
 use Rattle.world_core.specs.declared.world.World.TheInside.{Inside}
-use Rattle.world_core.specs.Seen.{Seen, IsSound}
+use Rattle.world_core.specs.WorldView.{WorldView, IsSound}
 
-abbrev pub seen_of : Inside → Seen
+abbrev pub seen_of : Inside → WorldView
 seen_of w = record {
   state = record {
     net = w.records;

@@ -3,7 +3,7 @@ pub mod Crossing
 pub mod State
 pub mod Addresses
 pub mod Homes
-pub mod New
+pub mod NewPort
 pub mod Rows
 pub mod Numbers
 pub mod Stages
@@ -19,7 +19,7 @@ pub mod Naming
 pub mod WalkLaw
 pub mod Unbuilt
 pub mod Editing
-pub mod Seen
+pub mod WorldView
 pub mod Step
 pub mod Passing
 pub mod Packets
@@ -29,5 +29,5 @@ pub mod Admitted
 pub mod Refusing
 pub mod Outcome
 pub mod Picks
-pub mod Parts
+pub mod StepParts
 pub mod Inside

@@ -1,6 +1,6 @@
 -- The ends of packets in numbers: what the tables do with a packet, and what becomes of it in the network.
 use Rattle.std.specs.Prelude.{◌≡◌, ℕ, Some}
-use Rattle.ovn_base.specs.ByName.{at}
+use Rattle.ovn_base.specs.names.ByName.{at}
 use Rattle.ovn_base.specs.declared.name.Name.{Name}
 use Rattle.inet_packet.specs.Frame.{frame_of}
 use Rattle.inet_packet.specs.declared.packet.Packet.{Packet}

@@ -2,7 +2,7 @@
 use Rattle.std.specs.Prelude.{◌≡◌, ◌++◌, ◌+◌, ℕ, List, [], length, None, Some, Ok, Err, Result}
 use Rattle.std.specs.List.{sum_by}
 use Rattle.edit_reader.specs.declared.event.Event.{Event}
-use Rattle.event_lines.specs.Lines.{lines_of, refused_line}
+use Rattle.event_lines.specs.Lines.{accepted_lines, refused_line}
 use Rattle.event_lines.specs.declared.refusal.Refusal.{Refusal}
 use Rattle.event_lines.specs.declared.refusal.StepFault.{StepFault}
 use Rattle.event_lines.specs.declared.refusal.StepFault.TheVariants.{Refused, Memory}
@@ -10,8 +10,8 @@ use Rattle.switch_engine.specs.declared.effect.NetEffect.{NetEffect}
 use Rattle.switch_engine.specs.declared.walk.Walk.{Walk}
 use Rattle.world_core.specs.Passing.{Passes}
 use Rattle.world_core.specs.Refusing.{refusal}
-use Rattle.world_core.specs.Seen.{Seen, IsSound}
-use Rattle.world_core.specs.State.{events_of}
+use Rattle.world_core.specs.WorldView.{WorldView, IsSound}
+use Rattle.world_core.specs.State.{event_count}
 use Rattle.world_core.specs.Step as net
 use Rattle.world_core.specs.Zones.{zones_after}
 
@@ -20,22 +20,22 @@ abbrev pub matched : List Walk → ℕ
 matched walks = sum_by (λ walk. length walk.steps) walks
 
 -- an accepted event: its effects are a step of the network and what came of its packets on the chassis, and its text says them
-pub record IsAccepted (old : Seen) (event : Event) (before after : List ℕ) (new : Seen) : Type 0 where
+pub record IsAccepted (old : WorldView) (event : Event) (before after : List ℕ) (new : WorldView) : Type 0 where
   pub admitted : refusal old.state event ≡ None
   pub effects : List NetEffect
   pub step : net.Step old.state event effects new.state
   pub passed : Passes old.sim event (record { effects = effects; walks = new.walks }) new.sim
   pub zones : new.zones ≡ zones_after old.state.bindings old.zones event
-  pub text : after ≡ before ++ lines_of (events_of old.state + 1) effects (matched new.walks)
+  pub text : after ≡ before ++ accepted_lines (event_count old.state + 1) effects (matched new.walks)
 
 -- a refused event: it counts, and nothing else changes
-pub record IsRefused (old : Seen) (event : Event) (why : Refusal) (before after : List ℕ) (new : Seen) : Type 0 where
+pub record IsRefused (old : WorldView) (event : Event) (why : Refusal) (before after : List ℕ) (new : WorldView) : Type 0 where
   pub first : refusal old.state event ≡ Some why
   pub kept : new ≡ record old { state = record old.state { refused = old.state.refused + 1 }; walks = [] }
-  pub text : after ≡ before ++ refused_line (events_of old.state + 1) why
+  pub text : after ≡ before ++ refused_line (event_count old.state + 1) why
 
 -- what a step leaves: after want of memory the world isn't sound, and the text keeps what it held
-abbrev pub Outcome : Result (Unit {0}) StepFault → Seen → Event → List ℕ → List ℕ → Seen → Type 0
+abbrev pub Outcome : Result (Unit {0}) StepFault → WorldView → Event → List ℕ → List ℕ → WorldView → Type 0
 Outcome (Ok done) old event before after new = IsAccepted old event before after new × IsSound new
 Outcome (Err (Refused why)) old event before after new = IsRefused old event why before after new × IsSound new
 Outcome (Err Memory) old event before after new = (¬ IsSound new) × ((more : List ℕ) × (after ≡ before ++ more))

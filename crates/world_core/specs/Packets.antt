@@ -4,9 +4,10 @@ use Rattle.std.proofs.Math.Dec.{eqb as nat_eq}
 use Rattle.std.specs.List.Sorted.{IsStrictlySortedBy}
 use Rattle.std.specs.Map.{keys_of}
 use Rattle.std.specs.Ordering.{nat_cmp}
-use Rattle.ovn_base.specs.Among.{Among}
-use Rattle.ovn_base.specs.ByName.{at}
+use Rattle.ovn_base.specs.lists.Among.{Among}
+use Rattle.ovn_base.specs.names.ByName.{at}
 use Rattle.ovn_base.specs.declared.name.Name.{Name}
+use Rattle.ovn_base.specs.declared.limits.TheConstants.{MAX_CHASSIS}
 use Rattle.chassis_sim.specs.InNames.{frames_sent}
 use Rattle.chassis_sim.specs.Passing as sim
 use Rattle.chassis_sim.specs.State as held
@@ -19,7 +20,7 @@ use Rattle.world_core.specs.Effects.{spelled}
 use Rattle.world_core.specs.Naming.{HasPortKey}
 use Rattle.world_core.specs.Passing.{AreDrained, GoesIn, clock}
 use Rattle.world_core.specs.Refinement.{IsAmidst}
-use Rattle.world_core.specs.Seen.{Seen, AreHeld, frame_of_crossing}
+use Rattle.world_core.specs.WorldView.{WorldView, AreHeld, frame_of_crossing}
 use Rattle.world_core.specs.Sound.{MayWait}
 use Rattle.world_core.specs.State.{State}
 use Rattle.world_core.specs.Step.{Enters, Arrives, Drains}
@@ -29,11 +30,11 @@ use Rattle.world_core.specs.declared.crossing.Crossing.{Crossing}
 
 -- how many frames an event may send, beside those for which its number of events leaves room
 abbrev pub most_sent : ℕ
-most_sent = 64
+most_sent = MAX_CHASSIS
 
 -- The packets did this on the simulated chassis, and the effects are those of the network; the world holds the state that the network
 -- is in then, and nothing else of it changed.
-pub record HasPassed (old : Seen) (before after : SimOut) (new : Seen) (Passed : held.SimState → SimOut → SimOut → held.SimState → Type 0) (Happens : State → List NetEffect → State → Type 0) : Type 0 where
+pub record HasPassed (old : WorldView) (before after : SimOut) (new : WorldView) (Passed : held.SimState → SimOut → SimOut → held.SimState → Type 0) (Happens : State → List NetEffect → State → Type 0) : Type 0 where
   pub passed : Passed old.sim before after new.sim
   pub effects : List NetEffect
   pub all : after.effects ≡ before.effects ++ effects
@@ -43,15 +44,15 @@ pub record HasPassed (old : Seen) (before after : SimOut) (new : Seen) (Passed :
   pub rest : new ≡ record old { state = new.state; sim = new.sim }
 
 -- a packet went in at a port
-abbrev pub HasEntered : Seen → Name → List ℕ → SimOut → SimOut → Seen → Type 0
+abbrev pub HasEntered : WorldView → Name → List ℕ → SimOut → SimOut → WorldView → Type 0
 HasEntered old p frame before after new = HasPassed old before after new (λ s b a t. GoesIn s p frame b a t) (λ m effects k. Enters m p frame effects k)
 
 -- a frame arrived
-abbrev pub HasArrived : Seen → ℕ → Bool → SimOut → SimOut → Seen → Type 0
-HasArrived old n keep before after new = HasPassed old before after new (λ s b a t. sim.Arrives s n keep clock b a t) (λ m effects k. Arrives m n keep effects k)
+abbrev pub HasArrived : WorldView → ℕ → Bool → SimOut → SimOut → WorldView → Type 0
+HasArrived old n keep before after new = HasPassed old before after new (λ s b a t. sim.IsArrived s n keep clock b a t) (λ m effects k. Arrives m n keep effects k)
 
 -- the waiting frames arrived, up to so many
-abbrev pub AreGone : ℕ → Seen → SimOut → SimOut → Seen → Type 0
+abbrev pub AreGone : ℕ → WorldView → SimOut → SimOut → WorldView → Type 0
 AreGone most old before after new = HasPassed old before after new (λ s b a t. AreDrained most s b a t) (λ m effects k. Drains most m effects k)
 
 -- the crossing is one of a packet from the port, which its frame spells under the keys

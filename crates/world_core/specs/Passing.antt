@@ -4,7 +4,7 @@ use Rattle.ovn_base.specs.declared.name.Name.{Name}
 use Rattle.inet_packet.specs.Frame.{frame_of}
 use Rattle.inet_packet.specs.Whole.{IsWhole}
 use Rattle.inet_packet.specs.declared.packet.Packet as inet
-use Rattle.chassis_sim.specs.Passing.{Arrives, IsInjected}
+use Rattle.chassis_sim.specs.Passing.{IsArrived, IsInjected}
 use Rattle.chassis_sim.specs.State as sim
 use Rattle.chassis_sim.specs.declared.out.SimOut.{SimOut}
 use Rattle.chassis_sim.specs.declared.underlay.WaitingFrame.{WaitingFrame}
@@ -35,7 +35,7 @@ pub record ArrivesFirst (s : sim.SimState) (before : SimOut) (Others : sim.SimSt
   pub first : s.waiting ≡ (n, frame) ∷ behind
   pub between : SimOut
   pub mid : sim.SimState
-  pub arrives : Arrives s n false clock before between mid
+  pub arrives : IsArrived s n false clock before between mid
   pub others : Others mid between
 
 -- the lowest frame arrives again and again, until none waits or so many arrived
@@ -56,9 +56,9 @@ Passes s (Edit ops) out new = out.walks ≡ []
 Passes s (Bind port chassis) out new = out.walks ≡ []
 Passes s (AddChassis chassis) out new = out.walks ≡ []
 Passes s (Inject port frame) out new = GoesIn s port frame no_out out new
-Passes s (Deliver n) out new = Arrives s n false clock no_out out new
+Passes s (Deliver n) out new = IsArrived s n false clock no_out out new
 Passes s (Lose n) out new = out.walks ≡ []
-Passes s (Repeat n) out new = Arrives s n true clock no_out out new
+Passes s (Repeat n) out new = IsArrived s n true clock no_out out new
 Passes s Drain out new = AreDrained most_arrivals s no_out out new
 Passes s (Packet port frame) out new = GoesThrough s port frame out new
 Passes s (Unread fault) out new = ⊥

@@ -7,9 +7,9 @@ use Rattle.chassis_sim.specs.declared.out.SimOut.{SimOut}
 use Rattle.switch_engine.specs.declared.effect.NetEffect.{NetEffect}
 use Rattle.world_core.specs.Consistent.{IsConsistent}
 use Rattle.world_core.specs.Passing.{GoesIn, clock}
-use Rattle.world_core.specs.Seen.{AreHeld}
+use Rattle.world_core.specs.WorldView.{AreHeld}
 use Rattle.world_core.specs.Sound.{IsValid, IsWithin, HaveKeys, AreBound, AreBorn, AreCrossings}
-use Rattle.world_core.specs.State.{State, events_of, finished}
+use Rattle.world_core.specs.State.{State, event_count, finished}
 use Rattle.world_core.specs.Step.{Enters, Arrives}
 
 -- the state in the midst of an event: as between events, but so many more frames may have been sent, and keys that nobody needs any more
@@ -21,8 +21,8 @@ pub record IsAmidst (m : State) (zones : List (Name × ℕ)) (more : ℕ) : Type
   pub bound : AreBound m zones
   pub born : AreBorn m
   pub crossings : AreCrossings m
-  pub few : events_of m ≤ 2 ^ 42
-  pub few_sent : m.next ≤ 1 + 2 ^ 64 * events_of m + more
+  pub few : event_count m ≤ 2 ^ 42
+  pub few_sent : m.next ≤ 1 + 2 ^ 64 * event_count m + more
 
 -- these effects came, which the network has too; the chassis hold the state that it leaves, and `more` frames were sent beyond those of earlier events
 pub record IsRefined (zones : List (Name × ℕ)) (more : ℕ) (before after : SimOut) (new : held.SimState) (Happens : List NetEffect → State → Type 0) : Type 0 where
@@ -48,7 +48,7 @@ ArrivalRefines =
     (m : State) (zones : List (Name × ℕ)) (more : ℕ) (s new : held.SimState) (n : ℕ) (keep : Bool) (before after : SimOut)
     → IsAmidst m zones more
     → AreHeld m zones s
-    → sim.Arrives s n keep clock before after new
+    → sim.IsArrived s n keep clock before after new
     → IsRefined zones more before after new (λ effects mid. Arrives m n keep effects mid)
 
 -- the event is over
@@ -57,7 +57,7 @@ Finishes =
     (m : State) (zones : List (Name × ℕ)) (more : ℕ) (s : held.SimState)
     → IsAmidst m zones more
     → more ≤ 2 ^ 64
-    → events_of m < 2 ^ 42
+    → event_count m < 2 ^ 42
     → AreHeld m zones s
     → IsConsistent (finished m) zones × AreHeld (finished m) zones s
 

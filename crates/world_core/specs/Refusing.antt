@@ -1,7 +1,8 @@
 -- When an event is refused, and why: the first cause that holds.
 use Rattle.std.specs.Prelude.{◌||◌, Bool, List, [], ◌∷◌, Some, None, Option, if◌then◌else◌, is_some, nat_le, length}
 use Rattle.ovn_base.specs.declared.name.Name.{Name}
-use Rattle.ovn_base.specs.ByName.{at}
+use Rattle.ovn_base.specs.names.ByName.{at}
+use Rattle.ovn_base.specs.declared.limits.TheConstants.{MAX_CHASSIS, MAX_DATAPATHS, MAX_WAITING}
 use Rattle.nb_records.specs.Network.{Network}
 use Rattle.nb_records.specs.declared.record.Op.{Op}
 use Rattle.nb_records.specs.declared.record.Op.TheVariants.{Add}
@@ -17,7 +18,7 @@ use Rattle.world_core.specs.Unbuilt.{is_unbuilt_port}
 
 -- why an added record is refused
 abbrev pub refusal_of_record : Network → Record → Option Refusal
-refusal_of_record net (record_of.Switch switch) = if is_some (at net.switches switch.name) || nat_le 1024 (length net.switches) then Some why.NotBuilt else None
+refusal_of_record net (record_of.Switch switch) = if is_some (at net.switches switch.name) || nat_le MAX_DATAPATHS (length net.switches) then Some why.NotBuilt else None
 refusal_of_record net (record_of.SwitchPort port) =
     if is_unbuilt_port net port then Some why.NotBuilt else (if is_some (at net.switches port.switch) then None else Some (why.NoSuch port.switch))
 
@@ -32,7 +33,7 @@ refusal_of_edit net (op ∷ next ∷ ops) = Some why.NotBuilt
 
 -- so many frames wait that no event may add to them
 abbrev pub too_many_wait : State → Bool
-too_many_wait m = nat_le 65536 (length m.waiting)
+too_many_wait m = nat_le MAX_WAITING (length m.waiting)
 
 -- why a packet that would enter at the port is refused: the port isn't there, or isn't bound, or too many frames wait
 abbrev pub refusal_of_entry : State → Name → Option Refusal
@@ -44,7 +45,7 @@ abbrev pub refusal : State → Event → Option Refusal
 refusal m (Edit ops) = refusal_of_edit m.net ops
 refusal m (Bind port chassis) =
     if is_some (at m.net.ports port) then (if is_chassis m chassis then None else Some (why.NoSuch chassis)) else Some (why.NoSuch port)
-refusal m (AddChassis chassis) = if is_chassis m chassis then Some (why.DuplicateName chassis) else (if nat_le 64 (length m.chassis) then Some why.LimitChassis else None)
+refusal m (AddChassis chassis) = if is_chassis m chassis then Some (why.DuplicateName chassis) else (if nat_le MAX_CHASSIS (length m.chassis) then Some why.LimitChassis else None)
 refusal m (Inject port frame) = refusal_of_entry m port
 refusal m (Deliver n) = if is_some (numbered m.waiting n) then None else Some (why.NoFrame n)
 refusal m (Lose n) = if is_some (numbered m.waiting n) then None else Some (why.NoFrame n)

@@ -2,7 +2,9 @@
 use Rattle.std.specs.Prelude.{ℕ, ◌-◌, ◌^◌, Bool, true, false, cond, List, [], ◌∷◌, ◌++◌, map, Some, None}
 use Rattle.ovn_base.specs.declared.name.Name.{Name}
 use Rattle.ovn_base.specs.declared.address.Mac.{Mac}
-use Rattle.ovn_base.specs.Address.{mac_number}
+use Rattle.ovn_base.specs.addresses.EtherAddress.{mac_number}
+use Rattle.ovn_base.specs.declared.stages.TheConstants.{ADMIT_TABLE, EGRESS_TRACK_TABLE, ENTRY_TABLE, LOCAL_TABLE, LOOKUP_TABLE, LOOPBACK_TABLE, OUTPUT_TABLE, REMOTE_TABLE}
+use Rattle.inet_packet.specs.Cubes.{any, exactly, everything}
 use Rattle.inet_packet.specs.declared.cube.Bits.{Bits}
 use Rattle.inet_packet.specs.declared.cube.Cube.{Cube}
 use Rattle.inet_packet.specs.declared.regs.At.TheVariants.{Local, Tunnel}
@@ -12,51 +14,10 @@ use Rattle.flow_table.specs.declared.flow.Flow.{Flow}
 use Rattle.flow_table.specs.declared.flow.FlowOp.{FlowOp}
 use Rattle.flow_table.specs.declared.flow.FlowOp.TheVariants.{Set, Go, Drop, Header, Frame, Copies, Output}
 use Rattle.flow_table.specs.declared.flow.Member.{Member}
+use Rattle.world_core.specs.declared.priorities.TheConstants.{ADDRESS_PRIORITY, BAD_SOURCE_PRIORITY, BASE_PRIORITY, FLOOD_PRIORITY, PHYSICAL_PRIORITY, VLAN_PRIORITY}
 use Rattle.world_core.specs.Crossing.{group_key}
 use Rattle.world_core.specs.declared.crossing.Group.{Group}
 use Rattle.world_core.specs.declared.crossing.Group.TheVariants.{Flood, Unknown}
-
-abbrev pub any : Bits
-any = record { value = 0; mask = 0 }
-
--- all bits of a field of this width
-abbrev pub exactly : ℕ → ℕ → Bits
-exactly width n = record { value = n; mask = 2 ^ width - 1 }
-
-abbrev pub everything : Cube
-everything = record {
-  at = None;
-  dp = any;
-  in_port = any;
-  out_port = any;
-  next = any;
-  z_in = any;
-  z_out = any;
-  z_dnat = any;
-  z_snat = any;
-  state = any;
-  verdict = any;
-  tier = any;
-  flags = any;
-  eth_src = any;
-  eth_dst = any;
-  eth_type = any;
-  ip4_src = any;
-  ip4_dst = any;
-  ip_proto = any;
-  ip_ttl = any;
-  tcp_src = any;
-  tcp_dst = any;
-  udp_src = any;
-  udp_dst = any;
-  icmp4_type = any;
-  icmp4_code = any;
-  arp_op = any;
-  arp_spa = any;
-  arp_tpa = any;
-  arp_sha = any;
-  arp_tha = any;
-}
 
 -- packets that come in at the port, and those that come out of a tunnel
 abbrev pub on_entry : Name → Cube
@@ -106,63 +67,63 @@ flow_of table priority cube ops = record { table = table; priority = priority; r
 
 -- table 0: a packet that comes in at a port of the chassis, and one that comes out of a tunnel: it goes on where its port or group is local
 abbrev pub entry_row : Name → ℕ → ℕ → ℕ → Flow
-entry_row name dp key zone = flow_of 0 100 (on_entry name) (Set Dp dp ∷ Set InPort key ∷ Set ZIn zone ∷ Go 8 ∷ [])
+entry_row name dp key zone = flow_of ENTRY_TABLE PHYSICAL_PRIORITY (on_entry name) (Set Dp dp ∷ Set InPort key ∷ Set ZIn zone ∷ Go ADMIT_TABLE ∷ [])
 
 abbrev pub arrival_row : Flow
-arrival_row = flow_of 0 100 on_tunnel (Header ∷ Set Arrived 1 ∷ Go 33 ∷ [])
+arrival_row = flow_of ENTRY_TABLE PHYSICAL_PRIORITY on_tunnel (Header ∷ Set Arrived 1 ∷ Go LOCAL_TABLE ∷ [])
 
 -- the row of a stage that a packet passes where nothing else matches
 abbrev pub pass_row : ℕ → ℕ → ℕ → Flow
-pass_row dp table next = flow_of table 0 (on_datapath dp) (Go next ∷ [])
+pass_row dp table next = flow_of table BASE_PRIORITY (on_datapath dp) (Go next ∷ [])
 
 -- table 8: no packet comes from a group's address, and none with a tag
 abbrev pub bad_source_row : ℕ → Flow
-bad_source_row dp = flow_of 8 110 (from_a_group dp) (Drop BadSource ∷ [])
+bad_source_row dp = flow_of ADMIT_TABLE BAD_SOURCE_PRIORITY (from_a_group dp) (Drop BadSource ∷ [])
 
 abbrev pub vlan_row : ℕ → Flow
-vlan_row dp = flow_of 8 100 (with_tag dp) (Drop Vlan ∷ [])
+vlan_row dp = flow_of ADMIT_TABLE VLAN_PRIORITY (with_tag dp) (Drop Vlan ∷ [])
 
 -- table 14: a packet to a group's address goes to all ports, another to the port that has the address
 abbrev pub flood_row : ℕ → Flow
-flood_row dp = flow_of 14 70 (to_a_group dp) (Set OutPort (group_key Flood) ∷ Go 32 ∷ [])
+flood_row dp = flow_of LOOKUP_TABLE FLOOD_PRIORITY (to_a_group dp) (Set OutPort (group_key Flood) ∷ Go REMOTE_TABLE ∷ [])
 
 abbrev pub address_row : ℕ → Mac → ℕ → Flow
-address_row dp mac key = flow_of 14 50 (on_address dp mac) (Set OutPort key ∷ Go 32 ∷ [])
+address_row dp mac key = flow_of LOOKUP_TABLE ADDRESS_PRIORITY (on_address dp mac) (Set OutPort key ∷ Go REMOTE_TABLE ∷ [])
 
 -- and where none has it, to the ports that take such packets, if there is one
 abbrev pub unknown_ops : Bool → List FlowOp
-unknown_ops true = Set OutPort (group_key Unknown) ∷ Go 32 ∷ []
+unknown_ops true = Set OutPort (group_key Unknown) ∷ Go REMOTE_TABLE ∷ []
 unknown_ops false = Drop UnknownAddress ∷ []
 
 abbrev pub unknown_row : ℕ → Bool → Flow
-unknown_row dp taken = flow_of 14 0 (on_datapath dp) (unknown_ops taken)
+unknown_row dp taken = flow_of LOOKUP_TABLE BASE_PRIORITY (on_datapath dp) (unknown_ops taken)
 
 -- table 32: a packet for a port that is at home elsewhere goes there as a frame
 abbrev pub remote_row : ℕ → ℕ → Name → Flow
-remote_row dp key home = flow_of 32 100 (on_exit dp key) (Frame home ∷ [])
+remote_row dp key home = flow_of REMOTE_TABLE PHYSICAL_PRIORITY (on_exit dp key) (Frame home ∷ [])
 
 -- one for a group goes as a frame to each other chassis that has a member, and on here
 abbrev pub spread_row : ℕ → Group → List Name → Flow
-spread_row dp group homes = flow_of 32 100 (on_group dp group false) (map (λ home. Frame home) homes ++ Go 33 ∷ [])
+spread_row dp group homes = flow_of REMOTE_TABLE PHYSICAL_PRIORITY (on_group dp group false) (map (λ home. Frame home) homes ++ Go LOCAL_TABLE ∷ [])
 
 -- all others go on here
 abbrev pub stay_row : Flow
-stay_row = flow_of 32 0 everything (Go 33 ∷ [])
+stay_row = flow_of REMOTE_TABLE BASE_PRIORITY everything (Go LOCAL_TABLE ∷ [])
 
 -- table 33: a port that is at home here, and the members of a group that are
 abbrev pub home_row : ℕ → ℕ → ℕ → Flow
-home_row dp key zone = flow_of 33 100 (on_exit dp key) (Set ZOut zone ∷ Go 34 ∷ [])
+home_row dp key zone = flow_of LOCAL_TABLE PHYSICAL_PRIORITY (on_exit dp key) (Set ZOut zone ∷ Go LOOPBACK_TABLE ∷ [])
 
 abbrev pub copies_row : ℕ → Group → Bool → List Member → Flow
-copies_row dp group arrived members = flow_of 33 100 (on_group dp group arrived) (Copies members ∷ [])
+copies_row dp group arrived members = flow_of LOCAL_TABLE PHYSICAL_PRIORITY (on_group dp group arrived) (Copies members ∷ [])
 
 -- table 34: a packet does not go back to where it came from; what goes on is asked anew
 abbrev pub return_row : ℕ → ℕ → Flow
-return_row dp key = flow_of 34 100 (on_return dp key) (Drop Loopback ∷ [])
+return_row dp key = flow_of LOOPBACK_TABLE PHYSICAL_PRIORITY (on_return dp key) (Drop Loopback ∷ [])
 
 abbrev pub leave_row : Flow
-leave_row = flow_of 34 0 everything (Set Tracked 0 ∷ Set State 0 ∷ Set Blocked 0 ∷ Set Verdict 0 ∷ Go 40 ∷ [])
+leave_row = flow_of LOOPBACK_TABLE BASE_PRIORITY everything (Set Tracked 0 ∷ Set State 0 ∷ Set Blocked 0 ∷ Set Verdict 0 ∷ Go EGRESS_TRACK_TABLE ∷ [])
 
 -- table 64: the packet goes out
 abbrev pub output_row : ℕ → Name → ℕ → Flow
-output_row dp name key = flow_of 64 100 (on_exit dp key) (Output name ∷ [])
+output_row dp name key = flow_of OUTPUT_TABLE PHYSICAL_PRIORITY (on_exit dp key) (Output name ∷ [])

@@ -4,13 +4,13 @@ use Rattle.std.specs.Cmp.Lexicographic.{slice_cmp}
 use Rattle.std.specs.List.Sorted.{IsStrictlySortedBy}
 use Rattle.std.specs.Map.{keys_of}
 use Rattle.std.specs.Ordering.{nat_cmp}
-use Rattle.ovn_base.specs.Among.{Among}
-use Rattle.ovn_base.specs.Address.{IsMac}
+use Rattle.ovn_base.specs.lists.Among.{Among}
 use Rattle.ovn_base.specs.declared.address.Ip4.{Ip4}
 use Rattle.ovn_base.specs.declared.address.Mac.{Mac}
 use Rattle.ovn_base.specs.declared.name.Name.{Name}
-use Rattle.ovn_base.specs.Once.{EachOnce}
-use Rattle.ovn_base.specs.ByName.{at, IsByName}
+use Rattle.ovn_base.specs.lists.Once.{EachOnce}
+use Rattle.ovn_base.specs.names.ByName.{at, IsByName}
+use Rattle.ovn_base.specs.declared.limits.TheConstants.{MAX_CHASSIS, MAX_DATAPATHS, MAX_DATAPATH_KEY, MAX_PORTS, MAX_PORT_KEY}
 use Rattle.inet_packet.specs.Frame.{frame_of}
 use Rattle.inet_packet.specs.Whole.{IsWhole}
 use Rattle.inet_packet.specs.declared.packet.Packet.{Packet}
@@ -30,7 +30,7 @@ use Rattle.world_core.specs.declared.crossing.Crossing.{Crossing}
 use Rattle.world_core.specs.declared.crossing.Aim.{Aim}
 use Rattle.world_core.specs.declared.crossing.Aim.TheVariants.{ToPort, ToGroup}
 use Rattle.world_core.specs.Visit.{is_switch}
-use Rattle.world_core.specs.State.{State, events_of}
+use Rattle.world_core.specs.State.{State, event_count}
 use Rattle.world_core.specs.Stages.{Basis}
 use Rattle.world_core.specs.Tables.{TableFlow}
 
@@ -42,7 +42,6 @@ pub record IsValid (net : Network) : Type 0 where
   pub port_names : (q : Name) (port : SwitchPort) → at net.ports q ≡ Some port → port.name ≡ q
   pub on_switch : (q : Name) (port : SwitchPort) → at net.ports q ≡ Some port → IsSome (at net.switches port.switch)
   -- each Ethernet address is a station's, and of one entry of the port
-  pub macs : (q : Name) (port : SwitchPort) (mac : Mac) → at net.ports q ≡ Some port → HasMac port.addresses mac → IsMac mac
   pub stations : (q : Name) (port : SwitchPort) (mac : Mac) → at net.ports q ≡ Some port → HasMac port.addresses mac → IsOfStation mac
   pub once : (q : Name) (port : SwitchPort) → at net.ports q ≡ Some port → EachOnce (macs_in port.addresses)
   -- no two ports of a switch have one Ethernet address, or one IP
@@ -53,8 +52,8 @@ pub record IsValid (net : Network) : Type 0 where
 
 -- the records are within the limits: 1,024 switches and 10,000 ports
 pub record IsWithin (net : Network) : Type 0 where
-  pub switches : length net.switches ≤ 1024
-  pub ports : length net.ports ≤ 10000
+  pub switches : length net.switches ≤ MAX_DATAPATHS
+  pub ports : length net.ports ≤ MAX_PORTS
 
 -- each switch and each port has a live key, and nothing else has one
 pub record HaveKeys (net : Network) (keys : Keys) : Type 0 where
@@ -66,20 +65,20 @@ pub record HaveKeys (net : Network) (keys : Keys) : Type 0 where
   pub port_has : (q : Name) (port : SwitchPort) → at net.ports q ≡ Some port → (k : PortKey) × (at keys.ports q ≡ Some k) × (k.birth ≡ port.birth) × (k.datapath ≡ port.switch)
   pub port_of : (q : Name) (k : PortKey) → at keys.ports q ≡ Some k → IsSome (at net.ports q)
   -- no event changes the ranges
-  pub datapath_range : keys.datapath_range ≡ 16777215
-  pub port_range : keys.port_range ≡ 32767
+  pub datapath_range : keys.datapath_range ≡ MAX_DATAPATH_KEY
+  pub port_range : keys.port_range ≡ MAX_PORT_KEY
   -- no record goes yet, so that no key is retired
   pub no_retired_datapaths : keys.retired_datapaths ≡ []
   pub no_retired_ports : keys.retired_ports ≡ []
 
--- each binding joins a port and a chassis that are there; there are at most 64 chassis; and each bound port has a zone number, which no
+-- each binding joins a port and a chassis that are there; there are not too many chassis; and each bound port has a zone number, which no
 -- other port has on its chassis
 pub record AreBound (m : State) (zones : List (Name × ℕ)) : Type 0 where
   pub bindings_sorted : IsByName m.bindings
   pub port_there : (q c : Name) → at m.bindings q ≡ Some c → IsSome (at m.net.ports q)
   pub chassis_there : (q c : Name) → at m.bindings q ≡ Some c → Among c m.chassis
   pub chassis_sorted : IsStrictlySortedBy (slice_cmp nat_cmp) m.chassis
-  pub few_chassis : length m.chassis ≤ 64
+  pub few_chassis : length m.chassis ≤ MAX_CHASSIS
   pub zones_sorted : IsByName zones
   pub has_zone : (q c : Name) → at m.bindings q ≡ Some c → IsSome (at zones q)
   pub zone_of : (q : Name) (z : ℕ) → at zones q ≡ Some z → IsSome (at m.bindings q)
@@ -89,9 +88,9 @@ pub record AreBound (m : State) (zones : List (Name × ℕ)) : Type 0 where
 -- no record, no owner of a key and no datapath of a port's key is younger than the last event, and where no event was accepted
 -- there is no record
 pub record AreBorn (m : State) : Type 0 where
-  pub switches : (a : Name) (switch : Switch) → at m.net.switches a ≡ Some switch → switch.birth.0 ≤ events_of m
-  pub ports : (q : Name) (port : SwitchPort) → at m.net.ports q ≡ Some port → port.birth.0 ≤ events_of m
-  pub keys : AreKeysBorn m.keys (events_of m)
+  pub switches : (a : Name) (switch : Switch) → at m.net.switches a ≡ Some switch → switch.birth.0 ≤ event_count m
+  pub ports : (q : Name) (port : SwitchPort) → at m.net.ports q ≡ Some port → port.birth.0 ≤ event_count m
+  pub keys : AreKeysBorn m.keys (event_count m)
   pub none : m.accepted ≡ 0 → m.net ≡ empty_network
 
 -- who an aim names has or had a key
@@ -128,7 +127,7 @@ pub record AreCrossings (m : State) : Type 0 where
 -- between events: there weren't many, and where no event was accepted, none waits
 pub record AreOnTheWay (m : State) : Type 0 where
   pub crossings : AreCrossings m
-  pub few : m.next ≤ 1 + 2 ^ 64 * events_of m
+  pub few : m.next ≤ 1 + 2 ^ 64 * event_count m
   pub none : m.accepted ≡ 0 → m.waiting ≡ []
 
 -- the flows are exactly those of the set, each once

@@ -1,8 +1,9 @@
 -- The rows of each stage, as sets: a constructor for each kind of row.
 use Rattle.std.specs.Prelude.{◌≡◌, ◌≢◌, ℕ, Bool, List, length, map, nat_lt, Some, unwrap_or}
 use Rattle.ovn_base.specs.declared.name.Name.{Name}
+use Rattle.ovn_base.specs.declared.stages.TheConstants.{ACL_TABLE, ADMIT_TABLE, ARP_TABLE, EGRESS_ACL_TABLE, EGRESS_SECURITY_TABLE, EGRESS_STATE_TABLE, EGRESS_TRACK_TABLE, LOOKUP_TABLE, OUTPUT_TABLE, PORT_SECURITY_TABLE, STATE_TABLE, TRACK_TABLE}
 use Rattle.flow_table.specs.declared.flow.Flow.{Flow}
-use Rattle.ovn_base.specs.ByName.{at}
+use Rattle.ovn_base.specs.names.ByName.{at}
 use Rattle.nb_records.specs.Network.{Network}
 use Rattle.ovn_base.specs.declared.address.Mac.{Mac}
 use Rattle.flow_table.specs.declared.flow.Member.{Member}
@@ -73,27 +74,27 @@ pub data EntryRow (b : Basis) (f : Flow) : Type 0 where
 pub data AdmitRow (b : Basis) (f : Flow) : Type 0 where
   bad_source : (a : Name) (dp : ℕ) → IsDatapath b a dp → f ≡ bad_source_row dp → AdmitRow b f
   vlan : (a : Name) (dp : ℕ) → IsDatapath b a dp → f ≡ vlan_row dp → AdmitRow b f
-  s_admit_base : (a : Name) (dp : ℕ) → IsDatapath b a dp → f ≡ pass_row dp 8 9 → AdmitRow b f
+  s_admit_base : (a : Name) (dp : ℕ) → IsDatapath b a dp → f ≡ pass_row dp ADMIT_TABLE PORT_SECURITY_TABLE → AdmitRow b f
 
 -- table 9: s_port_sec
 pub data PortSecRow (b : Basis) (f : Flow) : Type 0 where
-  s_port_sec_base : (a : Name) (dp : ℕ) → IsDatapath b a dp → f ≡ pass_row dp 9 10 → PortSecRow b f
+  s_port_sec_base : (a : Name) (dp : ℕ) → IsDatapath b a dp → f ≡ pass_row dp PORT_SECURITY_TABLE TRACK_TABLE → PortSecRow b f
 
 -- table 10: s_track
 pub data TrackRow (b : Basis) (f : Flow) : Type 0 where
-  s_track_base : (a : Name) (dp : ℕ) → IsDatapath b a dp → f ≡ pass_row dp 10 11 → TrackRow b f
+  s_track_base : (a : Name) (dp : ℕ) → IsDatapath b a dp → f ≡ pass_row dp TRACK_TABLE ACL_TABLE → TrackRow b f
 
 -- table 11: s_acl_in
 pub data AclInRow (b : Basis) (f : Flow) : Type 0 where
-  s_acl_in_base : (a : Name) (dp : ℕ) → IsDatapath b a dp → f ≡ pass_row dp 11 12 → AclInRow b f
+  s_acl_in_base : (a : Name) (dp : ℕ) → IsDatapath b a dp → f ≡ pass_row dp ACL_TABLE STATE_TABLE → AclInRow b f
 
 -- table 12: s_state_in
 pub data StateInRow (b : Basis) (f : Flow) : Type 0 where
-  s_state_in_base : (a : Name) (dp : ℕ) → IsDatapath b a dp → f ≡ pass_row dp 12 13 → StateInRow b f
+  s_state_in_base : (a : Name) (dp : ℕ) → IsDatapath b a dp → f ≡ pass_row dp STATE_TABLE ARP_TABLE → StateInRow b f
 
 -- table 13: s_arp
 pub data ArpRow (b : Basis) (f : Flow) : Type 0 where
-  s_arp_base : (a : Name) (dp : ℕ) → IsDatapath b a dp → f ≡ pass_row dp 13 14 → ArpRow b f
+  s_arp_base : (a : Name) (dp : ℕ) → IsDatapath b a dp → f ≡ pass_row dp ARP_TABLE LOOKUP_TABLE → ArpRow b f
 
 -- table 14: s_lookup
 pub data LookupRow (b : Basis) (f : Flow) : Type 0 where
@@ -119,19 +120,19 @@ pub data ReturnRow (b : Basis) (f : Flow) : Type 0 where
 
 -- table 40: s_track_out
 pub data TrackOutRow (b : Basis) (f : Flow) : Type 0 where
-  s_track_out_base : (a : Name) (dp : ℕ) → IsDatapath b a dp → f ≡ pass_row dp 40 41 → TrackOutRow b f
+  s_track_out_base : (a : Name) (dp : ℕ) → IsDatapath b a dp → f ≡ pass_row dp EGRESS_TRACK_TABLE EGRESS_ACL_TABLE → TrackOutRow b f
 
 -- table 41: s_acl_out
 pub data AclOutRow (b : Basis) (f : Flow) : Type 0 where
-  s_acl_out_base : (a : Name) (dp : ℕ) → IsDatapath b a dp → f ≡ pass_row dp 41 42 → AclOutRow b f
+  s_acl_out_base : (a : Name) (dp : ℕ) → IsDatapath b a dp → f ≡ pass_row dp EGRESS_ACL_TABLE EGRESS_STATE_TABLE → AclOutRow b f
 
 -- table 42: s_state_out
 pub data StateOutRow (b : Basis) (f : Flow) : Type 0 where
-  s_state_out_base : (a : Name) (dp : ℕ) → IsDatapath b a dp → f ≡ pass_row dp 42 43 → StateOutRow b f
+  s_state_out_base : (a : Name) (dp : ℕ) → IsDatapath b a dp → f ≡ pass_row dp EGRESS_STATE_TABLE EGRESS_SECURITY_TABLE → StateOutRow b f
 
 -- table 43: s_sec_out
 pub data SecOutRow (b : Basis) (f : Flow) : Type 0 where
-  s_sec_out_base : (a : Name) (dp : ℕ) → IsDatapath b a dp → f ≡ pass_row dp 43 64 → SecOutRow b f
+  s_sec_out_base : (a : Name) (dp : ℕ) → IsDatapath b a dp → f ≡ pass_row dp EGRESS_SECURITY_TABLE OUTPUT_TABLE → SecOutRow b f
 
 -- table 64: output
 pub data OutputRow (b : Basis) (f : Flow) : Type 0 where

@@ -2,8 +2,9 @@
 -- way between chassis.
 use Rattle.std.specs.Prelude.{ℕ, ◌+◌, Bool, List, [], ◌∷◌}
 use Rattle.std.specs.List.{list_any}
-use Rattle.ovn_base.specs.SameName.{same_name}
+use Rattle.ovn_base.specs.names.SameName.{same_name}
 use Rattle.ovn_base.specs.declared.name.Name.{Name}
+use Rattle.ovn_base.specs.declared.limits.TheConstants.{MAX_DATAPATH_KEY, MAX_PORT_KEY}
 use Rattle.nb_records.specs.Network.{Network, empty_network}
 use Rattle.tunnel_keys.specs.Keys.{Keys, no_keys, settled}
 use Rattle.world_core.specs.declared.crossing.Crossing.{Crossing}
@@ -25,8 +26,8 @@ pub record State : Type 0 where
   pub refused : ℕ
 
 -- how many events there were
-abbrev pub events_of : State → ℕ
-events_of m = m.accepted + m.refused
+abbrev pub event_count : State → ℕ
+event_count m = m.accepted + m.refused
 
 -- the chassis is there
 abbrev pub is_chassis : State → Name → Bool
@@ -34,7 +35,7 @@ is_chassis m chassis = list_any (λ c. same_name c chassis) m.chassis
 
 -- no record, no chassis, no key, no crossing, no event
 abbrev pub empty : State
-empty = record { net = empty_network; chassis = []; bindings = []; keys = no_keys 16777215 32767; waiting = []; next = 1; accepted = 0; refused = 0 }
+empty = record { net = empty_network; chassis = []; bindings = []; keys = no_keys MAX_DATAPATH_KEY MAX_PORT_KEY; waiting = []; next = 1; accepted = 0; refused = 0 }
 
 -- the state, with one event more that was accepted
 abbrev pub counted : State → State

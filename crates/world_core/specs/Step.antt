@@ -3,8 +3,9 @@ use Rattle.std.specs.Prelude.{◌≡◌, ◌⊎◌, ℕ, zero, suc, ◌+◌, Boo
 use Rattle.std.specs.Map.{remove_entry}
 use Rattle.std.specs.BTreeMap.{is_at}
 use Rattle.std.specs.Ordering.{nat_cmp}
-use Rattle.ovn_base.specs.ByName.{put}
+use Rattle.ovn_base.specs.names.ByName.{put}
 use Rattle.ovn_base.specs.declared.name.Name.{Name}
+use Rattle.ovn_base.specs.declared.limits.TheConstants.{MAX_ARRIVALS}
 use Rattle.chassis_sim.specs.State.{numbered}
 use Rattle.inet_packet.specs.Frame.{frame_of}
 use Rattle.inet_packet.specs.Whole.{IsWhole}
@@ -75,7 +76,7 @@ Drains (suc k) m effects after = ((m.waiting ≡ []) × (effects ≡ []) × (aft
 
 -- so many arrive at most in one event
 abbrev pub most_arrivals : ℕ
-most_arrivals = 65536
+most_arrivals = MAX_ARRIVALS
 
 -- the packet enters, and then all that wait arrive
 pub record Sends (m : State) (p : Name) (frame : List ℕ) (effects : List NetEffect) (after : State) : Type 0 where

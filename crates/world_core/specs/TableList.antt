@@ -2,10 +2,11 @@
 use Rattle.std.specs.Prelude.{◌++◌, ℕ, Bool, true, false, ◌&&◌, not, cond, List, [], ◌∷◌, Some, None, Option, filter, filter_map, map, flat_map, unwrap_or}
 use Rattle.std.specs.List.{list_any}
 use Rattle.ovn_base.specs.declared.name.Name.{Name}
+use Rattle.ovn_base.specs.declared.stages.TheConstants.{ACL_TABLE, ADMIT_TABLE, ARP_TABLE, EGRESS_ACL_TABLE, EGRESS_SECURITY_TABLE, EGRESS_STATE_TABLE, EGRESS_TRACK_TABLE, LOOKUP_TABLE, OUTPUT_TABLE, PORT_SECURITY_TABLE, STATE_TABLE, TRACK_TABLE}
 use Rattle.flow_table.specs.declared.flow.Flow.{Flow}
 use Rattle.flow_table.specs.declared.flow.Member.{Member}
-use Rattle.ovn_base.specs.ByName.{at}
-use Rattle.ovn_base.specs.SameName.{same_name}
+use Rattle.ovn_base.specs.names.ByName.{at}
+use Rattle.ovn_base.specs.names.SameName.{same_name}
 use Rattle.nb_records.specs.declared.record.PortAddress.{PortAddress}
 use Rattle.nb_records.specs.declared.record.SwitchPort.{SwitchPort}
 use Rattle.world_core.specs.Addresses.{macs_in}
@@ -20,11 +21,11 @@ use Rattle.world_core.specs.Stages.{Basis, members_here, homes_of, has_unknown}
 
 -- the rows that let the packets of a switch in
 abbrev pub admit_rows : ℕ → List Flow
-admit_rows dp = pass_row dp 8 9 ∷ vlan_row dp ∷ bad_source_row dp ∷ []
+admit_rows dp = pass_row dp ADMIT_TABLE PORT_SECURITY_TABLE ∷ vlan_row dp ∷ bad_source_row dp ∷ []
 
 -- those of the stages that each packet passes
 abbrev pub transit_rows : ℕ → List Flow
-transit_rows dp = pass_row dp 9 10 ∷ pass_row dp 10 11 ∷ pass_row dp 11 12 ∷ pass_row dp 12 13 ∷ pass_row dp 13 14 ∷ []
+transit_rows dp = pass_row dp PORT_SECURITY_TABLE TRACK_TABLE ∷ pass_row dp TRACK_TABLE ACL_TABLE ∷ pass_row dp ACL_TABLE STATE_TABLE ∷ pass_row dp STATE_TABLE ARP_TABLE ∷ pass_row dp ARP_TABLE LOOKUP_TABLE ∷ []
 
 -- those that look addresses up, but for the addresses of ports
 abbrev pub lookup_rows : ℕ → Bool → List Flow
@@ -36,7 +37,7 @@ ingress_rows dp taken = admit_rows dp ++ transit_rows dp ++ lookup_rows dp taken
 
 -- and those after it
 abbrev pub egress_rows : ℕ → List Flow
-egress_rows dp = pass_row dp 40 41 ∷ pass_row dp 41 42 ∷ pass_row dp 42 43 ∷ pass_row dp 43 64 ∷ []
+egress_rows dp = pass_row dp EGRESS_TRACK_TABLE EGRESS_ACL_TABLE ∷ pass_row dp EGRESS_ACL_TABLE EGRESS_STATE_TABLE ∷ pass_row dp EGRESS_STATE_TABLE EGRESS_SECURITY_TABLE ∷ pass_row dp EGRESS_SECURITY_TABLE OUTPUT_TABLE ∷ []
 
 -- those of a group
 abbrev pub group_rows : ℕ → Group → List Name → List Member → List Flow

@@ -1,24 +1,24 @@
 -- Which added ports aren't built: what the network has already, and addresses that no port can have.
 use Rattle.std.specs.Prelude.{◌||◌, ◌&&◌, Bool, false, List, [], ◌∷◌, is_some, nat_le, length}
 use Rattle.std.specs.List.{list_any}
-use Rattle.std.specs.Cmp.Lexicographic.{pointwise}
 use Rattle.std.proofs.Math.Dec.{eqb as nat_eq}
-use Rattle.ovn_base.specs.Address.{is_multicast_mac}
+use Rattle.ovn_base.specs.addresses.EtherAddress.{is_multicast_mac}
 use Rattle.ovn_base.specs.declared.address.Ip4.{Ip4}
 use Rattle.ovn_base.specs.declared.address.Mac.{Mac}
-use Rattle.ovn_base.specs.ByName.{at}
-use Rattle.ovn_base.specs.SameName.{same_name}
+use Rattle.ovn_base.specs.names.ByName.{at}
+use Rattle.ovn_base.specs.names.SameName.{same_name}
+use Rattle.ovn_base.specs.declared.limits.TheConstants.{MAX_PORTS}
 use Rattle.nb_records.specs.Network.{Network}
 use Rattle.nb_records.specs.declared.record.PortAddress.{PortAddress}
 use Rattle.nb_records.specs.declared.record.PortAddress.TheVariants.{Ether, Unknown}
 use Rattle.nb_records.specs.declared.record.SwitchPort.{SwitchPort}
 
 abbrev pub same_mac : Mac → Mac → Bool
-same_mac m n = pointwise nat_eq m.0 n.0
+same_mac m n = nat_eq m.number n.number
 
--- the Ethernet address whose bytes are all 0
+-- the Ethernet address of the number 0
 abbrev pub is_zero_mac : Mac → Bool
-is_zero_mac m = pointwise nat_eq m.0 (0 ∷ 0 ∷ 0 ∷ 0 ∷ 0 ∷ 0 ∷ [])
+is_zero_mac m = nat_eq m.number 0
 
 -- one of the addresses stands in the list
 abbrev pub is_among : List Ip4 → Ip4 → Bool
@@ -63,4 +63,4 @@ is_held net port = list_any (λ e. same_name e.1.switch port.switch && share e.1
 
 -- the added port is one that isn't built: its name is taken, the limit on ports is reached, or an address is none that it may have
 unfoldable pub is_unbuilt_port : Network → SwitchPort → Bool
-is_unbuilt_port net port = is_some (at net.ports port.name) || nat_le 10000 (length net.ports) || has_no_entry port.addresses || is_held net port
+is_unbuilt_port net port = is_some (at net.ports port.name) || nat_le MAX_PORTS (length net.ports) || has_no_entry port.addresses || is_held net port

@@ -1,9 +1,9 @@
 -- Where a packet goes in the logical network. No table and no number of a port is needed.
 use Rattle.std.specs.Prelude.{◌≡◌, ◌≢◌, ℕ, Bool, true, false, ◌||◌, ◌&&◌, not, List, [], ◌∷◌, ◌++◌, map, filter, Option, Some, None, option_map, cond}
 use Rattle.std.proofs.Math.Dec.{eqb as nat_eq}
-use Rattle.ovn_base.specs.Address.{is_multicast_mac}
-use Rattle.ovn_base.specs.ByName.{at}
-use Rattle.ovn_base.specs.SameName.{same_name}
+use Rattle.ovn_base.specs.addresses.EtherAddress.{is_multicast_mac}
+use Rattle.ovn_base.specs.names.ByName.{at}
+use Rattle.ovn_base.specs.names.SameName.{same_name}
 use Rattle.ovn_base.specs.declared.address.Mac.{Mac}
 use Rattle.ovn_base.specs.declared.name.Name.{Name}
 use Rattle.inet_packet.specs.Fields.{ether_type}

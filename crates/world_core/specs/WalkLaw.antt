@@ -1,8 +1,8 @@
 -- What the tables of a chassis do with a packet is what the logical network says.
 use Rattle.std.specs.Prelude.{◌≡◌, ℕ, List, Some}
 use Rattle.std.specs.List.{AllZip}
-use Rattle.ovn_base.specs.Among.{Among}
-use Rattle.ovn_base.specs.ByName.{at}
+use Rattle.ovn_base.specs.lists.Among.{Among}
+use Rattle.ovn_base.specs.names.ByName.{at}
 use Rattle.ovn_base.specs.declared.name.Name.{Name}
 use Rattle.inet_packet.specs.Frame.{frame_of}
 use Rattle.inet_packet.specs.Whole.{IsWhole}

@@ -1,6 +1,6 @@
 -- The numbers of the zones of bound ports.
 use Rattle.std.specs.Prelude.{ℕ, ◌+◌, List, [], ◌∷◌, cond, filter, length, map, unwrap_or}
-use Rattle.ovn_base.specs.ByName.{at, put}
+use Rattle.ovn_base.specs.names.ByName.{at, put}
 use Rattle.ovn_base.specs.declared.name.Name.{Name}
 use Rattle.edit_reader.specs.declared.event.Event.{Event}
 use Rattle.edit_reader.specs.declared.event.Event.TheVariants.{Edit, Bind, AddChassis, Inject, Deliver, Lose, Repeat, Drain, Packet, Unread, NotBuilt}

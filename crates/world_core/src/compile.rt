@@ -1,9 +1,9 @@
 //! The flows of a chassis, from the records, the keys and the homes.
 ghost use Rattle.std.specs.Prelude.{◌≡◌, ◌++◌, IfOk, OnOk};
 ghost use Rattle.std.specs.List.{list_any};
-ghost use Rattle.ovn_base.specs.ByName.{at};
-ghost use Rattle.ovn_base.specs.Once.{EachOnce};
-ghost use Rattle.ovn_base.specs.SameName.{same_name};
+ghost use Rattle.ovn_base.specs.names.ByName.{at};
+ghost use Rattle.ovn_base.specs.lists.Once.{EachOnce};
+ghost use Rattle.ovn_base.specs.names.SameName.{same_name};
 ghost use Rattle.world_core.specs.Addresses.{takes_unknown, is_unknown};
 ghost use Rattle.world_core.specs.declared.crossing.Group.TheVariants.{Unknown};
 ghost use Rattle.world_core.specs.Homes.{is_at};

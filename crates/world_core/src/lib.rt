@@ -5,6 +5,7 @@ mod compile;
 pub mod crossing;
 pub mod laws;
 pub mod one_run;
+mod priorities;
 mod refusing;
 mod rows;
 pub mod world;

@@ -9,7 +9,7 @@ ghost use Rattle.switch_engine.specs.declared.effect.NetEffect.{NetEffect};
 ghost use Rattle.world_core.specs.Admitted.{IsAdmitted};
 ghost use Rattle.world_core.specs.Passing.{Passes};
 ghost use Rattle.world_core.specs.Picks.{Fate, Run};
-ghost use Rattle.world_core.specs.Seen.{IsSound, Seen};
+ghost use Rattle.world_core.specs.WorldView.{IsSound, WorldView};
 ghost use Rattle.world_core.specs.Sound.{IsValid};
 ghost use Rattle.world_core.specs.State.{State};
 ghost use Rattle.world_core.specs.Step.{Step};
@@ -24,7 +24,7 @@ pub fn one_run()
     ensures run { (m : State) (events : List Event) (picks : List Pick) (fates others : List Fate) (last end : State)
         → IsValid m.net → AllByRecursion IsAdmitted events
         → Run m events picks fates last → Run m events picks others end → (fates ≡ others) × (last ≡ end) }
-    ensures walks { (one two : Seen) (event : Event) (out more : SimOut) (new other : sim.SimState)
+    ensures walks { (one two : WorldView) (event : Event) (out more : SimOut) (new other : sim.SimState)
         → IsSound one → IsSound two → one.state ≡ two.state → one.zones ≡ two.zones
         → Passes one.sim event out new → Passes two.sim event more other → out.walks ≡ more.walks }
 {}

@@ -5,6 +5,7 @@ ghost use Rattle.world_core.specs.Unbuilt.{is_among, has_common, clash, clashes,
 use nb_records::record::{PortAddress, SwitchPort};
 use nb_records::records::Records;
 use ovn_base::address::{Ip4, Mac};
+use ovn_base::limits::MAX_PORTS;
 
 // One of the addresses stands in the list.
 fn is_among(ips: &[Ip4], ip: Ip4) -> bool
@@ -94,7 +95,7 @@ pub fn is_unbuilt_port(records: &Records, port: &SwitchPort) -> bool
     ensures { result ≡ is_unbuilt_port records.now port.now }
 {
     records.switch_port(&port.name).is_some()
-        || records.switch_ports().len() >= 10_000
+        || records.switch_ports().len() >= MAX_PORTS
         || has_no_entry(port.addresses.as_slice())
         || is_held(records, port)
 }

@@ -1,16 +1,16 @@
 //! The state of the network and of its chassis, and its steps.
 ghost use Rattle.std.specs.Prelude.{◌-◌, ◌≡◌, ◌+◌, ◌<◌, ◌^◌, ◌++◌, ◌↔◌, [], ◌∷◌, Some, false, min, length, slice_get, IsTrue, IfOk, OnOk, OnErr, List};
 ghost use Rattle.std.specs.Option.{option_copied};
-ghost use Rattle.ovn_base.specs.Once.{EachOnce};
+ghost use Rattle.ovn_base.specs.lists.Once.{EachOnce};
 ghost use Rattle.chassis_sim.specs.State.{flow_at, named};
 ghost use Rattle.flow_table.specs.declared.flow.Flow.{Flow};
 ghost use Rattle.event_lines.specs.Lines.{refused_line};
 ghost use Rattle.event_lines.specs.Text.{StartsWith};
 ghost use Rattle.world_core.specs.Admitted.{IsAdmitted};
 ghost use Rattle.world_core.specs.Outcome.{Outcome};
-ghost use Rattle.world_core.specs.Parts.{IsTaken, Leaves, new_world};
-ghost use Rattle.world_core.specs.Seen.{IsSound};
-ghost use Rattle.world_core.specs.State.{events_of, finished};
+ghost use Rattle.world_core.specs.StepParts.{IsTaken, Leaves, new_world};
+ghost use Rattle.world_core.specs.WorldView.{IsSound};
+ghost use Rattle.world_core.specs.State.{event_count, finished};
 
 use crate::crossing::Crossing;
 use chassis_sim::sim::Sim;
@@ -20,6 +20,7 @@ use event_lines::refusal::{Refusal, StepFault};
 use flow_table::flow::Flow;
 use flow_table::tables::Tables;
 use nb_records::records::Records;
+use ovn_base::limits::{MAX_DATAPATH_KEY, MAX_PORT_KEY};
 use ovn_base::list::List;
 use ovn_base::memory::NoMemory;
 use ovn_base::name::Name;
@@ -65,9 +66,9 @@ struct Done {
 }
 
 impl Model for World {
-    ghost use Rattle.world_core.specs.Seen.{Seen};
+    ghost use Rattle.world_core.specs.WorldView.{WorldView};
 
-    ghost Value = { Seen };
+    ghost Value = { WorldView };
 
     ghost use Rattle.world_core.specs.Inside.{seen_of, IsKept};
 
@@ -86,7 +87,7 @@ impl World {
             records: Records::new(alloc)?,
             chassis: List::new(alloc),
             bindings: BTreeMap::new(alloc),
-            keys: KeyStore::with_ranges(alloc, 16_777_215, 32_767)?,
+            keys: KeyStore::with_ranges(alloc, MAX_DATAPATH_KEY, MAX_PORT_KEY)?,
             zones: BTreeMap::new(alloc),
             sim: Sim::new(alloc)?,
             crossings: BTreeMap::new(alloc),
@@ -99,7 +100,7 @@ impl World {
 
     /// How many events there were, accepted or refused.
     pub fn events(&self) -> u64
-        ensures { result ≡ min (events_of self.now.state) (2 ^ 64 - 1) }
+        ensures { result ≡ min (event_count self.now.state) (2 ^ 64 - 1) }
     {
         self.accepted.saturating_add(self.refused)
     }
@@ -144,7 +145,7 @@ impl World {
     // Counts an event that is done. Where no frame waits, no key is retired.
     fn finish(&mut self)
         requires taken { self.old.whole ≡ false }
-        requires room { events_of self.old.state < 2 ^ 42 }
+        requires room { event_count self.old.state < 2 ^ 42 }
         ensures { self.new ≡ record self.old { state = finished self.old.state } }
     {
         self.accepted += 1;
@@ -156,9 +157,9 @@ impl World {
     // Refuses an event, which counts.
     fn refuse(&mut self, why: &Refusal, text: &mut Vec<u8>) -> Result<(), NoMemory>
         requires taken { IsTaken self.old }
-        requires room { events_of self.old.state < 2 ^ 42 }
+        requires room { event_count self.old.state < 2 ^ 42 }
         ensures kept { OnOk result (self.new ≡ record self.old { state = record self.old.state { refused = self.old.state.refused + 1 }; walks = [] }) }
-        ensures text { OnOk result (text.new.items ≡ text.old.items ++ refused_line (events_of self.old.state + 1) why.now) }
+        ensures text { OnOk result (text.new.items ≡ text.old.items ++ refused_line (event_count self.old.state + 1) why.now) }
         ensures taken { OnOk result (IsTaken self.new) }
         ensures front { OnErr result (StartsWith text.new.items text.old.items) }
     {
@@ -177,10 +178,9 @@ impl World {
         _steps: &mut Steps<L>,
     ) -> Result<(), StepFault>
         requires sound { IsSound self.old }
-        requires room { events_of self.old.state < 2 ^ 42 }
+        requires room { event_count self.old.state < 2 ^ 42 }
         requires admitted { IsAdmitted event.now }
-        ensures outcome { Outcome result self.old event.now text.old.items text.new.items self.new }
-        ensures steps { _steps.new ≡ _steps.old }
+        ensures { Outcome result self.old event.now text.old.items text.new.items self.new }
     {
         self.whole = false;
         match self.take(event, text) {
@@ -202,7 +202,7 @@ impl World {
     // Takes an event while the world is marked as being changed.
     fn take(&mut self, event: &Event, text: &mut Vec<u8>) -> Result<(), StepFault>
         requires taken { IsTaken self.old }
-        requires room { events_of self.old.state < 2 ^ 42 }
+        requires room { event_count self.old.state < 2 ^ 42 }
         requires admitted { IsAdmitted event.now }
         ensures { Leaves result self.old event.now text.old.items text.new.items self.new }
     {

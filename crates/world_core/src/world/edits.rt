@@ -1,16 +1,17 @@
 //! Records that come into a world.
 ghost use Rattle.std.specs.Prelude.{◌≡◌, ◌+◌, ◌<◌, ◌^◌, [], ◌∷◌, None, Some, false, IfOk, OnOk, IsSome, length};
-ghost use Rattle.ovn_base.specs.ByName.{at, put};
+ghost use Rattle.ovn_base.specs.names.ByName.{at, put};
 ghost use Rattle.nb_records.specs.declared.record.Op.TheVariants.{Add};
 ghost use Rattle.nb_records.specs.declared.record.Record.TheVariants as record_of;
 ghost use Rattle.tunnel_keys.specs.Causes.{HasKeys};
 ghost use Rattle.tunnel_keys.specs.Edits.{IsAfter, IsEdit};
 ghost use Rattle.tunnel_keys.specs.declared.owner.DatapathKey.{DatapathKey};
 ghost use Rattle.tunnel_keys.specs.declared.owner.PortKey.{PortKey};
+ghost use Rattle.ovn_base.specs.declared.limits.TheConstants.{MAX_DATAPATHS, MAX_PORTS};
 ghost use Rattle.world_core.specs.Editing.{Edits};
-ghost use Rattle.world_core.specs.New.{AreNew};
+ghost use Rattle.world_core.specs.NewPort.{AreNew};
 ghost use Rattle.world_core.specs.Consistent.{IsConsistent};
-ghost use Rattle.world_core.specs.State.{events_of, finished};
+ghost use Rattle.world_core.specs.State.{event_count, finished};
 
 use crate::world::World;
 use nb_records::record::{Record, Switch, SwitchPort};
@@ -44,9 +45,9 @@ impl World {
     pub(super) fn add_switch(&mut self, switch: &Switch) -> Result<List<NetEffect>, NoMemory>
         requires consistent { IsConsistent self.old.state self.old.zones }
         requires taken { self.old.whole ≡ false }
-        requires room { events_of self.old.state < 2 ^ 42 }
+        requires room { event_count self.old.state < 2 ^ 42 }
         requires absent { at self.old.state.net.switches switch.now.name ≡ None }
-        requires few { length self.old.state.net.switches < 1024 }
+        requires few { length self.old.state.net.switches < MAX_DATAPATHS }
         ensures edits { IfOk result (λ effects. Edits self.old.state (Add (record_of.Switch switch.now) ∷ []) effects self.new.state) }
         ensures consistent { OnOk result (IsConsistent (finished self.new.state) self.new.zones) }
         ensures rest { OnOk result (self.new ≡ record self.old { state = self.new.state }) }
@@ -66,9 +67,9 @@ impl World {
     pub(super) fn add_port(&mut self, port: &SwitchPort) -> Result<List<NetEffect>, NoMemory>
         requires consistent { IsConsistent self.old.state self.old.zones }
         requires taken { self.old.whole ≡ false }
-        requires room { events_of self.old.state < 2 ^ 42 }
+        requires room { event_count self.old.state < 2 ^ 42 }
         requires absent { at self.old.state.net.ports port.now.name ≡ None }
-        requires few { length self.old.state.net.ports < 10000 }
+        requires few { length self.old.state.net.ports < MAX_PORTS }
         requires on_switch { IsSome (at self.old.state.net.switches port.now.switch) }
         requires new { AreNew self.old.state.net port.now }
         ensures edits { IfOk result (λ effects. Edits self.old.state (Add (record_of.SwitchPort port.now) ∷ []) effects self.new.state) }

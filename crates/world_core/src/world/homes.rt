@@ -1,11 +1,12 @@
 //! Chassis that come, and where ports are bound.
 ghost use Rattle.std.specs.Prelude.{◌≡◌, ◌<◌, ◌^◌, [], ◌∷◌, Some, false, IfOk, OnOk, IsSome, length};
-ghost use Rattle.ovn_base.specs.Among.{Among};
-ghost use Rattle.ovn_base.specs.ByName.{at, put};
+ghost use Rattle.ovn_base.specs.lists.Among.{Among};
+ghost use Rattle.ovn_base.specs.names.ByName.{at, put};
+ghost use Rattle.ovn_base.specs.declared.limits.TheConstants.{MAX_CHASSIS};
 ghost use Rattle.world_core.specs.Consistent.{IsConsistent};
 ghost use Rattle.world_core.specs.Editing.{with_name};
 ghost use Rattle.world_core.specs.Homes.{is_at};
-ghost use Rattle.world_core.specs.State.{events_of, finished};
+ghost use Rattle.world_core.specs.State.{event_count, finished};
 ghost use Rattle.world_core.specs.Zones.{zone_for, zones_on, least_free};
 
 use crate::world::World;
@@ -85,9 +86,9 @@ impl World {
     pub(super) fn add_chassis(&mut self, chassis: Name) -> Result<(), NoMemory>
         requires consistent { IsConsistent self.old.state self.old.zones }
         requires taken { self.old.whole ≡ false }
-        requires room { events_of self.old.state < 2 ^ 42 }
+        requires room { event_count self.old.state < 2 ^ 42 }
         requires new { ¬ Among chassis self.old.state.chassis }
-        requires few { length self.old.state.chassis < 64 }
+        requires few { length self.old.state.chassis < MAX_CHASSIS }
         ensures state { OnOk result (self.new ≡ record self.old { state = record self.old.state { chassis = with_name self.old.state.chassis chassis } }) }
         ensures consistent { OnOk result (IsConsistent (finished self.new.state) self.new.zones) }
     {
@@ -112,7 +113,7 @@ impl World {
     pub(super) fn bind(&mut self, alloc: Global, port: Name, chassis: Name) -> Result<(), NoMemory>
         requires consistent { IsConsistent self.old.state self.old.zones }
         requires taken { self.old.whole ≡ false }
-        requires room { events_of self.old.state < 2 ^ 42 }
+        requires room { event_count self.old.state < 2 ^ 42 }
         requires there { IsSome (at self.old.state.net.ports port) }
         requires known { Among chassis self.old.state.chassis }
         ensures state { OnOk result (self.new.state ≡ record self.old.state { bindings = put self.old.state.bindings port chassis }) }

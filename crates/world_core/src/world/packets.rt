@@ -2,7 +2,7 @@
 ghost use Rattle.std.specs.Prelude.{◌≡◌, ◌≤◌, ◌<◌, ◌+◌, ◌*◌, ◌^◌, ◌++◌, ℕ, List, false, IfOk, OnOk, IsSome, Some};
 ghost use Rattle.std.specs.BTreeMap.{insert_entry};
 ghost use Rattle.std.specs.Ordering.{nat_cmp};
-ghost use Rattle.ovn_base.specs.ByName.{at};
+ghost use Rattle.ovn_base.specs.names.ByName.{at};
 ghost use Rattle.chassis_sim.specs.Passing.{arrived};
 ghost use Rattle.chassis_sim.specs.State.{numbered};
 ghost use Rattle.inet_packet.specs.Frame.{frame_of};
@@ -10,8 +10,8 @@ ghost use Rattle.inet_packet.specs.Whole.{IsWhole};
 ghost use Rattle.edit_reader.specs.Reads.{IsPlainFrame};
 ghost use Rattle.world_core.specs.Step.{most_arrivals, with_kept};
 ghost use Rattle.world_core.specs.Refinement.{IsAmidst};
-ghost use Rattle.world_core.specs.Seen.{AreHeld};
-ghost use Rattle.world_core.specs.State.{events_of};
+ghost use Rattle.world_core.specs.WorldView.{AreHeld};
+ghost use Rattle.world_core.specs.State.{event_count};
 ghost use Rattle.world_core.specs.Packets.{AreGone, CanBeKept, HasArrived, HasEntered, IsNumberOf, IsSentFrom, most_sent, port_of_key};
 ghost use Rattle.world_core.specs.Sound.{HaveKeys};
 ghost use Rattle.world_core.specs.declared.crossing.Aim.{Aim};
@@ -24,20 +24,13 @@ use geneve_frames::read;
 use inet_packet::decode::decode;
 use inet_packet::frame::FrameFault;
 use inet_packet::packet::Packet;
+use ovn_base::limits::{FLOOD_KEY, MAX_ARRIVALS, UNKNOWN_KEY};
 use ovn_base::list::List;
 use ovn_base::memory::NoMemory;
 use ovn_base::name::Name;
 use std::alloc::Global;
 use switch_engine::effect::NetEffect;
 use tunnel_keys::owner::Identity;
-
-// The numbers of the groups of a switch.
-const FLOOD: u16 = 32_768;
-
-const UNKNOWN: u16 = 32_769;
-
-// How many frames may arrive in one event.
-const MOST_ARRIVALS: usize = 65_536;
 
 // The packet of a frame that is built.
 fn packet_of(alloc: Global, frame: &[u8]) -> Result<Packet, NoMemory>
@@ -72,10 +65,10 @@ impl World {
         requires keys { HaveKeys self.now.state.net self.now.state.keys }
         ensures { (aim : Aim) → IsNumberOf self.now.state switch.now key aim → result ≡ Some aim }
     {
-        if key == FLOOD {
+        if key == FLOOD_KEY {
             return Some(Aim::ToGroup(Group::Flood));
         }
-        if key == UNKNOWN {
+        if key == UNKNOWN_KEY {
             return Some(Aim::ToGroup(Group::Unknown));
         }
         let Some(ports) = self.keys.ports(switch) else {
@@ -244,7 +237,7 @@ impl World {
         requires taken { self.old.whole ≡ false }
         ensures { OnOk result (AreGone most_arrivals self.old out.old out.new self.new) }
     {
-        let mut left = MOST_ARRIVALS;
+        let mut left = MAX_ARRIVALS;
         'arrivals: while left > 0 {
             let Some((&frame, _)) = self.crossings.first_key_value() else {
                 return Ok(());

@@ -3,7 +3,7 @@ ghost use Rattle.std.specs.Prelude.{◌≡◌, false, IfOk, OnOk};
 ghost use Rattle.std.specs.List.{AllByRecursion};
 ghost use Rattle.std.specs.Map.{keys_of};
 ghost use Rattle.world_core.specs.Consistent.{IsConsistent};
-ghost use Rattle.world_core.specs.Parts.{IsRecompiled};
+ghost use Rattle.world_core.specs.StepParts.{IsRecompiled};
 ghost use Rattle.world_core.specs.Sound.{AreFlowsOf};
 
 use crate::compile::Maps;

@@ -4,11 +4,11 @@ ghost use Rattle.nb_records.specs.declared.record.Op.TheVariants.{Add};
 ghost use Rattle.nb_records.specs.declared.record.Record.TheVariants as record_of;
 ghost use Rattle.edit_reader.specs.declared.event.Event.TheVariants as event_of;
 ghost use Rattle.event_lines.specs.declared.refusal.Refusal.{Refusal};
-ghost use Rattle.world_core.specs.Admitted.{IsAdmitted, IsAdmittedRecord};
-ghost use Rattle.world_core.specs.Parts.{IsTaken, IsDone};
+ghost use Rattle.world_core.specs.Admitted.{IsAdmitted};
+ghost use Rattle.world_core.specs.StepParts.{IsTaken, IsDone};
 ghost use Rattle.world_core.specs.Outcome.{matched};
 ghost use Rattle.world_core.specs.Refusing.{refusal, refusal_of_record, refusal_of_edit, refusal_of_entry, too_many_wait};
-ghost use Rattle.world_core.specs.State.{events_of, is_chassis};
+ghost use Rattle.world_core.specs.State.{event_count, is_chassis};
 
 use crate::refusing::is_unbuilt_port;
 use crate::world::{Done, World};
@@ -16,6 +16,7 @@ use chassis_sim::out::SimOut;
 use edit_reader::event::Event;
 use event_lines::refusal::Refusal;
 use nb_records::record::{Op, Record, Switch, SwitchPort};
+use ovn_base::limits::{MAX_CHASSIS, MAX_DATAPATHS, MAX_WAITING};
 use ovn_base::list::{Bytes, List};
 use ovn_base::memory::NoMemory;
 use ovn_base::name::Name;
@@ -70,7 +71,7 @@ impl World {
         match row {
             Record::Switch(switch) => {
                 if self.records.switch(&switch.name).is_some()
-                    || self.records.switches().len() >= 1024
+                    || self.records.switches().len() >= MAX_DATAPATHS
                 {
                     return Some(Refusal::NotBuilt);
                 }
@@ -128,7 +129,7 @@ impl World {
         if self.is_chassis(chassis) {
             return Some(Refusal::DuplicateName(*chassis));
         }
-        if self.chassis.len() >= 64 {
+        if self.chassis.len() >= MAX_CHASSIS {
             return Some(Refusal::LimitChassis);
         }
         None
@@ -138,7 +139,7 @@ impl World {
     fn too_many_wait(&self) -> bool
         ensures { result ≡ too_many_wait self.now.state }
     {
-        self.crossings.len() >= 65_536
+        self.crossings.len() >= MAX_WAITING
     }
 
     // Why a packet may not enter at the port.
@@ -201,7 +202,7 @@ impl World {
     // An added switch.
     fn take_switch(&mut self, alloc: Global, switch: &Switch) -> Result<Done, NoMemory>
         requires taken { IsTaken self.old }
-        requires room { events_of self.old.state < 2 ^ 42 }
+        requires room { event_count self.old.state < 2 ^ 42 }
         requires admitted { refusal_of_record self.old.state.net (record_of.Switch switch.now) ≡ None }
         ensures { IfOk result (λ done. IsDone self.old (event_of.Edit (Add (record_of.Switch switch.now) ∷ [])) done.effects done.walks done.matched self.new) }
     {
@@ -215,9 +216,8 @@ impl World {
     // An added port.
     fn take_port(&mut self, alloc: Global, port: &SwitchPort) -> Result<Done, NoMemory>
         requires taken { IsTaken self.old }
-        requires room { events_of self.old.state < 2 ^ 42 }
+        requires room { event_count self.old.state < 2 ^ 42 }
         requires admitted { refusal_of_record self.old.state.net (record_of.SwitchPort port.now) ≡ None }
-        requires entry { IsAdmittedRecord (record_of.SwitchPort port.now) }
         ensures { IfOk result (λ done. IsDone self.old (event_of.Edit (Add (record_of.SwitchPort port.now) ∷ [])) done.effects done.walks done.matched self.new) }
     {
         let effects = self.add_port(port)?;
@@ -230,9 +230,8 @@ impl World {
     // An edit of one operation.
     fn take_edit(&mut self, alloc: Global, ops: &[Op]) -> Result<Done, NoMemory>
         requires taken { IsTaken self.old }
-        requires room { events_of self.old.state < 2 ^ 42 }
+        requires room { event_count self.old.state < 2 ^ 42 }
         requires refused { refusal_of_edit self.old.state.net ops.now ≡ None }
-        requires admitted { IsAdmitted (event_of.Edit ops.now) }
         ensures { IfOk result (λ done. IsDone self.old (event_of.Edit ops.now) done.effects done.walks done.matched self.new) }
     {
         match ops {
@@ -251,7 +250,7 @@ impl World {
     // A chassis.
     fn take_chassis(&mut self, alloc: Global, chassis: Name) -> Result<Done, NoMemory>
         requires taken { IsTaken self.old }
-        requires room { events_of self.old.state < 2 ^ 42 }
+        requires room { event_count self.old.state < 2 ^ 42 }
         requires admitted { refusal self.old.state (event_of.AddChassis chassis) ≡ None }
         ensures { IfOk result (λ done. IsDone self.old (event_of.AddChassis chassis) done.effects done.walks done.matched self.new) }
     {
@@ -264,7 +263,7 @@ impl World {
     // A binding.
     fn take_binding(&mut self, alloc: Global, port: Name, chassis: Name) -> Result<Done, NoMemory>
         requires taken { IsTaken self.old }
-        requires room { events_of self.old.state < 2 ^ 42 }
+        requires room { event_count self.old.state < 2 ^ 42 }
         requires admitted { refusal self.old.state (event_of.Bind port chassis) ≡ None }
         ensures { IfOk result (λ done. IsDone self.old (event_of.Bind port chassis) done.effects done.walks done.matched self.new) }
     {
@@ -279,7 +278,7 @@ impl World {
     // A packet that enters, whose frames wait.
     fn take_entry(&mut self, alloc: Global, port: &Name, frame: &Bytes) -> Result<Done, NoMemory>
         requires taken { IsTaken self.old }
-        requires room { events_of self.old.state < 2 ^ 42 }
+        requires room { event_count self.old.state < 2 ^ 42 }
         requires refused { refusal self.old.state (event_of.Inject port.now frame.now) ≡ None }
         requires admitted { IsAdmitted (event_of.Inject port.now frame.now) }
         ensures { IfOk result (λ done. IsDone self.old (event_of.Inject port.now frame.now) done.effects done.walks done.matched self.new) }
@@ -293,7 +292,7 @@ impl World {
     // A packet that enters, and then all frames that wait arrive.
     fn take_packet(&mut self, alloc: Global, port: &Name, frame: &Bytes) -> Result<Done, NoMemory>
         requires taken { IsTaken self.old }
-        requires room { events_of self.old.state < 2 ^ 42 }
+        requires room { event_count self.old.state < 2 ^ 42 }
         requires refused { refusal self.old.state (event_of.Packet port.now frame.now) ≡ None }
         requires admitted { IsAdmitted (event_of.Packet port.now frame.now) }
         ensures { IfOk result (λ done. IsDone self.old (event_of.Packet port.now frame.now) done.effects done.walks done.matched self.new) }
@@ -308,7 +307,7 @@ impl World {
     // A frame that arrives, and waits on where it is repeated.
     fn take_arrival(&mut self, alloc: Global, frame: u64, keep: bool) -> Result<Done, NoMemory>
         requires taken { IsTaken self.old }
-        requires room { events_of self.old.state < 2 ^ 42 }
+        requires room { event_count self.old.state < 2 ^ 42 }
         requires refused { refusal self.old.state (event_of.Deliver frame) ≡ None }
         ensures { IfOk result (λ done. IsDone self.old (cond keep (event_of.Repeat frame) (event_of.Deliver frame)) done.effects done.walks done.matched self.new) }
     {
@@ -321,7 +320,7 @@ impl World {
     // A frame that is lost.
     fn take_loss(&mut self, alloc: Global, frame: u64) -> Done
         requires taken { IsTaken self.old }
-        requires room { events_of self.old.state < 2 ^ 42 }
+        requires room { event_count self.old.state < 2 ^ 42 }
         requires refused { refusal self.old.state (event_of.Lose frame) ≡ None }
         ensures { IsDone self.old (event_of.Lose frame) result.effects result.walks result.matched self.new }
     {
@@ -333,7 +332,7 @@ impl World {
     // All frames that wait arrive.
     fn take_drain(&mut self, alloc: Global) -> Result<Done, NoMemory>
         requires taken { IsTaken self.old }
-        requires room { events_of self.old.state < 2 ^ 42 }
+        requires room { event_count self.old.state < 2 ^ 42 }
         ensures { IfOk result (λ done. IsDone self.old event_of.Drain done.effects done.walks done.matched self.new) }
     {
         let mut out = SimOut::new(alloc);
@@ -345,7 +344,7 @@ impl World {
     /// Does what an event asks for that is not refused.
     pub(super) fn accept(&mut self, alloc: Global, event: &Event) -> Result<Done, NoMemory>
         requires taken { IsTaken self.old }
-        requires room { events_of self.old.state < 2 ^ 42 }
+        requires room { event_count self.old.state < 2 ^ 42 }
         requires refused { refusal self.old.state event.now ≡ None }
         requires admitted { IsAdmitted event.now }
         ensures { IfOk result (λ done. IsDone self.old event.now done.effects done.walks done.matched self.new) }

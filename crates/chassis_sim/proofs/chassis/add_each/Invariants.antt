@@ -1,6 +1,6 @@
 use Rattle.std.proofs.Common.{◌≡◌, ◌≤◌, map, length}
 use Rattle.indexmap.specs.IndexMap.{spare}
-use Rattle.ovn_base.specs.SameName.{same_name}
+use Rattle.ovn_base.specs.names.SameName.{same_name}
 use Rattle.ovn_base.specs.declared.name.Name.{Name}
 use Rattle.chassis_sim.specs.Changing.{come}
 use Rattle.chassis_sim.specs.Settings.{set_in_turn}

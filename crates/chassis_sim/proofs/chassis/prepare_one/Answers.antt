@@ -1,5 +1,5 @@
 use Rattle.std.proofs.Common.{◌≡◌, Some, OnOk, sym, ap, subst, ◌∙◌}
-use Rattle.ovn_base.specs.SameName.{same_name}
+use Rattle.ovn_base.specs.names.SameName.{same_name}
 use Rattle.chassis_sim.specs.Changing.{IsDeltaOfAny, IsReadyFor}
 use Rattle.chassis_sim.specs.Tables.{flows_held}
 use Rattle.chassis_sim.proofs.Lookups.{seen_set, seen_found, is_found}

@@ -1,7 +1,7 @@
 use Rattle.std.proofs.Common.{◌≡◌, ◌∙◌, sym, subst, false, ◌∷◌}
 use Rattle.std.specs.Map.{keys_of}
-use Rattle.ovn_base.specs.Once.{EachOnce}
-use Rattle.ovn_base.specs.SameName.{same_name}
+use Rattle.ovn_base.specs.lists.Once.{EachOnce}
+use Rattle.ovn_base.specs.names.SameName.{same_name}
 use Rattle.ovn_base.specs.declared.name.Name.{Name}
 use Rattle.chassis_sim.specs.Changing.{AreReplaced, AreReady, IsReadyFor}
 use Rattle.chassis_sim.specs.State.{named}

@@ -1,5 +1,5 @@
 use Rattle.std.proofs.Common.{◌≡◌, List, [], ◌∷◌, ◌++◌, sym, ◌∙◌, ap, subst, inl, inr}
-use Rattle.ovn_base.specs.Among.{Among, here}
+use Rattle.ovn_base.specs.lists.Among.{Among, here}
 use Rattle.ovn_base.proofs.AmongLaws.{among_none, among_cases}
 use Rattle.flow_table.specs.Change.{IsReplaced}
 use Rattle.flow_table.specs.declared.flow.Flow.{Flow}

@@ -28,6 +28,7 @@ given-preserved g c =
       have_once = subst (λ (l : List (g.row.O.Denot × List g.row.F.Denot)). HaveOnce eq l) (sym push) (all_push (λ (e : g.row.O.Denot × List g.row.F.Denot). IsDistinct eq e.1) changes change c.given.invariant.have_once c.in_ok-flows.ensures.once);
       places = subst (λ (l : List (g.row.O.Denot × List g.row.F.Denot)). HavePlaces cmp new l) (sym push)
           (all_push (λ (e : g.row.O.Denot × List g.row.F.Denot). IsSome (lookup (is_at (cmp e.0)) new)) changes change (places_stay eq cmp old new changes c.make_place.ensures.places c.given.invariant.places) c.in_ok-make_place.ensures.place);
+      stay = λ o some. c.make_place.ensures.places o (c.given.invariant.stay o some);
       kept = kept_on eq cmp c.args.origins.now.entries old new c.given.invariant.kept c.make_place.ensures.kept;
       once = c.make_place.ensures.once;
       idle = c.make_place.ensures.idle;

@@ -1,4 +1,6 @@
-use Rattle.std.proofs.Common.{◌++◌}
+use Rattle.std.proofs.Common.{◌++◌, IsSome}
+use Rattle.std.specs.BTreeMap.{is_at}
+use Rattle.std.specs.Map.{lookup}
 use Rattle.flow_refs.specs.Counts.{HaveOnce}
 use Rattle.flow_refs.specs.Store.{AreSame, HavePlaces, IsKept, AreIdleAmong}
 use Rattle.flow_refs.proofs.placing.place_each.Given as goal
@@ -15,6 +17,7 @@ invariant-given g l =
       same : (more : _) → AreSame eq left more → AreSame eq l.fn.given (l.changes ++ more);
       have_once : HaveOnce eq l.changes;
       places : HavePlaces cmp l.origins.entries l.changes;
+      stay : (o : _) → IsSome (lookup (is_at (cmp o)) l.fn.origins.entries) → IsSome (lookup (is_at (cmp o)) l.origins.entries);
       kept : IsKept eq cmp l.fn.origins.entries l.origins.entries;
       once : HaveOnce eq l.origins.entries;
       idle : AreIdleAmong cmp l.origins.entries l.places;

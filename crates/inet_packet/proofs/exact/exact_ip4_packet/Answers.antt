@@ -1,6 +1,6 @@
 use Rattle.std.proofs.Common.{◌≡◌}
 use Rattle.std.specs.Cmp.{first_so, second_so}
-use Rattle.inet_packet.proofs.Exactness.{nat_exact, pointwise_exact}
+use Rattle.ovn_base.proofs.Exact.{nat_exact, pointwise_exact}
 use Rattle.inet_packet.proofs.exact.exact_ip4_packet.Goals as goal
 
 pub returns : goal.returns

@@ -1,6 +1,7 @@
 use Rattle.std.proofs.Common.{◌≡◌}
 use Rattle.std.specs.Cmp.{first_so, second_so}
-use Rattle.inet_packet.proofs.Exactness.{nat_exact, pointwise_exact}
+use Rattle.ovn_base.specs.addresses.EtherAddress.{same_ether_decides}
+use Rattle.ovn_base.proofs.Exact.{nat_exact, pointwise_exact}
 use Rattle.inet_packet.proofs.exact.exact_packet.Goals as goal
 
 pub returns : goal.returns
@@ -8,10 +9,10 @@ returns c = λ a b. (
   λ h0.
       let h1 = second_so _ _ h0 in
       let h2 = second_so _ _ h1 in
-      let dst : a.dst.0 ≡ b.dst.0 = pointwise_exact _ nat_exact a.dst.0 b.dst.0 (first_so _ _ h0) in
-      let src : a.src.0 ≡ b.src.0 = pointwise_exact _ nat_exact a.src.0 b.src.0 (first_so _ _ h1) in
+      let dst : a.dst ≡ b.dst = (same_ether_decides a.dst b.dst).0 (first_so _ _ h0) in
+      let src : a.src ≡ b.src = (same_ether_decides a.src b.src).0 (first_so _ _ h1) in
       let body : a.body ≡ b.body = (c.exact_body.ensures a.body b.body).0 (first_so _ _ h2) in
       let tail : a.tail ≡ b.tail = pointwise_exact _ nat_exact a.tail b.tail (second_so _ _ h2) in
-      λ i. record { dst = record { 0 = dst i }; src = record { 0 = src i }; body = body i; tail = tail i },
+      λ i. record { dst = dst i; src = src i; body = body i; tail = tail i },
   c.equal_where_same.ensures a b,
 )

@@ -1,8 +1,8 @@
 use Rattle.std.proofs.Common.{◌≡◌, ◌≢◌, ◌+◌, ◌-◌, ◌≤◌, ◌^◌, false, true, cond, [], length, take}
 use Rattle.std.specs.Io.KnownBytes.{IsAtEnd}
-use Rattle.ovn_base.specs.Lines.{HasNoFeed, ended_lines}
-use Rattle.ovn_base.specs.Reading.{taken}
-use Rattle.ovn_base.proofs.Going.{Going}
+use Rattle.ovn_base.specs.lines.Lines.{HasNoFeed, ended_lines}
+use Rattle.ovn_base.specs.lines.Reading.{taken}
+use Rattle.ovn_base.proofs.LineSearch.{Going}
 use Rattle.ovn_base.proofs.next_line.next_line.Given as goal
 
 abbrev pub invariant-line : goal.invariant-line

@@ -1,5 +1,5 @@
 use Rattle.std.proofs.Common.{arith}
-use Rattle.ovn_base.specs.AddressText.{SpellsOctet}
+use Rattle.ovn_base.specs.addresses.AddressText.{SpellsOctet}
 use Rattle.ovn_base.proofs.AddressLemmas.{octet_lacks, at_none}
 use Rattle.ovn_base.proofs.JoinedLemmas.{none_uncut, none_read}
 use Rattle.ovn_base.proofs.read_address.first_octet.Goals as goal

@@ -1,4 +1,4 @@
-use Rattle.ovn_base.specs.AddressText.{SpellsPair}
+use Rattle.ovn_base.specs.addresses.AddressText.{SpellsPair}
 use Rattle.ovn_base.proofs.AddressLemmas.{pair_lacks, at_none}
 use Rattle.ovn_base.proofs.JoinedLemmas.{none_uncut, none_read}
 use Rattle.ovn_base.proofs.read_address.first_pair.Goals as goal

@@ -1,6 +1,6 @@
 use Rattle.std.specs.Prelude.{◌++◌, ◌∷◌, ℕ, List}
 use Rattle.std.proofs.Common.{ap, ◌∙◌}
-use Rattle.ovn_base.specs.AddressText.SpellsCidr.{with_length}
+use Rattle.ovn_base.specs.addresses.AddressText.SpellsCidr.{with_length}
 use Rattle.ovn_base.proofs.AddressLemmas.{no_cidr_alone, no_cidr_ip, no_cidr_length, at_none}
 use Rattle.ovn_base.proofs.read_address.read_cidr.Goals as goal
 

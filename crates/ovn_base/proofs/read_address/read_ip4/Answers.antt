@@ -1,6 +1,6 @@
 use Rattle.std.specs.Prelude.{[], ◌∷◌}
 use Rattle.std.proofs.Common.{arith, refl}
-use Rattle.ovn_base.specs.AddressText.{SpellsOctet}
+use Rattle.ovn_base.specs.addresses.AddressText.{SpellsOctet}
 use Rattle.ovn_base.proofs.AddressLemmas.{octet_lacks, no_ip4, at_none}
 use Rattle.ovn_base.proofs.JoinedLemmas.{none_first, none_one, none_rest, joined_alone, joined_more}
 use Rattle.ovn_base.proofs.read_address.read_ip4.Goals as goal

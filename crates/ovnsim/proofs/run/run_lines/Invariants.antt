@@ -1,9 +1,9 @@
 use Rattle.std.proofs.Common.{◌≡◌, ◌-◌, ◌≤◌, ◌^◌, false, true}
 use Rattle.std.specs.Io.KnownBytes.{IsAtEnd}
-use Rattle.ovn_base.specs.Reading.{unread}
-use Rattle.ovn_base.specs.Told.{WhereTold}
-use Rattle.world_core.specs.Seen.{IsSound}
-use Rattle.world_core.specs.State.{events_of}
+use Rattle.ovn_base.specs.lines.Reading.{unread}
+use Rattle.ovn_base.specs.streams.WhereTold.{WhereTold}
+use Rattle.world_core.specs.WorldView.{IsSound}
+use Rattle.world_core.specs.State.{event_count}
 use Rattle.ovnsim.proofs.Running.{Ran}
 use Rattle.ovnsim.specs.Next.{IsBelowLimit}
 use Rattle.ovnsim.proofs.run.run_lines.Given as goal
@@ -15,7 +15,7 @@ invariant-lines g l = record {
   unbroken : l.buf.faulted ≡ false;
   at_end : l.buf.ended ≡ true → IsAtEnd (g.S.Source.left l.source);
   sound : IsSound l.world;
-  events : events_of l.world.state ≤ l.buf.given;
+  events : event_count l.world.state ≤ l.buf.given;
   accepted : l.counts.accepted ≡ l.world.state.accepted;
   refused : l.counts.refused ≡ l.world.state.refused;
   reads : g.S.Source.faults l.fn.source ≤ g.S.Source.faults l.source;

@@ -1,5 +1,5 @@
 use Rattle.std.proofs.Common.{◌≡◌, drop}
-use Rattle.ovn_base.specs.ByName.{put_all, in_order}
+use Rattle.ovn_base.specs.names.ByName.{put_all, in_order}
 use Rattle.tunnel_keys.proofs.giving.by_name.Given as goal
 
 -- those that are left come to those that came

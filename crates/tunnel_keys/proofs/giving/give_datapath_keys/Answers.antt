@@ -1,5 +1,5 @@
 use Rattle.std.proofs.Common.{length, take, arith, ◌∙◌, ap}
-use Rattle.ovn_base.specs.ByName.{in_order}
+use Rattle.ovn_base.specs.names.ByName.{in_order}
 use Rattle.tunnel_keys.specs.Owners.{datapaths_in}
 use Rattle.tunnel_keys.specs.Keys.{free_in, taken_datapaths}
 use Rattle.tunnel_keys.specs.Giving.{with_keys, datapath_key}

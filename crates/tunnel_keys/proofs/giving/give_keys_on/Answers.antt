@@ -1,6 +1,6 @@
 use Rattle.std.proofs.Common.{◌<◌, length, take, arith, sym, ◌∙◌, ap, subst}
 use Rattle.std.specs.List.{AllByRecursion}
-use Rattle.ovn_base.specs.ByName.{in_order}
+use Rattle.ovn_base.specs.names.ByName.{in_order}
 use Rattle.tunnel_keys.specs.Keys.{free_in}
 use Rattle.tunnel_keys.specs.Giving.{with_keys, port_key, taken_on}
 use Rattle.tunnel_keys.proofs.FreeKeys.{take_short, with_keys_take, taken_below}

@@ -1,6 +1,6 @@
 use Rattle.std.proofs.Common.{◌≤◌, length, ◌∙◌, ap, subst}
 use Rattle.std.proofs.lemmas.Result.{err_from_is_err_and}
-use Rattle.ovn_base.specs.ByName.{in_order}
+use Rattle.ovn_base.specs.names.ByName.{in_order}
 use Rattle.tunnel_keys.specs.Keys.{free_in, taken_ports}
 use Rattle.tunnel_keys.specs.Giving.{IsPortFaultOn}
 use Rattle.tunnel_keys.specs.declared.owner.Identity.{Identity}

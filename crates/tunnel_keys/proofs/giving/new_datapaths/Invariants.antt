@@ -1,5 +1,5 @@
 use Rattle.std.proofs.Common.{◌≡◌, drop}
-use Rattle.ovn_base.specs.ByName.{put_all, in_order}
+use Rattle.ovn_base.specs.names.ByName.{put_all, in_order}
 use Rattle.tunnel_keys.specs.Owners.{datapaths_in}
 use Rattle.tunnel_keys.proofs.giving.new_datapaths.Given as goal
 

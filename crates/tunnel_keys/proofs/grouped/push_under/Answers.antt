@@ -1,6 +1,6 @@
 use Rattle.std.proofs.Common.{List, [], ◌∷◌, ◌++◌, ap, ◌∙◌}
 use Rattle.std.specs.Option.{unwrap_or}
-use Rattle.ovn_base.specs.ByName.{put}
+use Rattle.ovn_base.specs.names.ByName.{put}
 use Rattle.tunnel_keys.specs.Grouped.{under}
 use Rattle.tunnel_keys.proofs.UnderLaws.{pushed_under}
 use Rattle.tunnel_keys.proofs.grouped.push_under.Goals as goal

@@ -2,7 +2,7 @@ use Rattle.std.proofs.Common.{◌≡◌, ◌++◌, drop}
 use Rattle.std.specs.List.{filter}
 use Rattle.ovn_base.specs.declared.name.Name.{Name}
 use Rattle.tunnel_keys.specs.Grouped.{under}
-use Rattle.ovn_base.specs.SameName.{same_name}
+use Rattle.ovn_base.specs.names.SameName.{same_name}
 use Rattle.tunnel_keys.proofs.grouped.retired_by_datapath.Given as goal
 
 -- those that are left come behind those that came

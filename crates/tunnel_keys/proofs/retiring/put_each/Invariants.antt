@@ -1,5 +1,5 @@
 use Rattle.std.proofs.Common.{◌≡◌}
-use Rattle.ovn_base.specs.ByName.{put_all}
+use Rattle.ovn_base.specs.names.ByName.{put_all}
 use Rattle.tunnel_keys.proofs.retiring.put_each.Given as goal
 
 abbrev pub invariant-loop-name : goal.invariant-loop-name

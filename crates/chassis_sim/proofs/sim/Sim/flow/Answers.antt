@@ -2,7 +2,7 @@ use Rattle.std.proofs.Common.{◌≡◌, Some, None, List, sym, ap, subst, ◌�
 use Rattle.std.proofs.lemmas.Option.{none-some, same_Some}
 use Rattle.std.specs.Option.{option_and_then}
 use Rattle.std.specs.Prelude.{slice_get}
-use Rattle.ovn_base.specs.Once.{EachOnce}
+use Rattle.ovn_base.specs.lists.Once.{EachOnce}
 use Rattle.flow_table.specs.declared.flow.Flow.{Flow}
 use Rattle.chassis_sim.specs.State.{SimView, named, flow_at}
 use Rattle.chassis_sim.proofs.Lookups.{seen_found, seen_none}

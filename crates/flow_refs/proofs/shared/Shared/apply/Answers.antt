@@ -22,7 +22,7 @@ clear_places-requires-clause-idle g c =
     let cmp = g.O.Ord.cmp in
     let es = c.self.inside.origins.entries in
     let places = c.self.inside.places in
-    let prepared = subst (λ (p : Prepared g.row.F.Denot g.row.O.Denot). IsPreparedFor eq cmp (record { origins = es; counts = c.self.inside.counts.entries; room = spare c.self.inside.counts }) p) (sym c.patch.view_is)
+    let prepared = subst (λ (p : Prepared g.row.F.Denot g.row.O.Denot). IsPreparedFor eq cmp (record { origins = es; counts = c.self.inside.counts.entries; room = spare c.self.inside.counts; idle = c.self.inside.places }) p) (sym c.patch.view_is)
     (subst (λ (s : Store g.row.F.Denot g.row.O.Denot). IsPreparedFor eq cmp s c.args.patch) (sym c.self.view_is) c.requires) in
     subst (λ (l : List (g.row.O.Denot × List g.row.F.Denot)). AreIdleAmong cmp l places) (sym c.put_each.ensures)
     (idle_among eq cmp (eq_by_cmp_equiv g.met.O.Ord.total) es c.patch.inside.changes places c.self.invariant.idle (IsDistinct-from_sorted cmp (keys_of es) c.len-once.ensures.ordered) prepared.each_once prepared.places)
@@ -31,7 +31,7 @@ pub invariant_of-self : goal.invariant_of-self
 invariant_of-self g c =
     let eq = g.F.PartialEq.eq in
     let cmp = g.O.Ord.cmp in
-    let prepared = subst (λ (p : Prepared g.row.F.Denot g.row.O.Denot). IsPreparedFor eq cmp (record { origins = c.self.inside.origins.entries; counts = c.self.inside.counts.entries; room = spare c.self.inside.counts }) p) (sym c.patch.view_is)
+    let prepared = subst (λ (p : Prepared g.row.F.Denot g.row.O.Denot). IsPreparedFor eq cmp (record { origins = c.self.inside.origins.entries; counts = c.self.inside.counts.entries; room = spare c.self.inside.counts; idle = c.self.inside.places }) p) (sym c.patch.view_is)
     (subst (λ (s : Store g.row.F.Denot g.row.O.Denot). IsPreparedFor eq cmp s c.args.patch) (sym c.self.view_is) c.requires) in
     record {
       counted = λ q. c.set_numbers.ensures q ∙ prepared.numbers q ∙ ap positive (sym (c.clear_places.ensures.kept.counts q ∙ ap (λ (l : List (g.row.O.Denot × List g.row.F.Denot)). count_of eq l q) c.put_each.ensures));
@@ -44,7 +44,7 @@ returns-clause-given g c =
     let eq = g.F.PartialEq.eq in
     let cmp = g.O.Ord.cmp in
     let es = c.self.inside.origins.entries in
-    let prepared = subst (λ (p : Prepared g.row.F.Denot g.row.O.Denot). IsPreparedFor eq cmp (record { origins = es; counts = c.self.inside.counts.entries; room = spare c.self.inside.counts }) p) (sym c.patch.view_is)
+    let prepared = subst (λ (p : Prepared g.row.F.Denot g.row.O.Denot). IsPreparedFor eq cmp (record { origins = es; counts = c.self.inside.counts.entries; room = spare c.self.inside.counts; idle = c.self.inside.places }) p) (sym c.patch.view_is)
     (subst (λ (s : Store g.row.F.Denot g.row.O.Denot). IsPreparedFor eq cmp s c.args.patch) (sym c.self.view_is) c.requires) in
     λ o. c.clear_places.ensures.kept.flows o ∙ ap (λ (l : List (g.row.O.Denot × List g.row.F.Denot)). flows_of cmp l o) c.put_each.ensures
     ∙ flows_put cmp (eq_by_cmp_equiv g.met.O.Ord.total) es c.patch.inside.changes (IsDistinct-from_sorted cmp (keys_of es) c.len-once.ensures.ordered) prepared.each_once prepared.places o

@@ -1,6 +1,6 @@
 use Rattle.std.proofs.Common.{◌≡◌, ◌++◌}
 use mathlib.Core.Path.{subst, sym, ap, ◌∙◌}
-use Rattle.ovn_base.specs.Once.{EachOnce}
+use Rattle.ovn_base.specs.lists.Once.{EachOnce}
 use Rattle.flow_table.specs.Change.{IsDeltaOf, IsReplaced}
 use Rattle.flow_table.proofs.ChangeLaws.{replaced_by}
 use Rattle.flow_table.proofs.tables.TablesLookup.replace.Goals as goal

@@ -1,6 +1,6 @@
 use Rattle.std.proofs.Common.{◌≡◌, ◌+◌, drop, take, arith, ap, refl, ◌∙◌}
-use Rattle.ovn_base.specs.Reading.{Reading}
-use Rattle.ovn_base.specs.WindowState.{WindowState}
+use Rattle.ovn_base.specs.lines.Reading.{Reading}
+use Rattle.ovn_base.specs.lines.WindowState.{WindowState}
 use Rattle.ovn_base.proofs.CutLaws.{searched-none, searched-some, cut-ended}
 use Rattle.ovn_base.proofs.line_buf.LineBuf.cut_line.Goals as goal
 

@@ -1,6 +1,6 @@
 use Rattle.std.proofs.Common.{Some, sym, ap, ◌∙◌}
-use Rattle.ovn_base.specs.MemorySource.{SourceState}
-use Rattle.ovn_base.proofs.Taken.{took-front}
+use Rattle.ovn_base.specs.streams.MemorySource.{SourceState}
+use Rattle.ovn_base.proofs.TakenBytes.{took-front}
 use Rattle.ovn_base.proofs.memory_source.MemorySourceSource.take.Goals as goal
 
 pub returns-clause-bytes : goal.returns-clause-bytes

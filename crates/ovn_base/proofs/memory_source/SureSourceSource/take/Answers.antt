@@ -1,5 +1,5 @@
 use Rattle.std.proofs.Common.{Some, sym, ap, ◌∙◌}
-use Rattle.ovn_base.proofs.Taken.{took-front}
+use Rattle.ovn_base.proofs.TakenBytes.{took-front}
 use Rattle.ovn_base.proofs.memory_source.SureSourceSource.take.Goals as goal
 
 pub returns-clause-bytes : goal.returns-clause-bytes

@@ -1,5 +1,5 @@
 use Rattle.std.proofs.Common.{◌+◌, ◌-◌, ◌≤◌, ◌<◌, length, drop, arith, length-take, slice_range, ap}
-use Rattle.ovn_base.specs.WindowState.{WindowState}
+use Rattle.ovn_base.specs.lines.WindowState.{WindowState}
 use Rattle.ovn_base.proofs.WindowLaws.{range-front, range-rest, cut-record}
 use Rattle.ovn_base.proofs.window.Window.cut.Goals as goal
 

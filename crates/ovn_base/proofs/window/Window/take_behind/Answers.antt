@@ -1,6 +1,6 @@
 use Rattle.std.proofs.Common.{length, arith, ap, refl, take_all}
 use Rattle.std.proofs.lemmas.Result.{err_from_is_err_and}
-use Rattle.ovn_base.specs.WindowState.{WindowState}
+use Rattle.ovn_base.specs.lines.WindowState.{WindowState}
 use Rattle.ovn_base.proofs.WindowLaws.{held-kept, held-more, ahead-more, front-more}
 use Rattle.ovn_base.proofs.window.Window.take_behind.Goals as goal
 

@@ -1,7 +1,7 @@
 use Rattle.std.proofs.Common.{◌↔◌, sym, ◌∙◌, ap, subst}
 use Rattle.std.proofs.lemmas.Result.{err_from_is_err_and}
-use Rattle.ovn_base.specs.Among.{Among}
-use Rattle.ovn_base.specs.ByName.{put_all}
+use Rattle.ovn_base.specs.lists.Among.{Among}
+use Rattle.ovn_base.specs.names.ByName.{put_all}
 use Rattle.tunnel_keys.specs.Keys.{Keys}
 use Rattle.tunnel_keys.specs.Edits.{IsEdit, IsAfter}
 use Rattle.tunnel_keys.specs.Causes.{IsCause, HasKeys}

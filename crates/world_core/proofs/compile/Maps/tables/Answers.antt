@@ -1,5 +1,5 @@
 use Rattle.std.proofs.Common.{subst, sym}
-use Rattle.ovn_base.specs.Once.{EachOnce}
+use Rattle.ovn_base.specs.lists.Once.{EachOnce}
 use Rattle.world_core.specs.Compiling.{basis_of}
 use Rattle.world_core.proofs.Once.{table_flows_once}
 use Rattle.world_core.proofs.Recompiling.{same_exactly}

@@ -1,5 +1,5 @@
 use Rattle.std.proofs.Common.{◌≡◌, ◌<◌, ◌+◌, ◌^◌, ◌++◌, length, IsSome, None, unwrap_or, subst, sym, ap, ◌∙◌, ◌∷◌, []}
-use Rattle.ovn_base.specs.ByName.{at, put}
+use Rattle.ovn_base.specs.names.ByName.{at, put}
 use Rattle.ovn_base.specs.declared.address.Birth.{Birth}
 use Rattle.nb_records.specs.declared.record.Op.TheVariants.{Add}
 use Rattle.nb_records.specs.declared.record.Record.TheVariants as record_of
@@ -10,9 +10,9 @@ use Rattle.tunnel_keys.specs.declared.owner.KeyOwner.TheVariants.{Port}
 use Rattle.world_core.specs.Consistent.{IsConsistent}
 use Rattle.world_core.specs.Editing.{Edits, port_effect}
 use Rattle.world_core.specs.Inside.{seen_of}
-use Rattle.world_core.specs.New.{AreNew}
+use Rattle.world_core.specs.NewPort.{AreNew}
 use Rattle.world_core.specs.Numbers.{port_number}
-use Rattle.world_core.specs.State.{State, events_of}
+use Rattle.world_core.specs.State.{State, event_count}
 use Rattle.world_core.proofs.Adding.{edits_port, consistent_port}
 use Rattle.world_core.proofs.Planning.{port_fits, key_for_port}
 use Rattle.world_core.proofs.world.World.add_port.Goals as goal
@@ -32,7 +32,7 @@ keys_with-requires-clause-enough c =
     let p = c.args.port.now in
     let old : IsConsistent m (seen_of c.self.inside).zones = subst (λ v. IsConsistent v.state v.zones) (sym c.self.view_is) c.requires.consistent in
     let few : length m.net.ports < 10000 = subst (λ v. length v.state.net.ports < 10000) (sym c.self.view_is) c.requires.few in
-    key_for_port m old.keys old.born p.name (record { 0 = events_of m + 1 }) p.switch few
+    key_for_port m old.keys old.born p.name (record { 0 = event_count m + 1 }) p.switch few
 
 pub apply-requires : goal.apply-requires
 apply-requires c =
@@ -41,7 +41,7 @@ apply-requires c =
     let old : IsConsistent m (seen_of c.self.inside).zones = subst (λ v. IsConsistent v.state v.zones) (sym c.self.view_is) c.requires.consistent in
     let absent : at m.net.ports p.name ≡ None = subst (λ v. at v.state.net.ports p.name ≡ None) (sym c.self.view_is) c.requires.absent in
     let on : IsSome (at m.net.switches p.switch) = subst (λ v. IsSome (at v.state.net.switches p.switch)) (sym c.self.view_is) c.requires.on_switch in
-    let birth : Birth = record { 0 = events_of m + 1 } in
+    let birth : Birth = record { 0 = event_count m + 1 } in
     record {
       added = Port p.switch p.name birth ∷ [];
       removed = [];
@@ -55,10 +55,10 @@ returns-clause-edits c =
     let p = c.args.port.now in
     let plan = c.in_ok-plan.plan in
     let n : State = record m { net = c.put.new.self; keys = c.apply.new.self } in
-    let net : c.put.new.self ≡ record m.net { ports = put m.net.ports p.name (record p { birth = record { 0 = events_of m + 1 } }) } =
-    c.in_ok-put.ensures.ok ∙ (λ i. record m.net { ports = put m.net.ports p.name (record p { birth = record { 0 = events_of m + 1 }; addresses = c.in_ok-addresses.ensures i }) }) in
+    let net : c.put.new.self ≡ record m.net { ports = put m.net.ports p.name (record p { birth = record { 0 = event_count m + 1 } }) } =
+    c.in_ok-put.ensures.ok ∙ (λ i. record m.net { ports = put m.net.ports p.name (record p { birth = record { 0 = event_count m + 1 }; addresses = c.in_ok-addresses.ensures i }) }) in
     let key : c.unwrap_or-key.result ≡ unwrap_or (port_number plan p.name) 0 = c.unwrap_or-key.ensures ∙ ap (λ o. unwrap_or o 0) (c.port.ensures ∙ ap (λ (k : Keys). port_number k p.name) c.after.ensures) in
-    let named : c.push.new.self ≡ port_effect plan (p.name, record { 0 = events_of m + 1 }) ∷ [] =
+    let named : c.push.new.self ≡ port_effect plan (p.name, record { 0 = event_count m + 1 }) ∷ [] =
     c.in_ok-push.ensures.ok ∙ ap (λ l. l ++ effect.PortKey p.name c.unwrap_or-key.result ∷ []) c.new-effects.ensures ∙ ap (λ k. effect.PortKey p.name k ∷ []) key in
     subst (λ v. Edits v.state (Add (record_of.SwitchPort p) ∷ []) c.push.new.self n) c.self.view_is
     (edits_port m n plan c.in_ok-plan.ensures.after.hold p c.in_ok-plan.ensures.after.gives (λ i. record m { net = net i; keys = c.apply.ensures i }) c.push.new.self named)
@@ -68,12 +68,12 @@ returns-clause-consistent c =
     let m = (seen_of c.self.inside).state in
     let p = c.args.port.now in
     let n : State = record m { net = c.put.new.self; keys = c.apply.new.self } in
-    let net : c.put.new.self ≡ record m.net { ports = put m.net.ports p.name (record p { birth = record { 0 = events_of m + 1 } }) } =
-    c.in_ok-put.ensures.ok ∙ (λ i. record m.net { ports = put m.net.ports p.name (record p { birth = record { 0 = events_of m + 1 }; addresses = c.in_ok-addresses.ensures i }) }) in
+    let net : c.put.new.self ≡ record m.net { ports = put m.net.ports p.name (record p { birth = record { 0 = event_count m + 1 } }) } =
+    c.in_ok-put.ensures.ok ∙ (λ i. record m.net { ports = put m.net.ports p.name (record p { birth = record { 0 = event_count m + 1 }; addresses = c.in_ok-addresses.ensures i }) }) in
     let old : IsConsistent m (seen_of c.self.inside).zones = subst (λ v. IsConsistent v.state v.zones) (sym c.self.view_is) c.requires.consistent in
     let absent : at m.net.ports p.name ≡ None = subst (λ v. at v.state.net.ports p.name ≡ None) (sym c.self.view_is) c.requires.absent in
     let few : length m.net.ports < 10000 = subst (λ v. length v.state.net.ports < 10000) (sym c.self.view_is) c.requires.few in
     let on : IsSome (at m.net.switches p.switch) = subst (λ v. IsSome (at v.state.net.switches p.switch)) (sym c.self.view_is) c.requires.on_switch in
     let new : AreNew m.net p = subst (λ v. AreNew v.state.net p) (sym c.self.view_is) c.requires.new in
-    let room : events_of m < 2 ^ 42 = subst (λ v. events_of v.state < 2 ^ 42) (sym c.self.view_is) c.requires.room in
+    let room : event_count m < 2 ^ 42 = subst (λ v. event_count v.state < 2 ^ 42) (sym c.self.view_is) c.requires.room in
     consistent_port m n c.in_ok-plan.plan c.in_ok-plan.ensures.after.hold p c.in_ok-plan.ensures.after.gives (λ i. record m { net = net i; keys = c.apply.ensures i }) c.self.inside.zones.entries old absent few on new room

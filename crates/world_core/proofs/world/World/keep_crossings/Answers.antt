@@ -3,7 +3,7 @@ use Rattle.std.proofs.lemmas.List.{drop_more, drop_all}
 use Rattle.switch_engine.specs.declared.effect.NetEffect.{NetEffect}
 use Rattle.switch_engine.specs.declared.effect.NetEffect.TheVariants as net
 use Rattle.world_core.specs.Packets.{IsSentFrom}
-use Rattle.world_core.specs.Seen.{Seen}
+use Rattle.world_core.specs.WorldView.{WorldView}
 use Rattle.world_core.proofs.Keeping.{IsKeeping, keeping_ends, keeping_goes_on, keeping_passes, next_of, next_sent, sends_none}
 use Rattle.world_core.proofs.world.World.keep_crossings.Goals as goal
 use Rattle.world_core.proofs.world.World.keep_crossings.Goals.{in-Tunnel+in_ok-crossing+in_ok-keep, in_default}
@@ -42,17 +42,17 @@ effects-preserved c =
                 let h = next_of c.args.self.now n w.in-Tunnel.from to bytes left ws c.effects.self keeping in
                 let sent = next_sent c.args.self.now c.args.port.now effects n to bytes left ws keeping.done c.effects.self can h keeping.now_is in
                 let same : w.in_ok-crossing.crossing ≡ h.crossing = w.in_ok-crossing.ensures h.crossing (subst (λ bs. IsSentFrom c.effects.self.state c.args.port.now to bs h.crossing) (sym w.as_slice.ensures) sent) in
-                subst (λ (v : Seen). IsKeeping c.args.self.now left ws v) (sym w.self-is)
+                subst (λ (v : WorldView). IsKeeping c.args.self.now left ws v) (sym w.self-is)
                 (keeping_goes_on c.args.self.now c.args.port.now effects n to bytes left ws keeping.done c.effects.self w.keep.new.self w.in_ok-crossing.crossing can h keeping.now_is same w.in_ok-keep.ensures);
-            taken = ap (λ (v : Seen). v.whole) (w.self-is ∙ w.in_ok-keep.ensures) ∙ c.effects.invariant.taken;
+            taken = ap (λ (v : WorldView). v.whole) (w.self-is ∙ w.in_ok-keep.ensures) ∙ c.effects.invariant.taken;
           }
       | in_default w ↦
           let none = sends_none c.effect-item.result (λ n from to bytes e. w.in_default.not-Tunnel n from to bytes e) in
           record {
             keeping = λ ws can.
                 let keeping : IsKeeping c.args.self.now (c.effect-item.result ∷ left) ws c.effects.self = subst (λ es. IsKeeping c.args.self.now es ws c.effects.self) now (c.effects.invariant.keeping ws can) in
-                subst (λ (v : Seen). IsKeeping c.args.self.now left ws v) (sym w.self-is) (keeping_passes c.args.self.now c.effect-item.result left ws c.effects.self none keeping);
-            taken = ap (λ (v : Seen). v.whole) w.self-is ∙ c.effects.invariant.taken;
+                subst (λ (v : WorldView). IsKeeping c.args.self.now left ws v) (sym w.self-is) (keeping_passes c.args.self.now c.effect-item.result left ws c.effects.self none keeping);
+            taken = ap (λ (v : WorldView). v.whole) w.self-is ∙ c.effects.invariant.taken;
           }
     ]
 

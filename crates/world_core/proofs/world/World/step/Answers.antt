@@ -2,7 +2,7 @@ use Rattle.world_core.specs.Inside.{seen_of}
 use Rattle.world_core.proofs.Ending.{half_done, front_kept}
 use Rattle.world_core.proofs.world.World.step.Goals as goal
 
-pub returns-in-Err-Memory-clause-outcome : goal.returns-in-Err-Memory-clause-outcome
-returns-in-Err-Memory-clause-outcome g c =
+pub returns-in-Err-Memory : goal.returns-in-Err-Memory
+returns-in-Err-Memory g c =
     let left = rw c.in-Err-Memory.field-0-is at c.in-Err-Memory.ensures in
     (half_done (seen_of c.self-2.inside), front_kept c.args.text.now.items c.take.new.text.items left)

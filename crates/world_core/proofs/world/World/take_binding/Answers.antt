@@ -1,9 +1,9 @@
 use Rattle.std.proofs.Common.{◌≡◌, [], ◌∷◌, ◌++◌, Some, subst, sym, ap, ◌∙◌}
-use Rattle.ovn_base.specs.ByName.{put}
+use Rattle.ovn_base.specs.names.ByName.{put}
 use Rattle.edit_reader.specs.declared.event.Event.TheVariants as event_of
 use Rattle.world_core.specs.Consistent.{IsConsistent}
-use Rattle.world_core.specs.Parts.{IsRecompiled}
-use Rattle.world_core.specs.Seen.{Seen}
+use Rattle.world_core.specs.StepParts.{IsRecompiled}
+use Rattle.world_core.specs.WorldView.{WorldView}
 use Rattle.world_core.specs.State.{State, finished}
 use Rattle.world_core.proofs.Doing.{binding_done, done_so}
 use Rattle.world_core.proofs.Refusals.{is_known, among_chassis}
@@ -14,19 +14,19 @@ bind-requires-clause-known c = among_chassis c.args.self.now.state.chassis c.arg
 
 pub returns : goal.returns
 returns c =
-    let old : Seen = c.args.self.now in
-    let between : Seen = c.bind.new.self in
-    let done : Seen = c.finish.new.self in
-    let new : Seen = c.recompile.new.self in
+    let old : WorldView = c.args.self.now in
+    let between : WorldView = c.bind.new.self in
+    let done : WorldView = c.finish.new.self in
+    let new : WorldView = c.recompile.new.self in
     let p = c.args.port in
     let chassis = c.args.chassis in
     let mid : State = record old.state { bindings = put old.state.bindings p chassis } in
     let state : between.state ≡ mid = c.in_ok-bind.ensures.state in
     let finish : done ≡ record between { state = finished between.state } = c.finish.ensures in
     let rest : between ≡ record old { state = between.state; zones = between.zones } = c.in_ok-bind.ensures.rest in
-    let zones : done.zones ≡ between.zones = ap (λ (v : Seen). v.zones) finish in
+    let zones : done.zones ≡ between.zones = ap (λ (v : WorldView). v.zones) finish in
     let over : done ≡ record old { state = finished mid; zones = done.zones } =
-    finish ∙ ap (λ (v : Seen). record v { state = finished between.state }) rest ∙ (λ i. record old { state = finished (state i); zones = sym zones i }) in
+    finish ∙ ap (λ (v : WorldView). record v { state = finished between.state }) rest ∙ (λ i. record old { state = finished (state i); zones = sym zones i }) in
     let now : IsConsistent (finished mid) done.zones = subst (λ (w : State). IsConsistent (finished w) done.zones) state (subst (λ z. IsConsistent (finished between.state) z) (sym zones) c.in_ok-bind.ensures.consistent) in
     let bound : c.push.new.self ≡ (p, Some chassis) ∷ [] = c.in_ok-push.ensures.ok ∙ ap (λ l. l ++ (p, Some chassis) ∷ []) c.new-bound.ensures in
     let made : IsRecompiled ((p, Some chassis) ∷ []) [] done new = subst (λ l. IsRecompiled l [] done new) bound (subst (λ l. IsRecompiled c.push.new.self l done new) c.new.ensures c.in_ok-recompile.ensures) in

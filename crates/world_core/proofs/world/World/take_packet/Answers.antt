@@ -1,7 +1,7 @@
 use Rattle.std.specs.Prelude.{◌<◌, ◌^◌}
 use Rattle.std.proofs.Common.{sym, subst, ◌∙◌}
 use Rattle.edit_reader.specs.declared.event.Event.TheVariants as event_of
-use Rattle.world_core.specs.Parts.{IsDone}
+use Rattle.world_core.specs.StepParts.{IsDone}
 use Rattle.world_core.specs.Step.{most_arrivals}
 use Rattle.world_core.proofs.PacketsDone.{packet_done, drains_events, enters_events, handed_on}
 use Rattle.world_core.proofs.world.World.take_packet.Goals as goal

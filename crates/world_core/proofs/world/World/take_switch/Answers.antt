@@ -3,27 +3,27 @@ use Rattle.edit_reader.specs.declared.event.Event.TheVariants as event_of
 use Rattle.nb_records.specs.declared.record.Op.TheVariants.{Add}
 use Rattle.nb_records.specs.declared.record.Record.TheVariants as record_of
 use Rattle.world_core.specs.Consistent.{IsConsistent}
-use Rattle.world_core.specs.Parts.{IsRecompiled}
-use Rattle.world_core.specs.Seen.{Seen}
+use Rattle.world_core.specs.StepParts.{IsRecompiled}
+use Rattle.world_core.specs.WorldView.{WorldView}
 use Rattle.world_core.specs.State.{finished}
 use Rattle.world_core.proofs.Doing.{done_so, switch_done, switch_new}
 use Rattle.world_core.proofs.world.World.take_switch.Goals as goal
 
 pub returns : goal.returns
 returns c =
-    let old : Seen = c.args.self.now in
-    let between : Seen = c.add_switch.new.self in
-    let done : Seen = c.finish.new.self in
-    let new : Seen = c.recompile.new.self in
+    let old : WorldView = c.args.self.now in
+    let between : WorldView = c.add_switch.new.self in
+    let done : WorldView = c.finish.new.self in
+    let new : WorldView = c.recompile.new.self in
     let s = c.args.switch.now in
     let names = c.in_ok-names.names in
     let effects = c.in_ok-effects.effects in
     let finish : done ≡ record between { state = finished between.state } = c.finish.ensures in
     let rest : between ≡ record old { state = between.state } = c.in_ok-effects.ensures.rest in
-    let zones : done.zones ≡ between.zones = ap (λ (v : Seen). v.zones) finish in
-    let same : done.zones ≡ old.zones = zones ∙ ap (λ (v : Seen). v.zones) rest in
+    let zones : done.zones ≡ between.zones = ap (λ (v : WorldView). v.zones) finish in
+    let same : done.zones ≡ old.zones = zones ∙ ap (λ (v : WorldView). v.zones) rest in
     let over : done ≡ record old { state = finished between.state; zones = done.zones } =
-    finish ∙ ap (λ (v : Seen). record v { state = finished between.state }) rest ∙ ap (λ z. record old { state = finished between.state; zones = z }) (sym same) in
+    finish ∙ ap (λ (v : WorldView). record v { state = finished between.state }) rest ∙ ap (λ z. record old { state = finished between.state; zones = z }) (sym same) in
     let now : IsConsistent (finished between.state) done.zones = subst (λ z. IsConsistent (finished between.state) z) (sym zones) c.in_ok-effects.ensures.consistent in
     let made : IsRecompiled [] names done new = subst (λ l. IsRecompiled l names done new) c.new.ensures c.in_ok-recompile.ensures in
     done_so old new (event_of.Edit (Add (record_of.Switch s) ∷ [])) effects c.done_with.result.effects c.done_with.result.walks c.done_with.result.matched c.done_with.ensures.effects c.done_with.ensures.walks c.done_with.ensures.matched

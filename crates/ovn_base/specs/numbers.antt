@@ -1,0 +1,3 @@
+-- Counts, and numbers in decimal.
+pub mod Steps
+pub mod NumberReading

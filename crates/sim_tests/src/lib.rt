@@ -1,0 +1,9 @@
+//! Tests of `chassis_sim`, over tables that no records stand behind.
+#![tactic(auto)]
+
+#[cfg(test)]
+mod frames;
+#[cfg(test)]
+mod packets;
+#[cfg(test)]
+mod sims;
