@@ -1,0 +1,7 @@
+-- Lemmas.
+pub mod TupleLaws
+pub mod IndexLaws
+pub mod ZoneLaws
+pub mod FindLaws
+pub mod TranslateLaws
+pub mod CommitLaws

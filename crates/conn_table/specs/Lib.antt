@@ -1,0 +1,5 @@
+-- Definitions that contracts cite.
+pub mod Order
+pub mod Tuples
+pub mod Connections
+pub mod Tracking

@@ -1,0 +1,8 @@
+//! Connections: the tuples of packets, and lists of the connections that were seen.
+#![tactic(auto)]
+
+pub mod connection;
+pub mod idle;
+mod rewrite;
+pub mod tuple;
+pub mod zone;
