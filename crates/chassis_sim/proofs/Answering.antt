@@ -26,17 +26,17 @@ use Rattle.chassis_sim.specs.InNames.{all_in_names, next_after_all, frames_sent}
 use Rattle.chassis_sim.specs.Passing.{AddsWalk, IsTold, IsInjected, IsArrived, arrived, KeepsOut, HasOtherFrames, AnswersInject}
 use Rattle.chassis_sim.specs.Passing.IsInjected.{through as through_port, nowhere}
 use Rattle.chassis_sim.specs.Passing.IsArrived.{through as through_tunnel, gone}
-use Rattle.chassis_sim.specs.State.{SimState, SimView, named, numbered}
+use Rattle.chassis_sim.specs.State.{SimState, SimView, at_name, numbered}
 
 -- the packet went through the flows that are held, or met none
 pub injected : (state : SimState) (port : Name) (now : ℕ) (packet : Packet) (chassis : Name) (run : RunOut) (before after : SimOut) (new : SimState)
-    → named state.bindings port ≡ Some chassis
-    → RunsAt (named state.chassis chassis) port now packet run
+    → at_name state.bindings port ≡ Some chassis
+    → RunsAt (at_name state.chassis chassis) port now packet run
     → IsTold state chassis (Port port) run.walk run.effects before after new
     → IsInjected state port now packet before after new
-injected state port now packet chassis run before after new bound runs told = by (named state.chassis chassis) refl runs
+injected state port now packet chassis run before after new bound runs told = by (at_name state.chassis chassis) refl runs
   where
-    by : (found : Option (List Flow)) → named state.chassis chassis ≡ found → RunsAt found port now packet run → IsInjected state port now packet before after new
+    by : (found : Option (List Flow)) → at_name state.chassis chassis ≡ found → RunsAt found port now packet run → IsInjected state port now packet before after new
     by (Some flows) is walk = through_port chassis flows run.walk run.effects bound is walk told
     by None is nothing =
         nowhere chassis bound is
@@ -45,16 +45,16 @@ injected state port now packet chassis run before after new bound runs told = by
 -- the frame brought its packet to the flows that are held, or was lost
 pub arrives_from : (state : SimState) (n : ℕ) (keep : Bool) (now : ℕ) (frame : WaitingFrame) (run : RunOut) (before after : SimOut) (new : SimState)
     → numbered state.waiting n ≡ Some frame
-    → RunsFrom (named state.chassis frame.to) frame.bytes now run
+    → RunsFrom (at_name state.chassis frame.to) frame.bytes now run
     → IsTold (arrived state n keep) frame.to (Frame n) run.walk run.effects before after new
     → IsArrived state n keep now before after new
-arrives_from state n keep now frame run before after new waits runs told = by (named state.chassis frame.to) refl runs
+arrives_from state n keep now frame run before after new waits runs told = by (at_name state.chassis frame.to) refl runs
   where
-    from : (flows : List Flow) (entry : Entry) (packet : Packet) → named state.chassis frame.to ≡ Some flows → Brings frame.bytes entry packet → IsWalkOf flows entry now packet run.walk run.effects → IsArrived state n keep now before after new
+    from : (flows : List Flow) (entry : Entry) (packet : Packet) → at_name state.chassis frame.to ≡ Some flows → Brings frame.bytes entry packet → IsWalkOf flows entry now packet run.walk run.effects → IsArrived state n keep now before after new
     from flows (Vif port) packet is brings walk = absurd brings
     from flows (Tunnel vni in_key out_key) packet is brings walk = through_tunnel frame flows vni in_key out_key packet run.walk run.effects waits is brings.0 walk told
 
-    by : (found : Option (List Flow)) → named state.chassis frame.to ≡ found → RunsFrom found frame.bytes now run → IsArrived state n keep now before after new
+    by : (found : Option (List Flow)) → at_name state.chassis frame.to ≡ found → RunsFrom found frame.bytes now run → IsArrived state n keep now before after new
     by (Some flows) is runs = from flows runs.0 runs.1 is runs.2 runs.3
     by None is lost =
         gone frame waits is
@@ -63,7 +63,7 @@ arrives_from state n keep now frame run before after new waits runs told = by (n
 -- without memory
 pub no_memory : {T : Type 0} (result : Result (Unit {0}) SimFault) (old : SimView T) (port : Name) (now : ℕ) (packet : Packet) (before after : SimOut) (new : SimView T)
     → IsErrAnd result (λ fault. fault ≡ Memory)
-    → IsSome (named old.state.bindings port)
+    → IsSome (at_name old.state.bindings port)
     → HasOtherFrames old.state new.state
     → KeepsOut before after
     → AnswersInject result old port now packet before after new

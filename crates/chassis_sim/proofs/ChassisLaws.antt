@@ -12,7 +12,7 @@ use Rattle.chassis_sim.specs.declared.change.SimChange.{SimChange}
 use Rattle.chassis_sim.specs.Changing.{AreReplaced, gone, come, coming_and_going, IsChanged, IsProperChange}
 use Rattle.chassis_sim.specs.Holding.{AreProper}
 use Rattle.chassis_sim.specs.Settings.{set_in_turn}
-use Rattle.chassis_sim.specs.State.{named}
+use Rattle.chassis_sim.specs.State.{at_name}
 use Rattle.chassis_sim.proofs.Lookups.{set_append}
 use Rattle.chassis_sim.proofs.Waiting.{all_found}
 
@@ -52,20 +52,20 @@ module _ {T : Type 0} (flows_of : T → List Flow) where
 
   -- deltas, chassis that go, and chassis that come, one after another
   pub changed : (change : SimChange T) (old replaced left new : List (Name × List Flow)) (name : Name)
-      → AreReplaced (named change.tables name) (named old name) (named replaced name)
-      → named left name ≡ set_in_turn same_name (map gone change.removed) name (named replaced name)
-      → named new name ≡ set_in_turn same_name (map (come flows_of) change.added) name (named left name)
-      → IsChanged flows_of change name (named old name) (named new name)
+      → AreReplaced (at_name change.tables name) (at_name old name) (at_name replaced name)
+      → at_name left name ≡ set_in_turn same_name (map gone change.removed) name (at_name replaced name)
+      → at_name new name ≡ set_in_turn same_name (map (come flows_of) change.added) name (at_name left name)
+      → IsChanged flows_of change name (at_name old name) (at_name new name)
   changed change old replaced left new name r l n =
-      (named replaced name, r, n ∙ ap (λ had. set_in_turn same_name (map (come flows_of) change.added) name had) l ∙ sym (set_append same_name (map gone change.removed) (map (come flows_of) change.added) name (named replaced name)))
+      (at_name replaced name, r, n ∙ ap (λ had. set_in_turn same_name (map (come flows_of) change.added) name had) l ∙ sym (set_append same_name (map gone change.removed) (map (come flows_of) change.added) name (at_name replaced name)))
 
   -- a change by proper flows leaves proper flows
   pub changed_proper : (change : SimChange T) (old new : List (Name × List Flow)) → IsProperChange flows_of change → AreProper old
-      → ((name : Name) → IsChanged flows_of change name (named old name) (named new name)) → AreProper new
+      → ((name : Name) → IsChanged flows_of change name (at_name old name) (at_name new name)) → AreProper new
   changed_proper change old new p proper is name flows found =
       let h = is name in
       let between : ProperIfAny h.0 =
-      replaced_proper (named change.tables name) (named old name) h.0 (λ d there. (all_found (λ (table : Name × Delta Flow). IsProper table.1.added) (same_name name) change.tables d p.deltas there).1) (any_proper (named old name) (proper name)) h.1 in
+      replaced_proper (at_name change.tables name) (at_name old name) h.0 (λ d there. (all_found (λ (table : Name × Delta Flow). IsProper table.1.added) (same_name name) change.tables d p.deltas there).1) (any_proper (at_name old name) (proper name)) h.1 in
       let settings = all_append (λ s. ProperIfAny s.1) (map gone change.removed) (map (come flows_of) change.added) (gone_proper change.removed) (come_proper change.added p.chassis) in
-      let after : ProperIfAny (named new name) = subst ProperIfAny (sym h.2) (set_proper (coming_and_going flows_of change) name h.0 settings between) in
+      let after : ProperIfAny (at_name new name) = subst ProperIfAny (sym h.2) (set_proper (coming_and_going flows_of change) name h.0 settings between) in
       subst ProperIfAny found after

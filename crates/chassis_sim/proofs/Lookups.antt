@@ -11,7 +11,7 @@ use Rattle.ovn_base.specs.lists.Once.{EachOnce}
 use Rattle.ovn_base.specs.names.SameName.{same_name, bytes_decides}
 use Rattle.ovn_base.specs.declared.name.Name.{Name}
 use Rattle.chassis_sim.specs.Settings.{set_in_turn}
-use Rattle.chassis_sim.specs.State.{named}
+use Rattle.chassis_sim.specs.State.{at_name}
 use Rattle.chassis_sim.specs.Tables.{seen_by}
 
 module _ {T X : Type 0} (f : T → X) where
@@ -35,21 +35,21 @@ module _ {T X : Type 0} (f : T → X) where
       by false found ih = ap (λ rest. (e.0, f e.1) ∷ rest) (ih found same)
 
   -- of a value that is found, and of none
-  pub seen_found : (es : List (Name × T)) (name : Name) (t : T) → named es name ≡ Some t → named (map (seen_by f) es) name ≡ Some (f t)
+  pub seen_found : (es : List (Name × T)) (name : Name) (t : T) → at_name es name ≡ Some t → at_name (map (seen_by f) es) name ≡ Some (f t)
   seen_found es name t found = seen_lookup (same_name name) es ∙ ap (option_map f) found
 
-  pub seen_none : (es : List (Name × T)) (name : Name) → named es name ≡ None → named (map (seen_by f) es) name ≡ None
+  pub seen_none : (es : List (Name × T)) (name : Name) → at_name es name ≡ None → at_name (map (seen_by f) es) name ≡ None
   seen_none es name absent = seen_lookup (same_name name) es ∙ ap (option_map f) absent
 
   -- the same is seen of what is found alike
-  pub seen_same : (es fs : List (Name × T)) (name : Name) → named fs name ≡ named es name → named (map (seen_by f) fs) name ≡ named (map (seen_by f) es) name
+  pub seen_same : (es fs : List (Name × T)) (name : Name) → at_name fs name ≡ at_name es name → at_name (map (seen_by f) fs) name ≡ at_name (map (seen_by f) es) name
   seen_same es fs name is = seen_lookup (same_name name) fs ∙ ap (option_map f) is ∙ sym (seen_lookup (same_name name) es)
 
   -- what is seen of a setting
-  pub seen_put : (es fs : List (Name × T)) (w : Option T) (test : Bool) (name : Name) → named fs name ≡ cond test w (named es name) → named (map (seen_by f) fs) name ≡ cond test (option_map f w) (named (map (seen_by f) es) name)
+  pub seen_put : (es fs : List (Name × T)) (w : Option T) (test : Bool) (name : Name) → at_name fs name ≡ cond test w (at_name es name) → at_name (map (seen_by f) fs) name ≡ cond test (option_map f w) (at_name (map (seen_by f) es) name)
   seen_put es fs w test name is = seen_lookup (same_name name) fs ∙ ap (option_map f) is ∙ by test
     where
-      by : (b : Bool) → option_map f (cond b w (named es name)) ≡ cond b (option_map f w) (named (map (seen_by f) es) name)
+      by : (b : Bool) → option_map f (cond b w (at_name es name)) ≡ cond b (option_map f w) (at_name (map (seen_by f) es) name)
       by true = refl
       by false = sym (seen_lookup (same_name name) es)
 
@@ -61,11 +61,11 @@ module _ {K V : Type 0} (same : K → K → Bool) where
 
 module _ {X : Type 0} where
   -- a name that isn't there is found nowhere
-  pub none_named : (es : List (Name × X)) (name : Name) → ¬ Among name (keys_of es) → named es name ≡ None
+  pub none_named : (es : List (Name × X)) (name : Name) → ¬ Among name (keys_of es) → at_name es name ≡ None
   none_named [] name absent = refl
   none_named (e ∷ es) name absent = by (same_name name e.0) refl (none_named es name (λ m. absent (there m)))
     where
-      by : (b : Bool) → same_name name e.0 ≡ b → named es name ≡ None → cond b (Some e.1) (named es name) ≡ None
+      by : (b : Bool) → same_name name e.0 ≡ b → at_name es name ≡ None → cond b (Some e.1) (at_name es name) ≡ None
       by true is rest = absurd (absent (subst (λ n. Among name (n ∷ keys_of es)) ((bytes_decides name e.0).0 is) here))
       by false is rest = rest
 

@@ -12,7 +12,7 @@ use Rattle.flow_table.specs.Change.{IsDeltaOf, IsReplaced}
 use Rattle.switch_engine.specs.Proper.{IsProper, IsProperFlow}
 use Rattle.chassis_sim.specs.declared.change.SimChange.{SimChange}
 use Rattle.chassis_sim.specs.Settings.{set_in_turn, AreSet}
-use Rattle.chassis_sim.specs.State.{KeyPair, same_pair, SimState, SimRoom, named}
+use Rattle.chassis_sim.specs.State.{KeyPair, same_pair, SimState, SimRoom, at_name}
 
 -- the flows of a chassis after a delta, if it is given one, by those before
 abbrev pub AreReplaced : Option (Delta Flow) → Option (List Flow) → Option (List Flow) → Type 0
@@ -40,11 +40,11 @@ module _ {T : Type 0} (flows_of : T → List Flow) where
   -- a chassis's flows after the change, by those before: first come the deltas, then chassis go, then chassis come
   abbrev pub IsChanged : SimChange T → Name → Option (List Flow) → Option (List Flow) → Type 0
   IsChanged change name before after =
-      (between : Option (List Flow)) × AreReplaced (named change.tables name) before between × (after ≡ set_in_turn same_name (coming_and_going change) name between)
+      (between : Option (List Flow)) × AreReplaced (at_name change.tables name) before between × (after ≡ set_in_turn same_name (coming_and_going change) name between)
 
   -- the change is made, and nothing else
   pub record IsApplied (old : SimState) (change : SimChange T) (new : SimState) : Type 0 where
-    pub chassis : (name : Name) → IsChanged change name (named old.chassis name) (named new.chassis name)
+    pub chassis : (name : Name) → IsChanged change name (at_name old.chassis name) (at_name new.chassis name)
     pub bindings : AreSet same_name change.bound old.bindings new.bindings
     pub names : AreSet same_pair (map given_name change.names) old.names new.names
     pub waiting : new.waiting ≡ old.waiting
@@ -62,7 +62,7 @@ IsDeltaOfAny delta (Some flows) = IsDeltaOf flows delta
 
 -- each delta is one of the flows of its chassis
 abbrev pub AllAreDeltas : List (Name × List Flow) → List (Name × Delta Flow) → Type 0
-AllAreDeltas chassis tables = AllByRecursion (λ table. IsDeltaOfAny table.1 (named chassis table.0)) tables
+AllAreDeltas chassis tables = AllByRecursion (λ table. IsDeltaOfAny table.1 (at_name chassis table.0)) tables
 
 module _ {T : Type 0} (ready : T → Delta Flow → Type 0) where
   -- the tables are ready for the delta, if there are any
@@ -72,7 +72,7 @@ module _ {T : Type 0} (ready : T → Delta Flow → Type 0) where
 
   -- the tables of each chassis are ready for its delta
   abbrev pub AreReady : List (Name × T) → List (Name × Delta Flow) → Type 0
-  AreReady held tables = AllByRecursion (λ table. IsReadyFor table.1 (named held table.0)) tables
+  AreReady held tables = AllByRecursion (λ table. IsReadyFor table.1 (at_name held table.0)) tables
 
   -- there is room for what the change brings, and the tables are ready for its deltas, of which no two are for one chassis
   pub record IsPrepared (room : SimRoom T) (change : SimChange T) : Type 0 where

@@ -14,14 +14,14 @@ use Rattle.switch_engine.specs.declared.walk.RunOut.{RunOut}
 use Rattle.switch_engine.specs.Proper.{IsProper}
 use Rattle.switch_engine.specs.Walk.{IsWalkOf}
 use Rattle.chassis_sim.specs.Frames.{IsWaiting, Brings}
-use Rattle.chassis_sim.specs.State.{SimState, named}
+use Rattle.chassis_sim.specs.State.{SimState, at_name}
 
 -- the flows of each chassis are proper
 abbrev pub AreProper : List (Name × List Flow) → Type 0
-AreProper chassis = (name : Name) (flows : List Flow) → named chassis name ≡ Some flows → IsProper flows
+AreProper chassis = (name : Name) (flows : List Flow) → at_name chassis name ≡ Some flows → IsProper flows
 
 -- the flows are proper, the frames that wait are in order of number, and each frame was sent before the next one, each with a whole packet
-pub record IsHeld (state : SimState) : Type 0 where
+pub record IsSimState (state : SimState) : Type 0 where
   pub proper : AreProper state.chassis
   pub ordered : IsStrictlySortedBy nat_cmp (keys_of state.waiting)
   pub waiting : AllByRecursion (IsWaiting state.next) state.waiting

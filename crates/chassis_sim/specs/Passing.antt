@@ -18,7 +18,7 @@ use Rattle.chassis_sim.specs.declared.out.SimOut.{SimOut}
 use Rattle.chassis_sim.specs.declared.underlay.WaitingFrame.{WaitingFrame}
 use Rattle.chassis_sim.specs.Frames.{Carries}
 use Rattle.chassis_sim.specs.InNames.{all_in_names, next_after_all, frames_sent}
-use Rattle.chassis_sim.specs.State.{SimState, SimView, named, numbered, without}
+use Rattle.chassis_sim.specs.State.{SimState, SimView, at_name, numbered, without}
 
 -- these effects came, and this walk of the chassis
 pub record AddsWalk (chassis : Name) (start : Start) (steps : List Step) (effects : List NetEffect) (before after : SimOut) : Type 0 where
@@ -38,14 +38,14 @@ pub record IsTold (old : SimState) (chassis : Name) (start : Start) (steps : Lis
 -- meets none
 pub data IsInjected (old : SimState) (port : Name) (now : ℕ) (packet : Packet) (before after : SimOut) (new : SimState) : Type 0 where
   through : (chassis : Name) (flows : List Flow) (steps : List Step) (effects : List Effect)
-      → named old.bindings port ≡ Some chassis
-      → named old.chassis chassis ≡ Some flows
+      → at_name old.bindings port ≡ Some chassis
+      → at_name old.chassis chassis ≡ Some flows
       → IsWalkOf flows (Vif port) now packet steps effects
       → IsTold old chassis (Port port) steps effects before after new
       → IsInjected old port now packet before after new
   nowhere : (chassis : Name)
-      → named old.bindings port ≡ Some chassis
-      → named old.chassis chassis ≡ None
+      → at_name old.bindings port ≡ Some chassis
+      → at_name old.chassis chassis ≡ None
       → IsTold old chassis (Port port) [] [] before after new
       → IsInjected old port now packet before after new
 
@@ -58,14 +58,14 @@ arrived state n keep = record state { waiting = cond keep state.waiting (without
 pub data IsArrived (old : SimState) (n : ℕ) (keep : Bool) (now : ℕ) (before after : SimOut) (new : SimState) : Type 0 where
   through : (frame : WaitingFrame) (flows : List Flow) (vni in_key out_key : ℕ) (packet : Packet) (steps : List Step) (effects : List Effect)
       → numbered old.waiting n ≡ Some frame
-      → named old.chassis frame.to ≡ Some flows
+      → at_name old.chassis frame.to ≡ Some flows
       → Carries frame.bytes vni in_key out_key packet
       → IsWalkOf flows (Tunnel vni in_key out_key) now packet steps effects
       → IsTold (arrived old n keep) frame.to (Frame n) steps effects before after new
       → IsArrived old n keep now before after new
   gone : (frame : WaitingFrame)
       → numbered old.waiting n ≡ Some frame
-      → named old.chassis frame.to ≡ None
+      → at_name old.chassis frame.to ≡ None
       → IsTold (arrived old n keep) frame.to (Frame n) [] (Lost ∷ []) before after new
       → IsArrived old n keep now before after new
 
@@ -87,9 +87,9 @@ module _ {T : Type 0} where
   -- what stands after an answer to `inject`: NotBound comes exactly where the port has no binding
   abbrev pub AnswersInject : Result (Unit {0}) SimFault → SimView T → Name → ℕ → Packet → SimOut → SimOut → SimView T → Type 0
   AnswersInject (Ok done) old port now packet before after new = IsInjected old.state port now packet before after new.state
-  AnswersInject (Err (NotBound name)) old port now packet before after new = (name ≡ port) × (named old.state.bindings port ≡ None) × (new ≡ old) × (after ≡ before)
+  AnswersInject (Err (NotBound name)) old port now packet before after new = (name ≡ port) × (at_name old.state.bindings port ≡ None) × (new ≡ old) × (after ≡ before)
   AnswersInject (Err (NoFrame n)) old port now packet before after new = ⊥
-  AnswersInject (Err Memory) old port now packet before after new = IsSome (named old.state.bindings port) × HasOtherFrames old.state new.state × KeepsOut before after
+  AnswersInject (Err Memory) old port now packet before after new = IsSome (at_name old.state.bindings port) × HasOtherFrames old.state new.state × KeepsOut before after
 
   -- what stands after an answer to `arrive`: NoFrame comes exactly where no frame of the number waits
   abbrev pub AnswersArrive : Result (Unit {0}) SimFault → SimView T → ℕ → Bool → ℕ → SimOut → SimOut → SimView T → Type 0

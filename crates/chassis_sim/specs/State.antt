@@ -32,8 +32,8 @@ abbrev pub nothing_held : SimState
 nothing_held = record { chassis = []; bindings = []; names = []; waiting = []; next = 1 }
 
 -- what stands under the name
-abbrev pub named : {X : Type 0} → List (Name × X) → Name → Option X
-named entries name = lookup (same_name name) entries
+abbrev pub at_name : {X : Type 0} → List (Name × X) → Name → Option X
+at_name entries name = lookup (same_name name) entries
 
 -- the keys are the same
 abbrev pub same_pair : KeyPair → KeyPair → Bool
@@ -49,7 +49,7 @@ without state n = record state { waiting = remove_entry (is_at (nat_cmp n)) stat
 
 -- the flow of the chassis at the index
 abbrev pub flow_at : SimState → Name → ℕ → Option Flow
-flow_at state chassis index = option_and_then (λ flows. slice_get flows index) (named state.chassis chassis)
+flow_at state chassis index = option_and_then (λ flows. slice_get flows index) (at_name state.chassis chassis)
 
 module _ (T : Type 0) where
   -- the tables of each chassis, and for how much more there is room

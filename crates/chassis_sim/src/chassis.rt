@@ -7,7 +7,7 @@ ghost use Rattle.ovn_base.specs.lists.Once.{EachOnce};
 ghost use Rattle.ovn_base.specs.names.SameName.{same_name};
 ghost use Rattle.chassis_sim.specs.Changing.{AllAreDeltas, AreReady, AreReplaced, IsDeltaOfAny, IsReadyFor, given_name, gone, come};
 ghost use Rattle.chassis_sim.specs.Settings.{AreSet};
-ghost use Rattle.chassis_sim.specs.State.{named, same_pair};
+ghost use Rattle.chassis_sim.specs.State.{at_name, same_pair};
 ghost use Rattle.chassis_sim.specs.Tables.{flows_held};
 
 use crate::names::Names;
@@ -26,10 +26,10 @@ fn prepare_one<T: Lookup>(
     name: &Name,
     delta: &Delta<Flow>,
 ) -> Result<(), NoMemory>
-    requires { IsDeltaOfAny delta.now (named (flows_held T.flows held.old.entries) name.now) }
+    requires { IsDeltaOfAny delta.now (at_name (flows_held T.flows held.old.entries) name.now) }
     ensures flows { flows_held T.flows held.new.entries ≡ flows_held T.flows held.old.entries }
-    ensures ready { OnOk result (IsReadyFor T.ready delta.now (named held.new.entries name.now)) }
-    ensures others { (other : Name) → same_name name.now other ≡ false → named held.new.entries other ≡ named held.old.entries other }
+    ensures ready { OnOk result (IsReadyFor T.ready delta.now (at_name held.new.entries name.now)) }
+    ensures others { (other : Name) → same_name name.now other ≡ false → at_name held.new.entries other ≡ at_name held.old.entries other }
     ensures spare { spare held.new ≡ spare held.old }
 {
     match held.get_mut(name) {
@@ -57,9 +57,9 @@ pub(crate) fn prepare_each<T: Lookup>(
 
 // Changes the tables of the chassis by the delta, if it has any.
 fn replace_one<T: Lookup>(held: &mut IndexMap<Name, T>, name: &Name, delta: Delta<Flow>)
-    requires { IsReadyFor T.ready delta (named held.old.entries name.now) }
-    ensures replaced { AreReplaced (Some delta) (named (flows_held T.flows held.old.entries) name.now) (named (flows_held T.flows held.new.entries) name.now) }
-    ensures others { (other : Name) → same_name name.now other ≡ false → named held.new.entries other ≡ named held.old.entries other }
+    requires { IsReadyFor T.ready delta (at_name held.old.entries name.now) }
+    ensures replaced { AreReplaced (Some delta) (at_name (flows_held T.flows held.old.entries) name.now) (at_name (flows_held T.flows held.new.entries) name.now) }
+    ensures others { (other : Name) → same_name name.now other ≡ false → at_name held.new.entries other ≡ at_name held.old.entries other }
     ensures spare { spare held.new ≡ spare held.old }
 {
     if let Some(tables) = held.get_mut(name) {
@@ -74,7 +74,7 @@ pub(crate) fn replace_each<T: Lookup>(
 )
     requires once { EachOnce (keys_of deltas) }
     requires ready { AreReady T.ready held.old.entries deltas }
-    ensures replaced { (name : Name) → AreReplaced (named deltas name) (named (flows_held T.flows held.old.entries) name) (named (flows_held T.flows held.new.entries) name) }
+    ensures replaced { (name : Name) → AreReplaced (at_name deltas name) (at_name (flows_held T.flows held.old.entries) name) (at_name (flows_held T.flows held.new.entries) name) }
     ensures spare { spare held.new ≡ spare held.old }
 {
     'deltas: for (name, delta) in deltas {

@@ -7,10 +7,10 @@ ghost use Rattle.ovn_base.specs.lists.Once.{EachOnce};
 ghost use Rattle.inet_packet.specs.Whole.{IsWhole};
 ghost use Rattle.flow_table.specs.declared.flow.Flow.{Flow};
 ghost use Rattle.chassis_sim.specs.Changing.{AllAreDeltas, IsApplied, IsPrepared, IsProperChange};
-ghost use Rattle.chassis_sim.specs.Holding.{IsHeld, RunsAt, RunsFrom};
+ghost use Rattle.chassis_sim.specs.Holding.{IsSimState, RunsAt, RunsFrom};
 ghost use Rattle.chassis_sim.specs.Frames.{CanBeSent, IsSent};
 ghost use Rattle.chassis_sim.specs.Passing.{AnswersInject, AnswersArrive, AnswersLose};
-ghost use Rattle.chassis_sim.specs.State.{nothing_held, named, flow_at};
+ghost use Rattle.chassis_sim.specs.State.{nothing_held, at_name, flow_at};
 
 use crate::change::SimChange;
 use crate::chassis::{add_each, bind_each, name_each, prepare_each, remove_each, replace_each};
@@ -85,7 +85,7 @@ impl<T: Lookup + Drop> Sim<T> {
     /// held. No memory is taken.
     pub fn flow(&self, chassis: &Name, index: usize) -> Option<&Flow>
         ensures flow { option_copied result ≡ flow_at self.now.state chassis.now index }
-        ensures once { (flows : List Flow) → named self.now.state.chassis chassis.now ≡ Some flows → EachOnce flows }
+        ensures once { (flows : List Flow) → at_name self.now.state.chassis chassis.now ≡ Some flows → EachOnce flows }
     {
         match self.chassis.get(chassis) {
             Some(tables) => tables.flow(index),
@@ -96,7 +96,7 @@ impl<T: Lookup + Drop> Sim<T> {
     /// What always holds: the flows are proper, and each frame that waits carries a whole packet and has a number below the
     /// next one. It does nothing.
     pub fn state_holds(&self)
-        ensures { IsHeld self.now.state }
+        ensures { IsSimState self.now.state }
     {
         self.underlay.holds();
     }
@@ -222,7 +222,7 @@ impl<T: Lookup + Drop> Sim<T> {
         now: u64,
     ) -> Result<RunOut, NoMemory>
         requires whole { IsWhole packet }
-        ensures run { IfOk result (RunsAt (named self.now.state.chassis chassis.now) port.now now packet) }
+        ensures run { IfOk result (RunsAt (at_name self.now.state.chassis chassis.now) port.now now packet) }
         ensures can { IfOk result (λ run. AllByRecursion CanBeSent run.effects) }
     {
         let alloc = *self.chassis.allocator();
@@ -235,7 +235,7 @@ impl<T: Lookup + Drop> Sim<T> {
     // What comes of the frame on the chassis: it is lost where no such chassis is held.
     fn run_from(&self, chassis: &Name, bytes: &[u8], now: u64) -> Result<RunOut, NoMemory>
         requires sent { IsSent bytes.now }
-        ensures run { IfOk result (RunsFrom (named self.now.state.chassis chassis.now) bytes.now now) }
+        ensures run { IfOk result (RunsFrom (at_name self.now.state.chassis chassis.now) bytes.now now) }
         ensures can { IfOk result (λ run. AllByRecursion CanBeSent run.effects) }
     {
         let alloc = *self.chassis.allocator();

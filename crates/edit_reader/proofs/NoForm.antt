@@ -5,7 +5,7 @@ use Rattle.ovn_base.specs.declared.name.Name.{Name}
 use Rattle.nb_records.specs.declared.record.Record.{Record}
 use Rattle.edit_reader.specs.declared.event.Event.{Event}
 use Rattle.edit_reader.specs.declared.event.Event.TheVariants.{NotBuilt}
-use Rattle.edit_reader.specs.Reads.{IsEdit, IsChassis, IsBind, IsEntry, IsOfFrame, IsDrain, IsForm, Reads}
+use Rattle.edit_reader.specs.Reads.{IsEdit, IsChassis, IsBind, IsPacketForm, IsOfFrame, IsDrain, IsForm, Reads}
 use Rattle.edit_reader.specs.Reads.IsForm.{edits, adds_chassis, binds, sends, injects, delivers, loses, repeats, drains}
 use Rattle.edit_reader.specs.Reads.Reads.{is_none}
 
@@ -14,8 +14,8 @@ pub record IsOfNone (d : Data) : Type 0 where
   pub edit : (row : Record) → ¬ IsEdit d row
   pub chassis : (name : Name) → ¬ IsChassis d name
   pub bind : (names : Name × Name) → ¬ IsBind d names.0 names.1
-  pub packet : (entry : Name × List ℕ) → ¬ IsEntry (codes "packet") d entry.0 entry.1
-  pub inject : (entry : Name × List ℕ) → ¬ IsEntry (codes "inject") d entry.0 entry.1
+  pub packet : (entry : Name × List ℕ) → ¬ IsPacketForm (codes "packet") d entry.0 entry.1
+  pub inject : (entry : Name × List ℕ) → ¬ IsPacketForm (codes "inject") d entry.0 entry.1
   pub deliver : (n : ℕ) → ¬ IsOfFrame (codes "deliver") d n
   pub lose : (n : ℕ) → ¬ IsOfFrame (codes "lose") d n
   pub repeat : (n : ℕ) → ¬ IsOfFrame (codes "repeat") d n

@@ -23,7 +23,7 @@ use Rattle.nb_records.specs.declared.record.Record.TheVariants as kind
 use Rattle.nb_records.specs.declared.record.Op.TheVariants.{Add}
 use Rattle.edit_reader.specs.declared.event.Event.{Event}
 use Rattle.edit_reader.specs.declared.event.Event.TheVariants.{Edit, Bind, AddChassis, Inject, Deliver, Lose, Repeat, Drain, Packet}
-use Rattle.edit_reader.specs.Reads.{SpellsEntry, AreListed, object_with, port_object, AddsSwitch, AddsPort, Adds, IsEdit, IsChassis, IsBind, IsEntry, IsOfFrame, IsDrain, IsForm, Reads, ReadsLine}
+use Rattle.edit_reader.specs.Reads.{SpellsEntry, AreListed, object_with, port_object, AddsSwitch, AddsPort, Adds, IsEdit, IsChassis, IsBind, IsPacketForm, IsOfFrame, IsDrain, IsForm, Reads, ReadsLine}
 use Rattle.edit_reader.specs.Reads.IsForm.{edits, adds_chassis, binds, sends, injects, delivers, loses, repeats, drains}
 use Rattle.edit_reader.specs.Reads.Reads.{is_form, is_none}
 use Rattle.edit_reader.proofs.Pieces.{not_unknown}
@@ -134,7 +134,7 @@ same_bind d p c q e h k =
 same_bytes : (a b : List ℕ) (e : Result (List ℕ) FromHexError) → e ≡ Ok a → e ≡ Ok b → a ≡ b
 same_bytes a b e h k = let same : Ok a ≡ Ok b = sym h ∙ k in ap (λ (r : Result (List ℕ) FromHexError). result_unwrap_or r a) same
 
-same_entered : (kind : List ℕ) (d : Data) (p q : Name) (a b : List ℕ) → IsEntry kind d p a → IsEntry kind d q b → (p ≡ q) × (a ≡ b)
+same_entered : (kind : List ℕ) (d : Data) (p q : Name) (a b : List ℕ) → IsPacketForm kind d p a → IsPacketForm kind d q b → (p ≡ q) × (a ≡ b)
 same_entered kind d p q a b h k =
     let values = two_values (codes "frame") (codes "port") _ _ _ _ (one_member kind _ _ (sym h.has_frame.members ∙ k.has_frame.members)) in
     let digits = same_text h.digits k.digits values.0 in
@@ -163,8 +163,8 @@ Asks : Form → Data → Event → Type 0
 Asks edit d event = (row : Record) × IsEdit d row × (event ≡ Edit (Add row ∷ []))
 Asks chassis d event = (name : Name) × IsChassis d name × (event ≡ AddChassis name)
 Asks bind d event = (names : Name × Name) × IsBind d names.0 names.1 × (event ≡ Bind names.0 names.1)
-Asks packet d event = (entry : Name × List ℕ) × IsEntry (codes "packet") d entry.0 entry.1 × (event ≡ Packet entry.0 entry.1)
-Asks inject d event = (entry : Name × List ℕ) × IsEntry (codes "inject") d entry.0 entry.1 × (event ≡ Inject entry.0 entry.1)
+Asks packet d event = (entry : Name × List ℕ) × IsPacketForm (codes "packet") d entry.0 entry.1 × (event ≡ Packet entry.0 entry.1)
+Asks inject d event = (entry : Name × List ℕ) × IsPacketForm (codes "inject") d entry.0 entry.1 × (event ≡ Inject entry.0 entry.1)
 Asks deliver d event = (n : ℕ) × IsOfFrame (codes "deliver") d n × (event ≡ Deliver n)
 Asks lose d event = (n : ℕ) × IsOfFrame (codes "lose") d n × (event ≡ Lose n)
 Asks repeat d event = (n : ℕ) × IsOfFrame (codes "repeat") d n × (event ≡ Repeat n)

@@ -146,7 +146,7 @@ pub record SpellsFrame (digits frame : List ℕ) : Type 0 where
   pub plain : IsPlainFrame frame
 
 -- such a frame enters at the port
-pub record IsEntry (kind : List ℕ) (d : Data) (port : Name) (frame : List ℕ) : Type 0 where
+pub record IsPacketForm (kind : List ℕ) (d : Data) (port : Name) (frame : List ℕ) : Type 0 where
   pub digits : List ℕ
   pub has_frame : HasFrame kind d port digits
   pub spells : SpellsFrame digits frame
@@ -164,8 +164,8 @@ pub data IsForm (d : Data) (event : Event) : Type 0 where
   edits : (row : Record) → IsEdit d row → event ≡ Edit (Add row ∷ []) → IsForm d event
   adds_chassis : (name : Name) → IsChassis d name → event ≡ AddChassis name → IsForm d event
   binds : (port chassis : Name) → IsBind d port chassis → event ≡ Bind port chassis → IsForm d event
-  sends : (port : Name) (frame : List ℕ) → IsEntry (codes "packet") d port frame → event ≡ Packet port frame → IsForm d event
-  injects : (port : Name) (frame : List ℕ) → IsEntry (codes "inject") d port frame → event ≡ Inject port frame → IsForm d event
+  sends : (port : Name) (frame : List ℕ) → IsPacketForm (codes "packet") d port frame → event ≡ Packet port frame → IsForm d event
+  injects : (port : Name) (frame : List ℕ) → IsPacketForm (codes "inject") d port frame → event ≡ Inject port frame → IsForm d event
   delivers : (n : ℕ) → IsOfFrame (codes "deliver") d n → event ≡ Deliver n → IsForm d event
   loses : (n : ℕ) → IsOfFrame (codes "lose") d n → event ≡ Lose n → IsForm d event
   repeats : (n : ℕ) → IsOfFrame (codes "repeat") d n → event ≡ Repeat n → IsForm d event

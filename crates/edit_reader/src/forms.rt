@@ -5,7 +5,7 @@ ghost use Rattle.serde_json.specs.Data.{Data};
 ghost use Rattle.serde_json.specs.View.{view};
 ghost use Rattle.ovn_base.specs.declared.name.Name.{Name};
 ghost use Rattle.edit_reader.specs.Finds.{Finds};
-ghost use Rattle.edit_reader.specs.Reads.{HasOperation, AddsSwitch, AddsPort, port_object, HasPort, IsEdit, IsChassis, IsBind, HasFrame, SpellsFrame, IsPlainFrame, IsEntry, IsOfFrame, IsDrain};
+ghost use Rattle.edit_reader.specs.Reads.{HasOperation, AddsSwitch, AddsPort, port_object, HasPort, IsEdit, IsChassis, IsBind, HasFrame, SpellsFrame, IsPlainFrame, IsPacketForm, IsOfFrame, IsDrain};
 
 use crate::entry::listed_entries;
 use crate::members::{
@@ -160,7 +160,7 @@ fn frame_of(alloc: Global, digits: &str) -> Result<Option<Bytes>, NoMemory>
 
 // The port at which a frame enters, and the frame.
 pub fn entered(alloc: Global, value: &Value, kind: &str) -> Result<Option<(Name, Bytes)>, NoMemory>
-    ensures { IfOk result (Finds (λ entry. IsEntry kind.now (view value.now) entry.0 entry.1)) }
+    ensures { IfOk result (Finds (λ entry. IsPacketForm kind.now (view value.now) entry.0 entry.1)) }
 {
     let Some((port, digits)) = frame_texts(value, kind) else {
         return Ok(None);

@@ -9,7 +9,7 @@ use Rattle.geneve_frames.specs.Meaning.{CarriesKeys}
 use Rattle.geneve_frames.specs.Fields.{IsBase, IsOption}
 use Rattle.geneve_frames.specs.declared.layout.BaseFields.{BaseFields}
 use Rattle.geneve_frames.specs.declared.layout.OptionFields.{OptionFields}
-use Rattle.geneve_frames.specs.Layout.{BaseHeader, Begins, TunnelOption, IsTunnelOption, option_bytes}
+use Rattle.geneve_frames.specs.Layout.{BaseHeader, HasHeader, TunnelOption, IsTunnelOption, option_bytes}
 
 abbrev pub IsBytes : List ℕ → Type 0
 IsBytes bytes = (i : ℕ) → get_or bytes i 0 < 256
@@ -52,7 +52,7 @@ option_front a b k f rest la lb lk lf long =
 abbrev pub base_in : (a b c d e f g h : ℕ) → BaseHeader
 base_in a b c d e f g h = record { version = a / 64; words = a % 64; control = b / 128; flags = b % 128; protocol = two c d; vni = three e f g; reserved = h }
 
-pub base_front : (a b c d e f g h : ℕ) (rest : List ℕ) → a < 256 → b < 256 → c < 256 → d < 256 → e < 256 → f < 256 → g < 256 → h < 256 → Begins (a ∷ b ∷ c ∷ d ∷ e ∷ f ∷ g ∷ h ∷ rest) (base_in a b c d e f g h) rest
+pub base_front : (a b c d e f g h : ℕ) (rest : List ℕ) → a < 256 → b < 256 → c < 256 → d < 256 → e < 256 → f < 256 → g < 256 → h < 256 → HasHeader (a ∷ b ∷ c ∷ d ∷ e ∷ f ∷ g ∷ h ∷ rest) (base_in a b c d e f g h) rest
 base_front a b c d e f g h rest la lb lc ld le lf lg lh =
     let protocol : c ∷ d ∷ [] ≡ bytes_high_first 2 (two c d) = two_bytes c d lc ld in
     let network : e ∷ f ∷ g ∷ [] ≡ bytes_high_first 3 (three e f g) = three_bytes e f g le lf lg in
@@ -74,9 +74,9 @@ control_bit b lb = grind (arith, nat_tests)
 pub base_found : (frame front rest : List ℕ) (fields : BaseFields) → IsBytes frame → 8 ≤ length frame → front ≡ take 8 frame → rest ≡ drop 8 frame
     → fields.version ≡ get_or front 0 0 / 64 → fields.options_length ≡ 4 * (get_or front 0 0 % 64) → fields.is_control ≡ nat_le 128 (get_or front 1 0)
     → fields.protocol ≡ big_number 2 (take (length front - 2) (drop 2 front)) → fields.vni ≡ big_number 3 (take (length front - 4) (drop 4 front))
-    → (base : BaseHeader) × Begins frame base rest × IsBase fields base
+    → (base : BaseHeader) × HasHeader frame base rest × IsBase fields base
 base_found (a ∷ b ∷ c ∷ d ∷ e ∷ f ∷ g ∷ h ∷ tail) front rest fields bytes long front-is rest-is version words control protocol network =
-    let begins : Begins (a ∷ b ∷ c ∷ d ∷ e ∷ f ∷ g ∷ h ∷ tail) (base_in a b c d e f g h) tail = base_front a b c d e f g h tail (bytes 0) (bytes 1) (bytes 2) (bytes 3) (bytes 4) (bytes 5) (bytes 6) (bytes 7) in
+    let begins : HasHeader (a ∷ b ∷ c ∷ d ∷ e ∷ f ∷ g ∷ h ∷ tail) (base_in a b c d e f g h) tail = base_front a b c d e f g h tail (bytes 0) (bytes 1) (bytes 2) (bytes 3) (bytes 4) (bytes 5) (bytes 6) (bytes 7) in
     let protocol-is = protocol ∙ ap (λ (t : List ℕ). big_number 2 (take (length t - 2) (drop 2 t))) front-is in
     let network-is = network ∙ ap (λ (t : List ℕ). big_number 3 (take (length t - 4) (drop 4 t))) front-is in (
       base_in a b c d e f g h,

@@ -2,9 +2,9 @@
 use Rattle.std.proofs.Common.{◌≡◌, ◌≢◌, ℕ, ◌+◌, ◌*◌, ◌/◌, ◌%◌, ◌<◌, ◌≤◌, true, false, List, [], ◌∷◌, ◌++◌, length, slice_get, Some, Result, Ok, Err, refl, sym, ap, subst, ◌∙◌, arith, inl, inr}
 use Rattle.std.proofs.lemmas.Bool.{cases_lt}
 use Rattle.std.specs.List.{list_any, filter}
-use Rattle.geneve_frames.specs.Layout.{BaseHeader, TunnelOption, Begins, IsLaidOut}
+use Rattle.geneve_frames.specs.Layout.{BaseHeader, TunnelOption, HasHeader, IsLaidOut}
 use Rattle.geneve_frames.specs.Meaning.{Spells, CarriesKeys, HasBase, HasOptions, Shows, place, IsClear, IsFirst, is_ovn, is_unknown_critical}
-use Rattle.geneve_frames.specs.Answers.{Answers, Gives}
+use Rattle.geneve_frames.specs.Answers.{IsReadAs, GivesParts}
 use Rattle.geneve_frames.specs.declared.reading.View.{View}
 use Rattle.geneve_frames.specs.declared.fault.GeneveFault.{GeneveFault}
 use Rattle.geneve_frames.specs.declared.fault.GeneveFault.TheVariants.{Short, Version, Control, Protocol, OptionsCut, UnknownCritical, NoOvnOption, TwoOvnOptions}
@@ -59,16 +59,16 @@ pub clear_1 : (frame : List ℕ) → 8 ≤ length frame → IsClear 1 frame
 clear_1 frame long = clear_more frame 0 Short refl (clear_0 frame) (λ short. omega arith)
 
 -- a base header of which something holds, where it doesn't
-no_base : (frame : List ℕ) (base : BaseHeader) (rest : List ℕ) (P : BaseHeader → Type 0) → Begins frame base rest → ¬ (P base) → ¬ (HasBase frame P)
+no_base : (frame : List ℕ) (base : BaseHeader) (rest : List ℕ) (P : BaseHeader → Type 0) → HasHeader frame base rest → ¬ (P base) → ¬ (HasBase frame P)
 no_base frame base rest P begins not_base has = not_base (subst P (one_base frame has.0 base has.1 rest has.2 begins).0 has.3)
 
-pub clear_2 : (frame : List ℕ) (base : BaseHeader) (rest : List ℕ) → 8 ≤ length frame → Begins frame base rest → base.version ≡ 0 → IsClear 2 frame
+pub clear_2 : (frame : List ℕ) (base : BaseHeader) (rest : List ℕ) → 8 ≤ length frame → HasHeader frame base rest → base.version ≡ 0 → IsClear 2 frame
 clear_2 frame base rest long begins version = clear_more frame 1 Version refl (clear_1 frame long) (no_base frame base rest (λ b. b.version ≢ 0) begins (λ other. other version))
 
-pub clear_3 : (frame : List ℕ) (base : BaseHeader) (rest : List ℕ) → 8 ≤ length frame → Begins frame base rest → base.version ≡ 0 → base.control ≡ 0 → IsClear 3 frame
+pub clear_3 : (frame : List ℕ) (base : BaseHeader) (rest : List ℕ) → 8 ≤ length frame → HasHeader frame base rest → base.version ≡ 0 → base.control ≡ 0 → IsClear 3 frame
 clear_3 frame base rest long begins version control = clear_more frame 2 Control refl (clear_2 frame base rest long begins version) (no_base frame base rest (λ b. b.control ≡ 1) begins (λ other. omega arith))
 
-pub clear_4 : (frame : List ℕ) (base : BaseHeader) (rest : List ℕ) → 8 ≤ length frame → Begins frame base rest → base.version ≡ 0 → base.control ≡ 0 → base.protocol ≡ 0x6558 → IsClear 4 frame
+pub clear_4 : (frame : List ℕ) (base : BaseHeader) (rest : List ℕ) → 8 ≤ length frame → HasHeader frame base rest → base.version ≡ 0 → base.control ≡ 0 → base.protocol ≡ 0x6558 → IsClear 4 frame
 clear_4 frame base rest long begins version control protocol = clear_more frame 3 Protocol refl (clear_3 frame base rest long begins version control) (no_base frame base rest (λ b. b.protocol ≢ 0x6558) begins (λ other. other protocol))
 
 -- options of which something holds, where it doesn't
@@ -83,7 +83,7 @@ pub record IsSound (frame : List ℕ) (base : BaseHeader) (options : List Tunnel
   pub protocol : base.protocol ≡ 0x6558
 
 -- a frame has a base header
-pub is_long : (frame : List ℕ) (base : BaseHeader) (rest : List ℕ) → Begins frame base rest → 8 ≤ length frame
+pub is_long : (frame : List ℕ) (base : BaseHeader) (rest : List ℕ) → HasHeader frame base rest → 8 ≤ length frame
 is_long frame base rest begins = omega (arith, ap length begins.whole)
 
 pub clear_5 : (frame : List ℕ) (base : BaseHeader) (options : List TunnelOption) (inner : List ℕ) → IsSound frame base options inner → IsClear 5 frame
@@ -149,10 +149,10 @@ one_spelled frame vni in_key out_key inner other_vni other_in other_out other s 
 
 -- ---- the answer
 
-pub answers_only : (frame : List ℕ) (result : Result View GeneveFault) → Answers frame result → (vni in_key out_key : ℕ) (inner : List ℕ) → Spells frame vni in_key out_key inner → Gives result vni in_key out_key inner
+pub answers_only : (frame : List ℕ) (result : Result View GeneveFault) → IsReadAs frame result → (vni in_key out_key : ℕ) (inner : List ℕ) → Spells frame vni in_key out_key inner → GivesParts result vni in_key out_key inner
 answers_only frame (Ok view) answers vni in_key out_key inner spells = one_spelled frame view.vni view.in_key view.out_key view.inner.now vni in_key out_key inner answers spells
 answers_only frame (Err fault) answers vni in_key out_key inner spells = spelled_none frame vni in_key out_key inner fault spells answers
 
-pub answers_first : (frame : List ℕ) (result : Result View GeneveFault) → Answers frame result → (fault : GeneveFault) → IsFirst fault frame → result ≡ Err fault
+pub answers_first : (frame : List ℕ) (result : Result View GeneveFault) → IsReadAs frame result → (fault : GeneveFault) → IsFirst fault frame → result ≡ Err fault
 answers_first frame (Ok view) answers fault first = absurd (spelled_none frame view.vni view.in_key view.out_key view.inner.now fault answers first)
 answers_first frame (Err other) answers fault first = ap (λ (f : GeneveFault). Err f) (first_is_one frame other fault answers first)

@@ -2,7 +2,7 @@
 use Rattle.std.proofs.Common.{◌≡◌, ℕ, ◌+◌, ◌*◌, ◌/◌, ◌%◌, ◌<◌, List, [], ◌∷◌, ◌++◌, length, take, drop, refl, sym, ap, ◌∙◌, arith, append_assoc}
 use Rattle.std.proofs.lemmas.List.{take_at, drop_at, append-nil}
 use Rattle.std.specs.List.{flat_map, AllByRecursion}
-use Rattle.geneve_frames.specs.Layout.{BaseHeader, Begins, TunnelOption, IsTunnelOption, option_bytes, IsLaidOut}
+use Rattle.geneve_frames.specs.Layout.{BaseHeader, HasHeader, TunnelOption, IsTunnelOption, option_bytes, IsLaidOut}
 
 -- fronts of one length are one
 pub same_fronts : (a b x y : List ℕ) → length a ≡ length b → a ++ x ≡ b ++ y → (a ≡ b) × (x ≡ y)
@@ -50,7 +50,7 @@ one_option o p x y io ip e =
     (same_option o p (two_one o.class p.class io.class ip.class q.0 q.1) q.2 reserved words rest.0, rest.1)
 
 -- the base header is one, and what follows it
-pub one_base : (frame : List ℕ) (o p : BaseHeader) (x y : List ℕ) → Begins frame o x → Begins frame p y → (o ≡ p) × (x ≡ y)
+pub one_base : (frame : List ℕ) (o p : BaseHeader) (x y : List ℕ) → HasHeader frame o x → HasHeader frame p y → (o ≡ p) × (x ≡ y)
 one_base frame o p x y bo bp =
     let q = cells (64 * o.version + o.words) (128 * o.control + o.flags) (o.protocol / 256 % 256) (o.protocol % 256) (64 * p.version + p.words) (128 * p.control + p.flags) (p.protocol / 256 % 256) (p.protocol % 256)
     ((o.vni / 65536 % 256) ∷ (o.vni / 256 % 256) ∷ (o.vni % 256) ∷ o.reserved ∷ x) ((p.vni / 65536 % 256) ∷ (p.vni / 256 % 256) ∷ (p.vni % 256) ∷ p.reserved ∷ y) (sym bo.whole ∙ bp.whole) in

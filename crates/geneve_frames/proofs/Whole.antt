@@ -4,7 +4,7 @@ use Rattle.std.proofs.lemmas.Bool.Decides.{nat_tests}
 use Rattle.std.proofs.lemmas.List.{take-append-drop, length-take}
 use Rattle.std.specs.Prelude.{nat_le}
 use Rattle.std.specs.List.{filter}
-use Rattle.geneve_frames.specs.Layout.{BaseHeader, TunnelOption, Begins, AreOptions}
+use Rattle.geneve_frames.specs.Layout.{BaseHeader, TunnelOption, HasHeader, AreOptions}
 use Rattle.geneve_frames.specs.Meaning.{IsFirst, is_ovn}
 use Rattle.geneve_frames.specs.Fields.{IsBase, IsFound, Sums}
 use Rattle.geneve_frames.specs.declared.fault.GeneveFault.TheVariants.{NoOvnOption, TwoOvnOptions}
@@ -23,7 +23,7 @@ two_are (o ∷ options) long = (o, options, refl)
 -- what the code knows once it has looked at all options
 pub record Looked (frame rest options inner : List ℕ) (fields : BaseFields) (survey : Survey) : Type 0 where
   pub base : BaseHeader
-  pub begins : Begins frame base rest
+  pub begins : HasHeader frame base rest
   pub is_base : IsBase fields base
   pub version : fields.version ≡ 0
   pub control : fields.is_control ≡ false
@@ -46,7 +46,7 @@ looked_sound frame rest options inner fields survey looked =
     let words = looked.is_base.options_length in
     record {
       laid_out = record {
-        begins = subst (λ (t : List ℕ). Begins frame looked.base t) parts looked.begins;
+        begins = subst (λ (t : List ℕ). HasHeader frame looked.base t) parts looked.begins;
         each = looked.are.each;
         fills = omega (arith, ap length looked.are.whole, ap length looked.front, length-take n rest, looked.fits, words);
       };

@@ -54,12 +54,12 @@ pub record AreOptions (bytes : List ℕ) (options : List TunnelOption) : Type 0 
   pub whole : bytes ≡ flat_map option_bytes options
 
 -- the frame begins with this base header
-pub record Begins (frame : List ℕ) (base : BaseHeader) (rest : List ℕ) : Type 0 where
+pub record HasHeader (frame : List ℕ) (base : BaseHeader) (rest : List ℕ) : Type 0 where
   pub fits : IsBaseHeader base
   pub whole : frame ≡ base_bytes base ++ rest
 
 -- the frame is this base header, these options, which are as long as the header says, and the inner frame
 pub record IsLaidOut (frame : List ℕ) (base : BaseHeader) (options : List TunnelOption) (inner : List ℕ) : Type 0 where
-  pub begins : Begins frame base (flat_map option_bytes options ++ inner)
+  pub begins : HasHeader frame base (flat_map option_bytes options ++ inner)
   pub each : AllByRecursion IsTunnelOption options
   pub fills : length (flat_map option_bytes options) ≡ 4 * base.words

@@ -2,7 +2,7 @@
 use Rattle.std.specs.Prelude.{◌≡◌, ◌≢◌, ℕ, ◌+◌, ◌*◌, ◌^◌, ◌<◌, ◌≤◌, ◌==◌, ◌&&◌, nat_le, Bool, true, false, not, List, [], ◌∷◌, ◌++◌, length, filter, ⊤}
 use Rattle.std.specs.List.{list_any}
 use Rattle.std.specs.Int.{bytes_high_first}
-use Rattle.geneve_frames.specs.Layout.{BaseHeader, TunnelOption, Begins, IsLaidOut}
+use Rattle.geneve_frames.specs.Layout.{BaseHeader, TunnelOption, HasHeader, IsLaidOut}
 use Rattle.geneve_frames.specs.declared.fault.GeneveFault.{GeneveFault}
 use Rattle.geneve_frames.specs.declared.fault.GeneveFault.TheVariants.{Short, Version, Control, Protocol, OptionsCut, UnknownCritical, NoOvnOption, TwoOvnOptions}
 
@@ -43,7 +43,7 @@ canon vni in_key out_key inner = 0x02 ∷ 0x40 ∷ 0x65 ∷ 0x58 ∷ (bytes_high
 
 -- the frame begins with a base header of which this holds
 abbrev pub HasBase : List ℕ → (BaseHeader → Type 0) → Type 0
-HasBase frame P = (base : BaseHeader) × (rest : List ℕ) × Begins frame base rest × P base
+HasBase frame P = (base : BaseHeader) × (rest : List ℕ) × HasHeader frame base rest × P base
 
 -- the frame has whole options of which this holds
 abbrev pub HasOptions : List ℕ → (List TunnelOption → Type 0) → Type 0

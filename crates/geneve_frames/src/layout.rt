@@ -1,7 +1,7 @@
 //! The base header and one option, as they stand in the bytes.
 
 ghost use Rattle.std.specs.Prelude.{◌≡◌, ◌<◌, List, ℕ, ◌++◌, length, IfSome, IfNone};
-ghost use Rattle.geneve_frames.specs.Layout.{BaseHeader, TunnelOption, Begins, IsTunnelOption, option_bytes};
+ghost use Rattle.geneve_frames.specs.Layout.{BaseHeader, TunnelOption, HasHeader, IsTunnelOption, option_bytes};
 ghost use Rattle.geneve_frames.specs.Fields.{IsBase, IsOption};
 
 use byteorder::{BigEndian, ByteOrder};
@@ -31,7 +31,7 @@ pub struct BaseFields {
 pub fn base_of(frame: &[u8]) -> Option<(BaseFields, &[u8])>
     ensures cut { IfNone result (length frame.now < 8) }
     ensures found { IfSome result (λ found. (base : BaseHeader)
-        × Begins frame.now base found.1.now × IsBase found.0 base) }
+        × HasHeader frame.now base found.1.now × IsBase found.0 base) }
 {
     if frame.len() < BASE_LENGTH {
         return None;

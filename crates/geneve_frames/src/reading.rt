@@ -2,7 +2,7 @@
 
 ghost use Rattle.std.specs.Prelude.{◌≡◌, ℕ, List, IfOk, IfErr};
 ghost use Rattle.geneve_frames.specs.Meaning.{Spells, IsFirst};
-ghost use Rattle.geneve_frames.specs.Answers.{Answers, Gives};
+ghost use Rattle.geneve_frames.specs.Answers.{IsReadAs, GivesParts};
 
 use crate::fault::GeneveFault;
 use crate::layout::base_of;
@@ -26,7 +26,7 @@ pub struct View<'a> {
 
 /// The parts, or the first fault.
 fn answer<'a>(frame: &'a [u8]) -> Result<View<'a>, GeneveFault>
-    ensures { Answers frame.now result }
+    ensures { IsReadAs frame.now result }
 {
     let Some((base, rest)) = base_of(frame) else {
         return Err(GeneveFault::Short);
@@ -70,7 +70,7 @@ pub fn read<'a>(frame: &'a [u8]) -> Result<View<'a>, GeneveFault>
     // What is read is spelled so, and what is spelled so is read.
     ensures spelled { IfOk result (λ view. Spells frame.now view.vni view.in_key view.out_key view.inner.now) }
     ensures only { (vni in_key out_key : ℕ) (inner : List ℕ)
-        → Spells frame.now vni in_key out_key inner → Gives result vni in_key out_key inner }
+        → Spells frame.now vni in_key out_key inner → GivesParts result vni in_key out_key inner }
 
     // A fault is the first that the bytes show, and the first that they show is answered.
     ensures fault { IfErr result (λ fault. IsFirst fault frame.now) }

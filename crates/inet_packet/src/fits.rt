@@ -1,6 +1,6 @@
 //! Whether a cube holds a packet with its registers.
 ghost use Rattle.std.specs.Prelude.{◌≡◌, ◌↔◌, IsTrue};
-ghost use Rattle.inet_packet.specs.Fits.{Fits, EntryFits, FitsPlace, FitsZones, FitsState, FitsEther, FitsIp, FitsPorts, FitsIcmp, FitsArp, CubeFits};
+ghost use Rattle.inet_packet.specs.Fits.{BitsFit, EntryFits, FitsPlace, FitsZones, FitsState, FitsEther, FitsIp, FitsPorts, FitsIcmp, FitsArp, CubeFits};
 
 use crate::cube::{Bits, Cube};
 use crate::packet::{Body, Packet};
@@ -9,7 +9,7 @@ use crate::regs::{At, Regs};
 impl Bits {
     /// Whether the bits that count have the value in `n`.
     pub fn fits(&self, n: u64) -> bool
-        ensures { IsTrue result ↔ Fits self.now n }
+        ensures { IsTrue result ↔ BitsFit self.now n }
     {
         n & self.mask == self.value
     }

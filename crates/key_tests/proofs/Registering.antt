@@ -11,7 +11,7 @@ use Rattle.ovn_base.specs.declared.name.Name.{Name}
 use Rattle.ovn_base.specs.names.ByName.{at}
 use Rattle.ovn_base.proofs.AmongLaws.{among_none}
 use Rattle.tunnel_keys.specs.Births.{AreKeysBorn}
-use Rattle.tunnel_keys.specs.Edits.{IsAfter, IsEdit, IsLive}
+use Rattle.tunnel_keys.specs.Edits.{IsAfter, IsKeyEdit, IsLive}
 use Rattle.tunnel_keys.specs.Keys.{Keys, IsKeys, settled}
 use Rattle.tunnel_keys.specs.Owners.{birth_in}
 use Rattle.tunnel_keys.specs.declared.owner.KeyOwner.{KeyOwner}
@@ -50,10 +50,10 @@ module _ (keys : Keys) (last : ℕ) (port : Option KeyOwner) (r : IsRegister key
     later : last < birth.0
     later = omega (arith, is_next)
 
-    pub datapath_comes : (name : Name) → is_some (option_map (λ d. d.key) (at keys.datapaths name)) ≡ false → IsEdit keys (Datapath name birth ∷ []) []
+    pub datapath_comes : (name : Name) → is_some (option_map (λ d. d.key) (at keys.datapaths name)) ≡ false → IsKeyEdit keys (Datapath name birth ∷ []) []
     datapath_comes name absent = datapath_fits keys hold name birth (datapath_new keys last r.born birth later name) (datapath_bare keys last r.born birth later name) (nothing (λ d. d.key) (at keys.datapaths name) absent)
 
-    pub port_comes : (datapath name : Name) → is_some (option_map (λ d. d.key) (at keys.datapaths datapath)) ≡ true → is_some (option_map (λ p. p.key) (at keys.ports name)) ≡ false → IsEdit keys (Port datapath name birth ∷ []) []
+    pub port_comes : (datapath name : Name) → is_some (option_map (λ d. d.key) (at keys.datapaths datapath)) ≡ true → is_some (option_map (λ p. p.key) (at keys.ports name)) ≡ false → IsKeyEdit keys (Port datapath name birth ∷ []) []
     port_comes datapath name there absent = port_fits keys hold datapath name birth (port_new keys last r.born birth later datapath name) (something (λ d. d.key) (at keys.datapaths datapath) there) (nothing (λ p. p.key) (at keys.ports name) absent)
 
     module _ (owner : KeyOwner) (born : birth_in owner ≡ birth) (after : Keys) (made : IsAfter keys (owner ∷ []) [] after) where
@@ -84,10 +84,10 @@ module _ (keys : Keys) (last : ℕ) (port : Option KeyOwner) (r : IsRegister key
     last_live : IsLivePort keys owner
     last_live = subst (λ o. IfSome o (λ p. IsLivePort keys p)) is_last r.live
 
-    pub last_goes : IsEdit keys [] (owner ∷ [])
+    pub last_goes : IsKeyEdit keys [] (owner ∷ [])
     last_goes =
         let live = last_live in
-        subst (λ o. IsEdit keys [] (o ∷ [])) (sym live.is) (port_goes keys hold live.datapath live.name live.birth (subst (λ o. IsLive keys o) live.is live.live))
+        subst (λ o. IsKeyEdit keys [] (o ∷ [])) (sym live.is) (port_goes keys hold live.datapath live.name live.birth (subst (λ o. IsLive keys o) live.is live.live))
 
     pub last_gone : (after : Keys) → IsAfter keys [] (owner ∷ []) after → IsRegister after last None
     last_gone after made = record { born = keys_born keys [] (owner ∷ []) after last hold made.hold made.gives r.born (λ o m. absurd (among_none o m)); live = tt }

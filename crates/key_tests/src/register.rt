@@ -2,7 +2,7 @@
 //! edit fits the keys, and no test has to prove that it does.
 ghost use Rattle.std.specs.Prelude.{◌≡◌, ◌≤◌, OnOk, OnErr};
 ghost use Rattle.ovn_base.specs.declared.limits.TheConstants.{MAX_DATAPATH_KEY, MAX_PORT_KEY};
-ghost use Rattle.tunnel_keys.specs.Edits.{IsEdit, IsAfter};
+ghost use Rattle.tunnel_keys.specs.Edits.{IsKeyEdit, IsAfter};
 
 use ovn_base::address::Birth;
 use ovn_base::memory::NoMemory;
@@ -107,7 +107,7 @@ impl Register {
 
 // Does an edit that fits the keys, if there are keys for those who come.
 fn edit(keys: &mut KeyStore, added: &[KeyOwner], removed: &[KeyOwner]) -> Result<(), KeyFault>
-    requires { IsEdit keys.old added.now removed.now }
+    requires { IsKeyEdit keys.old added.now removed.now }
     ensures after { OnOk result (IsAfter keys.old added.now removed.now keys.new) }
     ensures kept { OnErr result (keys.new ≡ keys.old) }
 {

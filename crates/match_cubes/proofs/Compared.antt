@@ -5,12 +5,12 @@ use Rattle.match_language.specs.declared.expr.Rel.{Rel}
 use Rattle.match_language.specs.declared.expr.Rel.TheVariants as r
 use Rattle.match_language.specs.declared.expr.Value.{Value}
 use Rattle.match_language.specs.declared.field.Field.{Field}
-use Rattle.match_cubes.specs.Asked.{width}
+use Rattle.match_cubes.specs.Asked.{bit_width}
 use Rattle.match_cubes.specs.Points.{Setting}
 use Rattle.match_cubes.specs.Cubes.{ordered, alternatives}
 use Rattle.match_cubes.specs.Width.{saturated}
 
-pub alternatives_order : (s : Setting) (f : Field) (rel : Rel) (vs : List Value) → rel ≢ r.Eq → rel ≢ r.Ne → alternatives s f rel vs ≡ ordered (width f) rel vs
+pub alternatives_order : (s : Setting) (f : Field) (rel : Rel) (vs : List Value) → rel ≢ r.Eq → rel ≢ r.Ne → alternatives s f rel vs ≡ ordered (bit_width f) rel vs
 unfolding alternatives
 alternatives_order s f r.Eq vs a b = absurd (a refl)
 alternatives_order s f r.Ne vs a b = absurd (b refl)

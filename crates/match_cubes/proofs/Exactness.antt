@@ -19,16 +19,16 @@ use Rattle.match_language.specs.declared.expr.Value.TheVariants as v
 use Rattle.match_language.specs.declared.field.Field.{Field}
 use Rattle.match_language.specs.declared.field.Field.TheVariants as f
 use Rattle.match_language.specs.Constants.{prefix_mask}
-use Rattle.match_language.specs.Tables.{is_port}
+use Rattle.match_language.specs.Tables.{is_port_field}
 use Rattle.match_cubes.specs.declared.sets.SetEntry.{SetEntry}
 use Rattle.match_cubes.specs.declared.sets.SetEntry.TheVariants as entry
 use Rattle.match_cubes.specs.Ternary.{fits, under, any_bits, turned_bits, meet_bits, meets}
-use Rattle.match_cubes.specs.Asked.{number_in, width, all_packets, is_in, in_one, meet}
+use Rattle.match_cubes.specs.Asked.{number_in, bit_width, all_packets, is_in_cube, in_one, meet}
 use Rattle.match_cubes.specs.Inwards.{meaning}
 use Rattle.match_cubes.specs.Points.{Setting, entry_bits, key_bits, port_bits, points_of, points}
 use Rattle.match_cubes.specs.Holds.{equals, is_ordered, stands_in, has_needs, all_true, one_true, truth}
 use Rattle.match_cubes.specs.Cubes.{unlike, ordered, alternatives, comparing, meets_with, all_cubes, constant_cubes, as_cubes, cubes_in}
-use Rattle.match_cubes.specs.Suited.{suits, are_suited, IsInRange}
+use Rattle.match_cubes.specs.Suited.{suits, are_suited, HasFieldsInRange}
 use Rattle.match_cubes.proofs.TernaryLaws.{any_fits, meet_any, IsWithin, under_within, turned_any}
 use Rattle.match_cubes.proofs.Alternatives.{any_map, any_same, any_and, any_meets}
 use Rattle.match_cubes.proofs.PrefixLaws.{prefixes_any}
@@ -48,50 +48,50 @@ points_cat w [] qs h k = k
 points_cat w (Some b ∷ ps) qs h k = (h.0, points_cat w ps qs h.1 k)
 points_cat w (None ∷ ps) qs h k = points_cat w ps qs h k
 
-port_width : (g : Field) → is_port g ≡ true → width g ≡ 16
+port_width : (g : Field) → is_port_field g ≡ true → bit_width g ≡ 16
 port_width f.Inport h = refl
 port_width f.Outport h = refl
 port_width _ h = absurd cc
 
-key_point : (g : Field) (k : Option ℕ) → is_port g ≡ true → ArePoints (width g) (key_bits k ∷ [])
-key_point g (Some k) h = (under_within (width g) k 0xffff (subst (λ (w : ℕ). 0xffff < 2 ^ w) (sym (port_width g h)) (omega arith)), tt)
+key_point : (g : Field) (k : Option ℕ) → is_port_field g ≡ true → ArePoints (bit_width g) (key_bits k ∷ [])
+key_point g (Some k) h = (under_within (bit_width g) k 0xffff (subst (λ (w : ℕ). 0xffff < 2 ^ w) (sym (port_width g h)) (omega arith)), tt)
 key_point g None h = tt
 
-ports_points : (s : Setting) (g : Field) (names : List (List ℕ)) → is_port g ≡ true → ArePoints (width g) (map (port_bits s) names)
+ports_points : (s : Setting) (g : Field) (names : List (List ℕ)) → is_port_field g ≡ true → ArePoints (bit_width g) (map (port_bits s) names)
 ports_points s g [] h = tt
-ports_points s g (n ∷ ns) h = points_cat (width g) (port_bits s n ∷ []) (map (port_bits s) ns) (key_point g (s.key n) h) (ports_points s g ns h)
+ports_points s g (n ∷ ns) h = points_cat (bit_width g) (port_bits s n ∷ []) (map (port_bits s) ns) (key_point g (s.key n) h) (ports_points s g ns h)
 
-ip_point : (g : Field) (a len : ℕ) (b : Bool) → (width g == 32) ≡ b → ArePoints (width g) (cond b (Some (under a (prefix_mask len))) None ∷ [])
-ip_point g a len true h = (under_within (width g) a (prefix_mask len) (subst (λ (w : ℕ). prefix_mask len < 2 ^ w) (sym (eqb-true (width g) 32 h)) (omega (arith, pow_pos (32 - len)))), tt)
+ip_point : (g : Field) (a len : ℕ) (b : Bool) → (bit_width g == 32) ≡ b → ArePoints (bit_width g) (cond b (Some (under a (prefix_mask len))) None ∷ [])
+ip_point g a len true h = (under_within (bit_width g) a (prefix_mask len) (subst (λ (w : ℕ). prefix_mask len < 2 ^ w) (sym (eqb-true (bit_width g) 32 h)) (omega (arith, pow_pos (32 - len)))), tt)
 ip_point g a len false h = tt
 
-mac_point : (g : Field) (n : ℕ) (b : Bool) → (width g == 48) ≡ b → ArePoints (width g) (cond b (Some (under n 0xffff_ffff_ffff)) None ∷ [])
-mac_point g n true h = (under_within (width g) n 0xffff_ffff_ffff (subst (λ (w : ℕ). 0xffff_ffff_ffff < 2 ^ w) (sym (eqb-true (width g) 48 h)) (omega arith)), tt)
+mac_point : (g : Field) (n : ℕ) (b : Bool) → (bit_width g == 48) ≡ b → ArePoints (bit_width g) (cond b (Some (under n 0xffff_ffff_ffff)) None ∷ [])
+mac_point g n true h = (under_within (bit_width g) n 0xffff_ffff_ffff (subst (λ (w : ℕ). 0xffff_ffff_ffff < 2 ^ w) (sym (eqb-true (bit_width g) 48 h)) (omega arith)), tt)
 mac_point g n false h = tt
 
-entry_point : (g : Field) (e : SetEntry) → ArePoints (width g) (entry_bits g e ∷ [])
-entry_point g (entry.Ip c) = ip_point g c.addr.0 c.len (width g == 32) refl
-entry_point g (entry.Ether m) = mac_point g (mac_number m) (width g == 48) refl
+entry_point : (g : Field) (e : SetEntry) → ArePoints (bit_width g) (entry_bits g e ∷ [])
+entry_point g (entry.Ip c) = ip_point g c.addr.0 c.len (bit_width g == 32) refl
+entry_point g (entry.Ether m) = mac_point g (mac_number m) (bit_width g == 48) refl
 
-entries_points : (g : Field) (es : List SetEntry) → ArePoints (width g) (map (entry_bits g) es)
+entries_points : (g : Field) (es : List SetEntry) → ArePoints (bit_width g) (map (entry_bits g) es)
 entries_points g [] = tt
-entries_points g (e ∷ es) = points_cat (width g) (entry_bits g e ∷ []) (map (entry_bits g) es) (entry_point g e) (entries_points g es)
+entries_points g (e ∷ es) = points_cat (bit_width g) (entry_bits g e ∷ []) (map (entry_bits g) es) (entry_point g e) (entries_points g es)
 
-value_points : (s : Setting) (g : Field) (x : Value) → suits g x ≡ true → ArePoints (width g) (points_of s g x)
+value_points : (s : Setting) (g : Field) (x : Value) → suits g x ≡ true → ArePoints (bit_width g) (points_of s g x)
 value_points s g (v.Number n m) h =
-    let parts = and_parts (not (is_port g)) (nat_lt n (2 ^ width g) && nat_lt m (2 ^ width g)) h in
-    let below = and_parts (nat_lt n (2 ^ width g)) (nat_lt m (2 ^ width g)) parts.1 in
-    (under_within (width g) n m (ltb-true m (2 ^ width g) below.1), tt)
+    let parts = and_parts (not (is_port_field g)) (nat_lt n (2 ^ bit_width g) && nat_lt m (2 ^ bit_width g)) h in
+    let below = and_parts (nat_lt n (2 ^ bit_width g)) (nat_lt m (2 ^ bit_width g)) parts.1 in
+    (under_within (bit_width g) n m (ltb-true m (2 ^ bit_width g) below.1), tt)
 value_points s g (v.Port text) h = key_point g (s.key text) h
 value_points s g (v.Set name) h = entries_points g (s.members.entries name)
 value_points s g (v.Group name) h = ports_points s g (s.members.ports name) h
 
-are_points : (s : Setting) (g : Field) (xs : List Value) → list_all (suits g) xs ≡ true → ArePoints (width g) (points s g xs)
+are_points : (s : Setting) (g : Field) (xs : List Value) → list_all (suits g) xs ≡ true → ArePoints (bit_width g) (points s g xs)
 unfolding points
 are_points s g [] h = tt
 are_points s g (x ∷ xs) h =
     let parts = and_parts (suits g x) (list_all (suits g) xs) h in
-    points_cat (width g) (points_of s g x) (flat_map (points_of s g) xs) (value_points s g x parts.0) (are_points s g xs parts.1)
+    points_cat (bit_width g) (points_of s g x) (flat_map (points_of s g) xs) (value_points s g x parts.0) (are_points s g xs parts.1)
 
 -- ---- what is one of the values, and what is none of them
 
@@ -131,26 +131,26 @@ unlike_any w n bs (None ∷ ps) h =
 
 -- ---- comparisons
 
-number_field : (g : Field) (n m : ℕ) → list_all (suits g) (v.Number n m ∷ []) ≡ true → is_port g ≡ false
+number_field : (g : Field) (n m : ℕ) → list_all (suits g) (v.Number n m ∷ []) ≡ true → is_port_field g ≡ false
 number_field g n m h =
     let one = and_parts (suits g (v.Number n m)) true h in
-    let parts = and_parts (not (is_port g)) (nat_lt n (2 ^ width g) && nat_lt m (2 ^ width g)) one.0 in
-    not-true (is_port g) parts.0
+    let parts = and_parts (not (is_port_field g)) (nat_lt n (2 ^ bit_width g) && nat_lt m (2 ^ bit_width g)) one.0 in
+    not-true (is_port_field g) parts.0
 
-ordered_any : (g : Field) (rel : Rel) (xs : List Value) (n : ℕ) → list_all (suits g) xs ≡ true → (is_port g ≡ false → n < 2 ^ width g) → list_any (λ b. fits b n) (ordered (width g) rel xs) ≡ is_ordered rel xs n
+ordered_any : (g : Field) (rel : Rel) (xs : List Value) (n : ℕ) → list_all (suits g) xs ≡ true → (is_port_field g ≡ false → n < 2 ^ bit_width g) → list_any (λ b. fits b n) (ordered (bit_width g) rel xs) ≡ is_ordered rel xs n
 ordered_any g rel [] n h small = refl
-ordered_any g rel (v.Number bound m ∷ []) n h small = prefixes_any (width g) rel bound n (small (number_field g bound m h))
+ordered_any g rel (v.Number bound m ∷ []) n h small = prefixes_any (bit_width g) rel bound n (small (number_field g bound m h))
 ordered_any g rel (v.Number bound m ∷ y ∷ ys) n h small = refl
 ordered_any g rel (v.Port text ∷ ys) n h small = refl
 ordered_any g rel (v.Set name ∷ ys) n h small = refl
 ordered_any g rel (v.Group name ∷ ys) n h small = refl
 
 -- A number has one of the alternatives exactly where it stands in the relation to the values.
-pub alternatives_any : (s : Setting) (g : Field) (rel : Rel) (xs : List Value) (n : ℕ) → list_all (suits g) xs ≡ true → (is_port g ≡ false → n < 2 ^ width g) → list_any (λ b. fits b n) (alternatives s g rel xs) ≡ stands_in s g rel xs n
+pub alternatives_any : (s : Setting) (g : Field) (rel : Rel) (xs : List Value) (n : ℕ) → list_all (suits g) xs ≡ true → (is_port_field g ≡ false → n < 2 ^ bit_width g) → list_any (λ b. fits b n) (alternatives s g rel xs) ≡ stands_in s g rel xs n
 unfolding alternatives stands_in
 alternatives_any s g r.Eq xs n h small = equal_any n (points s g xs)
 alternatives_any s g r.Ne xs n h small =
-    unlike_any (width g) n (any_bits ∷ []) (points s g xs) (are_points s g xs h)
+    unlike_any (bit_width g) n (any_bits ∷ []) (points s g xs) (are_points s g xs h)
     ∙ ap (λ (b : Bool). (b || false) && not (list_any (equals n) (points s g xs))) (any_fits n)
 alternatives_any s g r.Lt xs n h small = ordered_any g r.Lt xs n h small
 alternatives_any s g r.Le xs n h small = ordered_any g r.Le xs n h small
@@ -159,18 +159,18 @@ alternatives_any s g r.Ge xs n h small = ordered_any g r.Ge xs n h small
 
 -- ---- expressions
 
-module _ (s : Setting) (regs : Regs) (packet : Packet) (range : IsInRange packet) where
+module _ (s : Setting) (regs : Regs) (packet : Packet) (range : HasFieldsInRange packet) where
   abbrev Same : List Cube → Bool → Type 0
   Same cs b = in_one regs packet cs ≡ b
 
   constant_in : (b : Bool) → Same (constant_cubes b) b
-  constant_in true = or-false (is_in regs packet all_packets) ∙ all_in regs packet
+  constant_in true = or-false (is_in_cube regs packet all_packets) ∙ all_in regs packet
   constant_in false = refl
 
   compare_in : (g : Field) (rel : Rel) (xs : List Value) → list_all (suits g) xs ≡ true → Same (map (comparing g) (alternatives s g rel xs)) (has_needs g regs packet && stands_in s g rel xs (number_in g regs packet))
   compare_in g rel xs h =
-      any_map (is_in regs packet) (comparing g) (alternatives s g rel xs)
-      ∙ any_same (λ (b : Bits). is_in regs packet (comparing g b)) (λ (b : Bits). has_needs g regs packet && fits b (number_in g regs packet)) (comparing_in regs packet g) (alternatives s g rel xs)
+      any_map (is_in_cube regs packet) (comparing g) (alternatives s g rel xs)
+      ∙ any_same (λ (b : Bits). is_in_cube regs packet (comparing g b)) (λ (b : Bits). has_needs g regs packet && fits b (number_in g regs packet)) (comparing_in regs packet g) (alternatives s g rel xs)
       ∙ any_and (has_needs g regs packet) (λ (b : Bits). fits b (number_in g regs packet)) (alternatives s g rel xs)
       ∙ ap (λ (b : Bool). has_needs g regs packet && b) (alternatives_any s g rel xs (number_in g regs packet) h (range.below g regs))
 
@@ -179,7 +179,7 @@ module _ (s : Setting) (regs : Regs) (packet : Packet) (range : IsInRange packet
   meets_in so_far [] [] zips_none = and_true (in_one regs packet so_far)
   meets_in so_far (x ∷ xs) (y ∷ ys) (zips_more _ _ _ _ e z) =
       meets_in (meets meet so_far x) xs ys z
-      ∙ ap (λ (b : Bool). b && all_true ys) (any_meets (is_in regs packet) meet (cubes_meet regs packet) so_far x)
+      ∙ ap (λ (b : Bool). b && all_true ys) (any_meets (is_in_cube regs packet) meet (cubes_meet regs packet) so_far x)
       ∙ ap (λ (b : Bool). (in_one regs packet so_far && b) && all_true ys) e
       ∙ and_group (in_one regs packet so_far) y (all_true ys)
   meets_in so_far [] (y ∷ ys) z = elim z [ ]
@@ -192,7 +192,7 @@ module _ (s : Setting) (regs : Regs) (packet : Packet) (range : IsInRange packet
   unfolding all_cubes
   either_in [] [] zips_none = refl
   either_in (x ∷ xs) (y ∷ ys) (zips_more _ _ _ _ e z) =
-      list_any-append (is_in regs packet) x (all_cubes xs)
+      list_any-append (is_in_cube regs packet) x (all_cubes xs)
       ∙ ap (λ (b : Bool). b || in_one regs packet (all_cubes xs)) e
       ∙ ap (λ (b : Bool). y || b) (either_in xs ys z)
   either_in [] (y ∷ ys) z = elim z [ ]

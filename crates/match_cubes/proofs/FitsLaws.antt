@@ -16,7 +16,7 @@ use Rattle.match_language.specs.declared.field.Field.{Field}
 use Rattle.match_language.specs.declared.field.Field.TheVariants as f
 use Rattle.match_language.specs.Tables.{all_fields}
 use Rattle.match_cubes.specs.Ternary.{fits, meets}
-use Rattle.match_cubes.specs.Asked.{number_in, asked, cube_of, all_packets, is_in, in_one, agree_all, joined_all, meet}
+use Rattle.match_cubes.specs.Asked.{number_in, asked_of_field, cube_of, all_packets, is_in_cube, in_one, agree_all, joined_all, meet}
 use Rattle.match_cubes.specs.Points.{Setting}
 use Rattle.match_cubes.specs.Holds.{holds}
 use Rattle.match_cubes.specs.Cubes.{alternatives, comparing, meets_with, all_cubes, constant_cubes, as_cubes, cubes_in}
@@ -35,7 +35,7 @@ module _ (regs : Regs) (packet : Packet) (b : Field → Bits) where
   fits_from g h = eqb-true (bit_and (number_in g regs packet) (b g).mask) (b g).value h
 
   -- what the cube asks for is there
-  in_fits : is_in regs packet (cube_of b) ≡ true → CubeFits (cube_of b) regs packet
+  in_fits : is_in_cube regs packet (cube_of b) ≡ true → CubeFits (cube_of b) regs packet
   in_fits h =
       let each = AllPass-from_list_all has all_fields h in
       record {
@@ -56,7 +56,7 @@ module _ (regs : Regs) (packet : Packet) (b : Field → Bits) where
   pass_more : (g : Field) (gs : List Field) → has g ≡ true → list_all has gs ≡ true → list_all has (g ∷ gs) ≡ true
   pass_more g gs h k = and_from (has g) (list_all has gs) h k
 
-  fits_in : CubeFits (cube_of b) regs packet → is_in regs packet (cube_of b) ≡ true
+  fits_in : CubeFits (cube_of b) regs packet → is_in_cube regs packet (cube_of b) ≡ true
   fits_in k =
       pass_more f.EthSrc (f.EthDst ∷ f.EthType ∷ f.ArpOp ∷ f.ArpSpa ∷ f.ArpTpa ∷ f.ArpSha ∷ f.ArpTha ∷ f.Ip4Src ∷ f.Ip4Dst ∷ f.IpProto ∷ f.IpTtl ∷ f.Icmp4Type ∷ f.Icmp4Code ∷ f.TcpSrc ∷ f.TcpDst ∷ f.UdpSrc ∷ f.UdpDst ∷ f.Inport ∷ f.Outport ∷ []) (fits_back f.EthSrc k.ether.eth_src_fits) (
       pass_more f.EthDst (f.EthType ∷ f.ArpOp ∷ f.ArpSpa ∷ f.ArpTpa ∷ f.ArpSha ∷ f.ArpTha ∷ f.Ip4Src ∷ f.Ip4Dst ∷ f.IpProto ∷ f.IpTtl ∷ f.Icmp4Type ∷ f.Icmp4Code ∷ f.TcpSrc ∷ f.TcpDst ∷ f.UdpSrc ∷ f.UdpDst ∷ f.Inport ∷ f.Outport ∷ []) (fits_back f.EthDst k.ether.eth_dst_fits) (
@@ -82,7 +82,7 @@ module _ (regs : Regs) (packet : Packet) (b : Field → Bits) where
 -- ---- the cubes of a match ask for fields alone
 
 abbrev IsMade : Cube → Type 0
-IsMade c = c ≡ cube_of (λ g. asked g c)
+IsMade c = c ≡ cube_of (λ g. asked_of_field g c)
 
 abbrev AreMade : List Cube → Type 0
 AreMade [] = Unit {0}
@@ -144,28 +144,28 @@ cubes_made s e positive =
 -- ---- one of the cubes
 
 module _ (regs : Regs) (packet : Packet) where
-  one_in : (c : Cube) → IsMade c → CubeFits c regs packet → is_in regs packet c ≡ true
-  one_in c made h = fits_in regs packet (λ g. asked g c) (subst (λ (d : Cube). CubeFits d regs packet) made h)
+  one_in : (c : Cube) → IsMade c → CubeFits c regs packet → is_in_cube regs packet c ≡ true
+  one_in c made h = fits_in regs packet (λ g. asked_of_field g c) (subst (λ (d : Cube). CubeFits d regs packet) made h)
 
-  one_fits : (c : Cube) → IsMade c → is_in regs packet c ≡ true → CubeFits c regs packet
-  one_fits c made h = subst (λ (d : Cube). CubeFits d regs packet) (sym made) (in_fits regs packet (λ g. asked g c) h)
+  one_fits : (c : Cube) → IsMade c → is_in_cube regs packet c ≡ true → CubeFits c regs packet
+  one_fits c made h = subst (λ (d : Cube). CubeFits d regs packet) (sym made) (in_fits regs packet (λ g. asked_of_field g c) h)
 
   found_in : (c : Cube) (cs : List Cube) → AreMade cs → Among c cs → CubeFits c regs packet → in_one regs packet cs ≡ true
-  found_in c (_ ∷ cs) made here h = or_left (is_in regs packet c) (in_one regs packet cs) (one_in c made.0 h)
-  found_in c (d ∷ cs) made (there m) h = or_right (is_in regs packet d) (in_one regs packet cs) (found_in c cs made.1 m h)
+  found_in c (_ ∷ cs) made here h = or_left (is_in_cube regs packet c) (in_one regs packet cs) (one_in c made.0 h)
+  found_in c (d ∷ cs) made (there m) h = or_right (is_in_cube regs packet d) (in_one regs packet cs) (found_in c cs made.1 m h)
   found_in c [] made m h = elim m [ ]
 
   in_more : (d : Cube) (cs : List Cube) → InOne cs regs packet → InOne (d ∷ cs) regs packet
   in_more d cs one = record { cube = one.cube; among = there one.among; fits = one.fits }
 
-  in_found_by : (c : Cube) (cs : List Cube) → AreMade (c ∷ cs) → (is_in regs packet c ≡ true) ⊎ (in_one regs packet cs ≡ true) → (AreMade cs → in_one regs packet cs ≡ true → InOne cs regs packet) → InOne (c ∷ cs) regs packet
+  in_found_by : (c : Cube) (cs : List Cube) → AreMade (c ∷ cs) → (is_in_cube regs packet c ≡ true) ⊎ (in_one regs packet cs ≡ true) → (AreMade cs → in_one regs packet cs ≡ true → InOne cs regs packet) → InOne (c ∷ cs) regs packet
   in_found_by c cs made (inl h) rest = record { cube = c; among = here; fits = one_fits c made.0 h }
   in_found_by c cs made (inr h) rest = in_more c cs (rest made.1 h)
 
   in_found : (cs : List Cube) → AreMade cs → in_one regs packet cs ≡ true → InOne cs regs packet
   in_found [] made h = absurd (false≢true h)
   in_found (c ∷ cs) made h =
-      in_found_by c cs made (or_cases (is_in regs packet c) (in_one regs packet cs) h) (in_found cs)
+      in_found_by c cs made (or_cases (is_in_cube regs packet c) (in_one regs packet cs) h) (in_found cs)
 
 -- The cubes of a match that is suited are exact.
 pub cubes_exact : (s : Setting) (e : Expr) (cs : List Cube) → are_suited e true ≡ true → cs ≡ cubes_in s e true → AreExact s e cs

@@ -13,35 +13,35 @@ use Rattle.match_language.specs.declared.field.Field.{Field}
 use Rattle.match_language.specs.declared.field.Field.TheVariants as f
 use Rattle.match_language.specs.declared.field.Predicate.{Predicate}
 use Rattle.match_language.specs.declared.field.Predicate.TheVariants as p
-use Rattle.match_language.specs.Tables.{field_bits, field_max, is_port}
-use Rattle.match_language.specs.Nesting.{Takes, TakesEach, TakesAll, Nests, AllNest, Fits}
-use Rattle.match_language.specs.Nesting.Takes.{takes_number, takes_masked, takes_port, takes_group, takes_set}
+use Rattle.match_language.specs.Tables.{field_bits, field_max, is_port_field}
+use Rattle.match_language.specs.Nesting.{TakesValue, TakesEach, TakesAll, Nests, AllNest, FitsLevels}
+use Rattle.match_language.specs.Nesting.TakesValue.{takes_number, takes_masked, takes_port, takes_group, takes_set}
 use Rattle.match_language.specs.Nesting.TakesEach.{takes_last, takes_more}
 use Rattle.match_language.specs.Nesting.TakesAll.{takes_one, takes_several}
 use Rattle.match_language.specs.Nesting.Nests.{nests_constant, nests_predicate, nests_compared, nests_negated, nests_all, nests_any}
 use Rattle.match_language.specs.Nesting.AllNest.{nests_last, nests_before}
-use Rattle.match_language.specs.Nesting.Fits.{fits_one, fits_all, fits_any}
-use Rattle.match_cubes.specs.Asked.{width}
+use Rattle.match_language.specs.Nesting.FitsLevels.{fits_one, fits_all, fits_any}
+use Rattle.match_cubes.specs.Asked.{bit_width}
 use Rattle.match_cubes.specs.Inwards.{Meaning, turn, joins, predicate, meaning, each_compare, are_all}
 use Rattle.match_cubes.specs.Suited.{suits, are_suited}
 use Rattle.match_cubes.proofs.Cases.{meaning_const, meaning_is, meaning_not, meaning_all, meaning_any, meaning_compare}
 
 -- ---- values
 
-number_width : (g : Field) → is_port g ≡ false → width g ≡ field_bits g
-number_width f.Inport h = absurd cc
-number_width f.Outport h = absurd cc
-number_width _ h = refl
+number_bits : (g : Field) → is_port_field g ≡ false → bit_width g ≡ field_bits g
+number_bits f.Inport h = absurd cc
+number_bits f.Outport h = absurd cc
+number_bits _ h = refl
 
-within_width : (g : Field) (n : ℕ) → is_port g ≡ false → n ≤ field_max g → nat_lt n (2 ^ width g) ≡ true
+within_width : (g : Field) (n : ℕ) → is_port_field g ≡ false → n ≤ field_max g → nat_lt n (2 ^ bit_width g) ≡ true
 within_width g n h below =
-    lt-ltb n (2 ^ width g) (subst (λ (w : ℕ). n < 2 ^ w) (sym (number_width g h)) (omega (arith, pow_pos (field_bits g))))
+    lt-ltb n (2 ^ bit_width g) (subst (λ (w : ℕ). n < 2 ^ w) (sym (number_bits g h)) (omega (arith, pow_pos (field_bits g))))
 
-suits_number : (g : Field) (n m : ℕ) → is_port g ≡ false → n ≤ field_max g → m ≤ field_max g → suits g (v.Number n m) ≡ true
+suits_number : (g : Field) (n m : ℕ) → is_port_field g ≡ false → n ≤ field_max g → m ≤ field_max g → suits g (v.Number n m) ≡ true
 suits_number g n m h a b =
-    and_from (not (is_port g)) (nat_lt n (2 ^ width g) && nat_lt m (2 ^ width g)) (ap not h) (and_from (nat_lt n (2 ^ width g)) (nat_lt m (2 ^ width g)) (within_width g n h a) (within_width g m h b))
+    and_from (not (is_port_field g)) (nat_lt n (2 ^ bit_width g) && nat_lt m (2 ^ bit_width g)) (ap not h) (and_from (nat_lt n (2 ^ bit_width g)) (nat_lt m (2 ^ bit_width g)) (within_width g n h a) (within_width g m h b))
 
-suits_taken : (g : Field) (rel : Rel) (x : Value) → Takes g rel x → suits g x ≡ true
+suits_taken : (g : Field) (rel : Rel) (x : Value) → TakesValue g rel x → suits g x ≡ true
 suits_taken _ _ _ (takes_number g rel n h below) = suits_number g n (field_max g) h below (omega arith)
 suits_taken _ _ _ (takes_masked g rel n m e h below mask inside) = suits_number g n m h below mask
 suits_taken _ _ _ (takes_port g rel text h e q) = h
@@ -88,7 +88,7 @@ mutual
   all_nested _ _ _ (nests_last way n x h) positive = and_from (meaning ok x positive) true (nested way n x h positive) refl
   all_nested _ _ _ (nests_before way n x xs h hs) positive = and_from (meaning ok x positive) (list_all (λ b. b) (map (λ (e : Expr). meaning ok e positive) xs)) (nested way n x h positive) (all_nested way n xs hs positive)
 
-pub fits_suited : (way : Direction) (n : ℕ) (x : Expr) → Fits way n x → are_suited x true ≡ true
+pub fits_suited : (way : Direction) (n : ℕ) (x : Expr) → FitsLevels way n x → are_suited x true ≡ true
 unfolding are_all
 fits_suited _ _ _ (fits_one way n x h) = nested way n x h true
 fits_suited _ _ _ (fits_all way n x xs h hs) = meaning_all ok true (x ∷ xs) ∙ and_from (meaning ok x true) (list_all (λ b. b) (map (λ (e : Expr). meaning ok e true) xs)) (nested way n x h true) (all_nested way n xs hs true)

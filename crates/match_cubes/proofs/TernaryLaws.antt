@@ -11,7 +11,7 @@ use Rattle.std.proofs.lemmas.List.Folds.{list_any-append}
 use Rattle.std.proofs.lemmas.Nat.{or_comm, pow_pos, and_le_r, and_assoc, shl-shr, mod-pow-add, mod_below, ones_cat}
 use Rattle.std.proofs.lemmas.Nat.Bits.{bit_at-lt, bit_at_and, bit_at_or, same_from_bits, bit_at_above, and_pow}
 use Rattle.inet_packet.specs.declared.cube.Bits.{Bits}
-use Rattle.match_cubes.specs.Ternary.{fits, under, any_bits, agree, joined, turned, turned_bits, meet_bits}
+use Rattle.match_cubes.specs.Ternary.{fits, under, any_bits, agree, both_bits, turned, turned_bits, meet_bits}
 
 -- ---- tests
 
@@ -70,10 +70,10 @@ both_agree n va ma vb mb h k =
     ∙ sym (bit_at_and vb ma i))
 
 -- where the two agree, what fits the joined fits both
-pub fits_joined : (a b : Bits) (n : ℕ) → agree a b ≡ true → fits (joined a b) n ≡ (fits a n && fits b n)
+pub fits_joined : (a b : Bits) (n : ℕ) → agree a b ≡ true → fits (both_bits a b) n ≡ (fits a n && fits b n)
 fits_joined a b n h =
     let agrees = eqb-true (bit_and a.value b.mask) (bit_and b.value a.mask) h in
-    same_tests (fits (joined a b) n) (fits a n && fits b n)
+    same_tests (fits (both_bits a b) n) (fits a n && fits b n)
     (λ p. let e = eqb-true (bit_and n (bit_or a.mask b.mask)) (bit_or a.value b.value) p in
     let l : fits a n ≡ true = eq-eqb (bit_and n a.mask) a.value (both_left n a.value a.mask b.value b.mask agrees e) in
     let r : fits b n ≡ true = eq-eqb (bit_and n b.mask) b.value (both_right n a.value a.mask b.value b.mask agrees e) in
@@ -89,15 +89,15 @@ fits_apart a b n h =
     absurd (eqb-false (bit_and a.value b.mask) (bit_and b.value a.mask) h (both_agree n a.value a.mask b.value b.mask (eqb-true (bit_and n a.mask) a.value parts.0) (eqb-true (bit_and n b.mask) b.value parts.1))))
     (λ p. absurd cc)
 
-meet_by : (a b : Bits) (n : ℕ) (r : Bool) → agree a b ≡ r → list_any (λ c. fits c n) (cond r (joined a b ∷ []) []) ≡ (fits a n && fits b n)
-meet_by a b n true h = or-false (fits (joined a b) n) ∙ fits_joined a b n h
+meet_by : (a b : Bits) (n : ℕ) (r : Bool) → agree a b ≡ r → list_any (λ c. fits c n) (cond r (both_bits a b ∷ []) []) ≡ (fits a n && fits b n)
+meet_by a b n true h = or-false (fits (both_bits a b) n) ∙ fits_joined a b n h
 meet_by a b n false h = sym (fits_apart a b n h)
 
 -- a number fits the meet exactly where it fits both
 pub meet_any : (n : ℕ) (a b : Bits) → list_any (λ c. fits c n) (meet_bits a b) ≡ (fits a n && fits b n)
 meet_any n a b = meet_by a b n (agree a b) refl
 
-few_by : (a b : Bits) (r : Bool) → length (cond r (joined a b ∷ []) []) ≤ 1
+few_by : (a b : Bits) (r : Bool) → length (cond r (both_bits a b ∷ []) []) ≤ 1
 few_by a b true = omega arith
 few_by a b false = omega arith
 

@@ -11,9 +11,9 @@ use Rattle.inet_packet.specs.Fields.{ether_type, ip4_src, ip4_dst, ip_proto, ip_
 use Rattle.inet_packet.specs.Whole.{IsPartWithin, IsWholeBody, IsWhole}
 use Rattle.match_language.specs.declared.field.Field.{Field}
 use Rattle.match_language.specs.declared.field.Field.TheVariants as f
-use Rattle.match_language.specs.Tables.{is_port}
-use Rattle.match_cubes.specs.Asked.{number_in, width}
-use Rattle.match_cubes.specs.Suited.{IsInRange}
+use Rattle.match_language.specs.Tables.{is_port_field}
+use Rattle.match_cubes.specs.Asked.{number_in, bit_width}
+use Rattle.match_cubes.specs.Suited.{HasFieldsInRange}
 
 tcp_src_part : (x : Part) → IsPartWithin x → part_tcp_src x < 2 ^ 16
 tcp_src_part (Tcp src_port dst_port middle sum urgent) h = h.0
@@ -137,7 +137,7 @@ arp_tha_below (Arp a) tail h = a.tha.below
 arp_tha_below (Ip4 i) tail h = omega arith
 arp_tha_below (Other t) tail h = omega arith
 
-below : (packet : Packet) → IsWhole packet → (g : Field) (regs : Regs) → is_port g ≡ false → number_in g regs packet < 2 ^ width g
+below : (packet : Packet) → IsWhole packet → (g : Field) (regs : Regs) → is_port_field g ≡ false → number_in g regs packet < 2 ^ bit_width g
 below packet h f.EthSrc regs k = packet.src.below
 below packet h f.EthDst regs k = packet.dst.below
 below packet h f.EthType regs k = ether_type_below packet.body packet.tail h.body
@@ -159,5 +159,5 @@ below packet h f.ArpTha regs k = arp_tha_below packet.body packet.tail h.body
 below packet h f.Inport regs k = absurd cc
 below packet h f.Outport regs k = absurd cc
 
-pub whole_in_range : (packet : Packet) → IsWhole packet → IsInRange packet
+pub whole_in_range : (packet : Packet) → IsWhole packet → HasFieldsInRange packet
 whole_in_range packet h = record { below = below packet h }

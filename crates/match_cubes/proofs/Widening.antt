@@ -13,7 +13,7 @@ use Rattle.match_language.specs.declared.expr.Value.{Value}
 use Rattle.match_language.specs.declared.field.Field.{Field}
 use Rattle.match_language.specs.declared.field.Predicate.{Predicate}
 use Rattle.match_language.specs.declared.field.Predicate.TheVariants as p
-use Rattle.match_cubes.specs.Asked.{width}
+use Rattle.match_cubes.specs.Asked.{bit_width}
 use Rattle.match_cubes.specs.Inwards.{turn, turned_rel, joins, predicate, meaning}
 use Rattle.match_cubes.specs.Points.{Members}
 use Rattle.match_cubes.specs.Cubes.{ordered}
@@ -194,7 +194,7 @@ weighs s p.Ip4Mcast false = ap (λ (n : ℕ). saturated (n * 1 + (count_ones 0xf
 pub saturated_is : (n : ℕ) → n < 2 ^ 128 → n ≡ saturated n
 saturated_is n h = omega arith
 
-pub compare_order : (s : Members) (f : Field) (rel : Rel) (vs : List Value) → rel ≢ r.Eq → rel ≢ r.Ne → compare_width s f rel vs ≡ length (ordered (width f) rel vs)
+pub compare_order : (s : Members) (f : Field) (rel : Rel) (vs : List Value) → rel ≢ r.Eq → rel ≢ r.Ne → compare_width s f rel vs ≡ length (ordered (bit_width f) rel vs)
 unfolding compare_width
 compare_order s f r.Eq vs a b = absurd (a refl)
 compare_order s f r.Ne vs a b = absurd (b refl)

@@ -17,7 +17,7 @@ use Rattle.match_language.specs.Constants.{prefix_mask}
 use Rattle.match_cubes.specs.declared.sets.SetEntry.{SetEntry}
 use Rattle.match_cubes.specs.declared.sets.SetEntry.TheVariants as entry
 use Rattle.match_cubes.specs.Ternary.{under, any_bits, turned_bits, meet_bits, meets}
-use Rattle.match_cubes.specs.Asked.{width, all_packets, meet}
+use Rattle.match_cubes.specs.Asked.{bit_width, all_packets, meet}
 use Rattle.match_cubes.specs.Points.{Setting, entry_bits, key_bits, port_bits, points_of, points}
 use Rattle.match_cubes.specs.Cubes.{other, unlike, alternatives, comparing, meets_with, all_cubes, constant_cubes, as_cubes, cubes_in}
 use Rattle.match_cubes.specs.Width.{product, total, entry_weight, weights_of, weights, compare_width, widths, width_in}
@@ -63,24 +63,24 @@ few_mac : (w n : ℕ) (b : Bool) → length (other w (cond b (Some (under n 0xff
 few_mac w n true = omega (arith, few_under w n 0xffff_ffff_ffff, ones-ones 48)
 few_mac w n false = omega arith
 
-few_entry : (g : Field) (e : SetEntry) → length (other (width g) (entry_bits g e)) ≤ entry_weight g e
-few_entry g (entry.Ip c) = few_ip (width g) c.addr.0 (prefix_mask c.len) (width g == 32)
-few_entry g (entry.Ether m) = few_mac (width g) (mac_number m) (width g == 48)
+few_entry : (g : Field) (e : SetEntry) → length (other (bit_width g) (entry_bits g e)) ≤ entry_weight g e
+few_entry g (entry.Ip c) = few_ip (bit_width g) c.addr.0 (prefix_mask c.len) (bit_width g == 32)
+few_entry g (entry.Ether m) = few_mac (bit_width g) (mac_number m) (bit_width g == 48)
 
-few_entries : (g : Field) (es : List SetEntry) → AreFew (width g) (map (entry_bits g) es) (map (entry_weight g) es)
+few_entries : (g : Field) (es : List SetEntry) → AreFew (bit_width g) (map (entry_bits g) es) (map (entry_weight g) es)
 few_entries g [] = tt
 few_entries g (e ∷ es) = (few_entry g e, few_entries g es)
 
-few_value : (s : Setting) (g : Field) (x : Value) → AreFew (width g) (points_of s g x) (weights_of s.members g x)
-few_value s g (v.Number n m) = (few_under (width g) n m, tt)
-few_value s g (v.Port text) = (few_key (width g) (s.key text), tt)
+few_value : (s : Setting) (g : Field) (x : Value) → AreFew (bit_width g) (points_of s g x) (weights_of s.members g x)
+few_value s g (v.Number n m) = (few_under (bit_width g) n m, tt)
+few_value s g (v.Port text) = (few_key (bit_width g) (s.key text), tt)
 few_value s g (v.Set name) = few_entries g (s.members.entries name)
-few_value s g (v.Group name) = few_ports s (width g) (s.members.ports name)
+few_value s g (v.Group name) = few_ports s (bit_width g) (s.members.ports name)
 
-few_values : (s : Setting) (g : Field) (xs : List Value) → AreFew (width g) (points s g xs) (weights s.members g xs)
+few_values : (s : Setting) (g : Field) (xs : List Value) → AreFew (bit_width g) (points s g xs) (weights s.members g xs)
 unfolding points weights
 few_values s g [] = tt
-few_values s g (x ∷ xs) = few_cat (width g) (points_of s g x) (flat_map (points_of s g) xs) (weights_of s.members g x) (flat_map (weights_of s.members g) xs) (few_value s g x) (few_values s g xs)
+few_values s g (x ∷ xs) = few_cat (bit_width g) (points_of s g x) (flat_map (points_of s g) xs) (weights_of s.members g x) (flat_map (weights_of s.members g) xs) (few_value s g x) (few_values s g xs)
 
 -- ---- comparisons
 
@@ -111,8 +111,8 @@ few_unlike w bs (p ∷ ps) [] h = absurd h
 
 few_compare : (s : Setting) (g : Field) (rel : Rel) (xs : List Value) → length (alternatives s g rel xs) ≤ compare_width s.members g rel xs
 unfolding alternatives compare_width
-few_compare s g r.Eq xs = few_equal (width g) (points s g xs) (weights s.members g xs) (few_values s g xs)
-few_compare s g r.Ne xs = omega (arith, few_unlike (width g) (any_bits ∷ []) (points s g xs) (weights s.members g xs) (few_values s g xs))
+few_compare s g r.Eq xs = few_equal (bit_width g) (points s g xs) (weights s.members g xs) (few_values s g xs)
+few_compare s g r.Ne xs = omega (arith, few_unlike (bit_width g) (any_bits ∷ []) (points s g xs) (weights s.members g xs) (few_values s g xs))
 few_compare s g r.Lt xs = omega arith
 few_compare s g r.Le xs = omega arith
 few_compare s g r.Gt xs = omega arith

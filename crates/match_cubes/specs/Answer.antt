@@ -12,7 +12,7 @@ use Rattle.match_cubes.specs.declared.fault.CubeFault.TheVariants as fault
 use Rattle.match_cubes.specs.Points.{Setting}
 use Rattle.match_cubes.specs.Holds.{holds}
 use Rattle.match_cubes.specs.Width.{saturated}
-use Rattle.match_cubes.specs.Suited.{IsInRange}
+use Rattle.match_cubes.specs.Suited.{HasFieldsInRange}
 
 -- one of the cubes holds the packet with its registers
 pub record InOne (cubes : List Cube) (regs : Regs) (packet : Packet) : Type 0 where
@@ -28,4 +28,4 @@ IsWidth w (Err fault.Memory) = w ≤ MAX_WIDTH
 
 -- A packet with its registers is in one of the cubes exactly where the match holds of it.
 abbrev pub AreExact : Setting → Expr → List Cube → Type 0
-AreExact s e cs = (regs : Regs) (packet : Packet) → IsInRange packet → InOne cs regs packet ↔ (holds s e regs packet ≡ true)
+AreExact s e cs = (regs : Regs) (packet : Packet) → HasFieldsInRange packet → InOne cs regs packet ↔ (holds s e regs packet ≡ true)

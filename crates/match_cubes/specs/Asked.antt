@@ -11,7 +11,7 @@ use Rattle.inet_packet.specs.Fields.{ether_type, ip4_src, ip4_dst, ip_proto, ip_
 use Rattle.match_language.specs.declared.field.Field.{Field}
 use Rattle.match_language.specs.declared.field.Field.TheVariants as f
 use Rattle.match_language.specs.Tables.{field_bits, all_fields}
-use Rattle.match_cubes.specs.Ternary.{fits, agree, joined}
+use Rattle.match_cubes.specs.Ternary.{fits, agree, both_bits}
 
 -- the number that the field has in the packet with its registers; that of a port is its key
 abbrev pub number_in : Field → Regs → Packet → ℕ
@@ -37,33 +37,33 @@ number_in f.Inport regs packet = regs.in_port
 number_in f.Outport regs packet = regs.out_port
 
 -- how many bits the number has
-abbrev pub width : Field → ℕ
-width f.Inport = 16
-width f.Outport = 16
-width other = field_bits other
+abbrev pub bit_width : Field → ℕ
+bit_width f.Inport = 16
+bit_width f.Outport = 16
+bit_width other = field_bits other
 
 -- what the cube asks of the field
-abbrev pub asked : Field → Cube → Bits
-asked f.EthSrc c = c.eth_src
-asked f.EthDst c = c.eth_dst
-asked f.EthType c = c.eth_type
-asked f.Ip4Src c = c.ip4_src
-asked f.Ip4Dst c = c.ip4_dst
-asked f.IpProto c = c.ip_proto
-asked f.IpTtl c = c.ip_ttl
-asked f.TcpSrc c = c.tcp_src
-asked f.TcpDst c = c.tcp_dst
-asked f.UdpSrc c = c.udp_src
-asked f.UdpDst c = c.udp_dst
-asked f.Icmp4Type c = c.icmp4_type
-asked f.Icmp4Code c = c.icmp4_code
-asked f.ArpOp c = c.arp_op
-asked f.ArpSpa c = c.arp_spa
-asked f.ArpTpa c = c.arp_tpa
-asked f.ArpSha c = c.arp_sha
-asked f.ArpTha c = c.arp_tha
-asked f.Inport c = c.in_port
-asked f.Outport c = c.out_port
+abbrev pub asked_of_field : Field → Cube → Bits
+asked_of_field f.EthSrc c = c.eth_src
+asked_of_field f.EthDst c = c.eth_dst
+asked_of_field f.EthType c = c.eth_type
+asked_of_field f.Ip4Src c = c.ip4_src
+asked_of_field f.Ip4Dst c = c.ip4_dst
+asked_of_field f.IpProto c = c.ip_proto
+asked_of_field f.IpTtl c = c.ip_ttl
+asked_of_field f.TcpSrc c = c.tcp_src
+asked_of_field f.TcpDst c = c.tcp_dst
+asked_of_field f.UdpSrc c = c.udp_src
+asked_of_field f.UdpDst c = c.udp_dst
+asked_of_field f.Icmp4Type c = c.icmp4_type
+asked_of_field f.Icmp4Code c = c.icmp4_code
+asked_of_field f.ArpOp c = c.arp_op
+asked_of_field f.ArpSpa c = c.arp_spa
+asked_of_field f.ArpTpa c = c.arp_tpa
+asked_of_field f.ArpSha c = c.arp_sha
+asked_of_field f.ArpTha c = c.arp_tha
+asked_of_field f.Inport c = c.in_port
+asked_of_field f.Outport c = c.out_port
 
 -- the cube of all packets
 abbrev pub all_packets : Cube
@@ -118,19 +118,19 @@ ask f.Inport b c = record c { in_port = b }
 ask f.Outport b c = record c { out_port = b }
 
 -- the packet with its registers has what the cube asks of the fields
-abbrev pub is_in : Regs → Packet → Cube → Bool
-is_in regs packet c = list_all (λ f. fits (asked f c) (number_in f regs packet)) all_fields
+abbrev pub is_in_cube : Regs → Packet → Cube → Bool
+is_in_cube regs packet c = list_all (λ f. fits (asked_of_field f c) (number_in f regs packet)) all_fields
 
 -- it is in one of the cubes
 abbrev pub in_one : Regs → Packet → List Cube → Bool
-in_one regs packet cubes = list_any (is_in regs packet) cubes
+in_one regs packet cubes = list_any (is_in_cube regs packet) cubes
 
 -- the cubes ask for both values of no bit
 abbrev pub agree_all : Cube → Cube → Bool
-agree_all a b = list_all (λ f. agree (asked f a) (asked f b)) all_fields
+agree_all a b = list_all (λ f. agree (asked_of_field f a) (asked_of_field f b)) all_fields
 
 abbrev pub joined_all : Cube → Cube → Cube
-joined_all a b = cube_of (λ f. joined (asked f a) (asked f b))
+joined_all a b = cube_of (λ f. both_bits (asked_of_field f a) (asked_of_field f b))
 
 -- what is in both; none, where they ask for both values of one bit
 unfoldable pub meet : Cube → Cube → List Cube

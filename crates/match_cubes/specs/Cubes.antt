@@ -11,7 +11,7 @@ use Rattle.match_language.specs.declared.field.Field.{Field}
 use Rattle.match_language.specs.Tables.{prerequisite}
 use Rattle.match_cubes.specs.Ternary.{any_bits, turned_bits, meet_bits, meets}
 use Rattle.match_cubes.specs.Prefixes.{prefixes}
-use Rattle.match_cubes.specs.Asked.{width, all_packets, ask, meet}
+use Rattle.match_cubes.specs.Asked.{bit_width, all_packets, ask, meet}
 use Rattle.match_cubes.specs.Inwards.{Meaning, meaning}
 use Rattle.match_cubes.specs.Points.{Setting, points}
 use Rattle.match_cubes.specs.Holds.{needs}
@@ -35,8 +35,8 @@ ordered w rel vs = []
 -- the values under masks that stand in the relation
 unfoldable pub alternatives : Setting → Field → Rel → List Value → List Bits
 alternatives s f r.Eq vs = flat_map option_to_list (points s f vs)
-alternatives s f r.Ne vs = unlike (width f) (any_bits ∷ []) (points s f vs)
-alternatives s f rel vs = ordered (width f) rel vs
+alternatives s f r.Ne vs = unlike (bit_width f) (any_bits ∷ []) (points s f vs)
+alternatives s f rel vs = ordered (bit_width f) rel vs
 
 -- the same cube, which asks for each of these too
 abbrev pub ask_all : Cube → List (Field × Bits) → Cube

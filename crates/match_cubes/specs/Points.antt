@@ -13,7 +13,7 @@ use Rattle.match_cubes.specs.declared.sets.SetEntry.{SetEntry}
 use Rattle.match_cubes.specs.declared.sets.SetEntry.TheVariants as entry
 use Rattle.match_cubes.specs.declared.sets.Sets.{Sets}
 use Rattle.match_cubes.specs.Ternary.{under}
-use Rattle.match_cubes.specs.Asked.{width}
+use Rattle.match_cubes.specs.Asked.{bit_width}
 
 -- the entries of each address set, and the ports of each group
 pub record Members : Type 0 where
@@ -38,8 +38,8 @@ setting s p = record { members = members_of s; key = named p.list }
 
 -- the entry as a value of the field, if it is an address of the field's kind
 abbrev pub entry_bits : Field → SetEntry → Option Bits
-entry_bits f (entry.Ip c) = if width f == 32 then Some (under c.addr.0 (prefix_mask c.len)) else None
-entry_bits f (entry.Ether m) = if width f == 48 then Some (under (mac_number m) 0xffff_ffff_ffff) else None
+entry_bits f (entry.Ip c) = if bit_width f == 32 then Some (under c.addr.0 (prefix_mask c.len)) else None
+entry_bits f (entry.Ether m) = if bit_width f == 48 then Some (under (mac_number m) 0xffff_ffff_ffff) else None
 
 -- the port of this key, if it is live
 abbrev pub key_bits : Option ℕ → Option Bits

@@ -7,7 +7,7 @@ use Rattle.match_language.specs.declared.field.Field.{Field}
 use Rattle.match_language.specs.declared.field.Predicate.{Predicate}
 use Rattle.match_language.specs.declared.field.Predicate.TheVariants as p
 use Rattle.match_cubes.specs.Ternary.{any_bits, under, turned_bits, meet_bits, meets}
-use Rattle.match_cubes.specs.Asked.{width, meet}
+use Rattle.match_cubes.specs.Asked.{bit_width, meet}
 use Rattle.match_cubes.specs.Inwards.{turn, tests, asks_all}
 use Rattle.match_cubes.specs.Points.{Members, Setting}
 use Rattle.match_cubes.specs.Cubes.{comparing, constant_cubes, cubes_in}
@@ -29,7 +29,7 @@ joined_in s is_every positive es = join_from is_every (constant_cubes is_every) 
 -- the cubes of a test of a predicate, or of its negation
 unfoldable pub test_in : Bool → Field × Bits → List Cube
 test_in true t = comparing t.0 (under t.1.value t.1.mask) ∷ []
-test_in false t = map (comparing t.0) (meets meet_bits (any_bits ∷ []) (turned_bits (width t.0) (under t.1.value t.1.mask)))
+test_in false t = map (comparing t.0) (meets meet_bits (any_bits ∷ []) (turned_bits (bit_width t.0) (under t.1.value t.1.mask)))
 
 -- the cubes of a predicate, or of its negation
 unfoldable pub predicate_in : Predicate → Bool → List Cube

@@ -21,8 +21,8 @@ abbrev pub agree : Bits → Bits → Bool
 agree a b = bit_and a.value b.mask == bit_and b.value a.mask
 
 -- the bits that count in either
-abbrev pub joined : Bits → Bits → Bits
-joined a b = record { value = bit_or a.value b.value; mask = bit_or a.mask b.mask }
+abbrev pub both_bits : Bits → Bits → Bits
+both_bits a b = record { value = bit_or a.value b.value; mask = bit_or a.mask b.mask }
 
 -- the bit alone, other than it is in the value
 abbrev pub turned : ℕ → ℕ → Bits
@@ -35,7 +35,7 @@ turned_bits (suc w) b = turned_bits w b ++ (if bit_at b.mask w == 1 then turned 
 
 -- what is in both; none, where they ask for both values of one bit
 abbrev pub meet_bits : Bits → Bits → List Bits
-meet_bits a b = if agree a b then joined a b ∷ [] else []
+meet_bits a b = if agree a b then both_bits a b ∷ [] else []
 
 -- the meets of one of each
 unfoldable pub meets : {X : Type 0} → (X → X → List X) → List X → List X → List X

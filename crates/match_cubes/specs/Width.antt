@@ -9,7 +9,7 @@ use Rattle.match_language.specs.declared.field.Field.{Field}
 use Rattle.match_language.specs.Constants.{prefix_mask}
 use Rattle.match_cubes.specs.declared.sets.SetEntry.{SetEntry}
 use Rattle.match_cubes.specs.declared.sets.SetEntry.TheVariants as entry
-use Rattle.match_cubes.specs.Asked.{width}
+use Rattle.match_cubes.specs.Asked.{bit_width}
 use Rattle.match_cubes.specs.Inwards.{Meaning, meaning}
 use Rattle.match_cubes.specs.Points.{Members}
 use Rattle.match_cubes.specs.Cubes.{ordered}
@@ -24,8 +24,8 @@ total (n ∷ ns) = n + total ns
 
 -- how many bits of the mask an entry has; 1 for an address of the other kind
 abbrev pub entry_weight : Field → SetEntry → ℕ
-entry_weight f (entry.Ip c) = if width f == 32 then count_ones (prefix_mask c.len) else 1
-entry_weight f (entry.Ether m) = if width f == 48 then 48 else 1
+entry_weight f (entry.Ip c) = if bit_width f == 32 then count_ones (prefix_mask c.len) else 1
+entry_weight f (entry.Ether m) = if bit_width f == 48 then 48 else 1
 
 -- how many bits of its mask each of the values has for which one value of the text stands; a port has 16
 abbrev pub weights_of : Members → Field → Value → List ℕ
@@ -41,7 +41,7 @@ weights s f vs = flat_map (weights_of s f) vs
 unfoldable pub compare_width : Members → Field → Rel → List Value → ℕ
 compare_width s f r.Eq vs = length (weights s f vs)
 compare_width s f r.Ne vs = product (weights s f vs)
-compare_width s f rel vs = length (ordered (width f) rel vs)
+compare_width s f rel vs = length (ordered (bit_width f) rel vs)
 
 abbrev pub widths : Members → Meaning ℕ
 widths s = record { constant = λ b. 1; compare = compare_width s; every = product; either = total }

@@ -9,7 +9,7 @@ use match_language::field::Field;
 
 /// How many bits the field's number has; that of a port is its key.
 pub(crate) fn width(field: Field) -> u32
-    ensures value { result ≡ spec.width field }
+    ensures value { result ≡ spec.bit_width field }
     ensures within { result ≤ 48 }
 {
     if field.is_port() { 16 } else { field.bits() }

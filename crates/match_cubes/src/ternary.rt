@@ -27,7 +27,7 @@ pub(crate) fn agree(a: &Bits, b: &Bits) -> bool
 
 /// The bits that count in either.
 pub(crate) fn joined(a: &Bits, b: &Bits) -> Bits
-    ensures { result ≡ spec.joined a.now b.now }
+    ensures { result ≡ spec.both_bits a.now b.now }
 {
     Bits {
         value: a.value | b.value,

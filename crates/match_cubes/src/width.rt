@@ -96,7 +96,7 @@ fn values_width<S: SetSource>(is_equal: bool, field: Field, values: &[Value], se
 
 // How many prefixes are less or greater than the one value.
 fn order_width(field: Field, rel: Rel, values: &[Value]) -> u128
-    ensures value { result ≡ length (ordered (asked.width field) rel values.now) }
+    ensures value { result ≡ length (ordered (asked.bit_width field) rel values.now) }
     ensures below { result < 2 ^ 128 }
 {
     match values {

@@ -22,14 +22,14 @@ use Rattle.match_language.specs.Tables.{field_name, predicate_name, field_named,
 use Rattle.match_language.specs.Relations.{rel_text}
 use Rattle.match_language.specs.Tokens.{is_run, word_token, constant_token, first_token}
 use Rattle.match_language.specs.Input.{Input, token, next, skip}
-use Rattle.match_language.specs.Grammar.{IsTerm, IsExpr, IsJoined, IsValues, Spells}
+use Rattle.match_language.specs.Grammar.{IsTerm, IsExpr, IsJoined, IsValues, SpellsExpr}
 use Rattle.match_language.specs.Grammar.IsTerm.{constant, predicate, compared, negated, grouped}
 use Rattle.match_language.specs.Grammar.IsExpr.{alone, all_of, any_of}
 use Rattle.match_language.specs.Grammar.IsJoined.{last_term, before_others}
-use Rattle.match_language.specs.Nesting.{TakesAll, Nests, AllNest, Fits}
+use Rattle.match_language.specs.Nesting.{TakesAll, Nests, AllNest, FitsLevels}
 use Rattle.match_language.specs.Nesting.Nests.{nests_constant, nests_predicate, nests_compared, nests_negated, nests_all, nests_any}
 use Rattle.match_language.specs.Nesting.AllNest.{nests_last, nests_before}
-use Rattle.match_language.specs.Nesting.Fits.{fits_one, fits_all, fits_any}
+use Rattle.match_language.specs.Nesting.FitsLevels.{fits_one, fits_all, fits_any}
 use Rattle.match_language.specs.Spelling.{text_of, spelling, inner_spelling, rest_text, joined_text, values_text, comparison_text, bit_text}
 use Rattle.match_language.proofs.Spelled.{spells_const, spells_is, spells_not, spells_all, spells_any, spells_compare, joined_const, joined_is, joined_not, joined_all, joined_any, joined_compare}
 use Rattle.match_language.proofs.Begins.{Begins, Follows, begins_run, begins_first, begins_open, begins_close, begins_bang, begins_and, begins_or, begins_blank, blank_skipped, end_follows, close_follows, and_follows, or_follows}
@@ -348,7 +348,7 @@ single_again _ _ _ (nests_negated way n x h) rest follows =
 single_again _ _ _ (nests_all way n x xs h hs) rest follows = deeper_in way n (ex.All (x ∷ xs)) (spelling (ex.All (x ∷ xs)) ++ rest) rest (every_again way n x xs h hs rest follows)
 single_again _ _ _ (nests_any way n x xs h hs) rest follows = deeper_in way n (ex.Any (x ∷ xs)) (spelling (ex.Any (x ∷ xs)) ++ rest) rest (some_again way n x xs h hs rest follows)
 
-expr_again : (way : Direction) (n : ℕ) (x : Expr) → Fits way n x → (rest : List ℕ) → Follows rest → IsExprIn way n x (spelling x ++ rest) rest
+expr_again : (way : Direction) (n : ℕ) (x : Expr) → FitsLevels way n x → (rest : List ℕ) → Follows rest → IsExprIn way n x (spelling x ++ rest) rest
 expr_again _ _ _ (fits_one way n x h) rest follows = single_again way n x h rest follows
 expr_again _ _ _ (fits_all way n x xs h hs) rest follows = every_again way n x xs h hs rest follows
 expr_again _ _ _ (fits_any way n x xs h hs) rest follows = some_again way n x xs h hs rest follows
@@ -358,7 +358,7 @@ unfolding token skip first_token
 ended q = refl
 
 -- the text of an expression that fits spells it
-pub fitting_again : (way : Direction) (x : Expr) → Fits way 64 x → Spells way (spelling x) x
+pub fitting_again : (way : Direction) (x : Expr) → FitsLevels way 64 x → SpellsExpr way (spelling x) x
 fitting_again way x h =
     let a = expr_again way 64 x h [] end_follows 0 in
     record {
@@ -368,5 +368,5 @@ fitting_again way x h =
     }
 
 -- what a text spells is spelled by its own text
-pub again : (way : Direction) (text : List ℕ) (x : Expr) → Spells way text x → Spells way (spelling x) x
+pub again : (way : Direction) (text : List ℕ) (x : Expr) → SpellsExpr way text x → SpellsExpr way (spelling x) x
 again way text x h = fitting_again way x (spelled_fits way text x h)

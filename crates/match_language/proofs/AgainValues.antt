@@ -18,7 +18,7 @@ use Rattle.match_language.specs.declared.field.Field.{Field}
 use Rattle.match_language.specs.declared.field.Field.TheVariants as f
 use Rattle.match_language.specs.declared.token.Token.{Token}
 use Rattle.match_language.specs.declared.token.Token.TheVariants as t
-use Rattle.match_language.specs.Tables.{field_bits, field_max, is_port}
+use Rattle.match_language.specs.Tables.{field_bits, field_max, is_port_field}
 use Rattle.match_language.specs.Relations.{is_equality}
 use Rattle.match_language.specs.Constants.{◌>>=◌, prefix_mask}
 use Rattle.match_language.specs.Tokens.{is_run, word_token}
@@ -28,8 +28,8 @@ use Rattle.match_language.specs.Grammar.{is_slash, IsOne, IsList, IsValues}
 use Rattle.match_language.specs.Grammar.IsOne.{unmasked, masked, port, of_group, of_set}
 use Rattle.match_language.specs.Grammar.IsList.{last_value, with_comma}
 use Rattle.match_language.specs.Grammar.IsValues.{one_value, in_braces}
-use Rattle.match_language.specs.Nesting.{Takes, TakesEach, TakesAll}
-use Rattle.match_language.specs.Nesting.Takes.{takes_number, takes_masked, takes_port, takes_group, takes_set}
+use Rattle.match_language.specs.Nesting.{TakesValue, TakesEach, TakesAll}
+use Rattle.match_language.specs.Nesting.TakesValue.{takes_number, takes_masked, takes_port, takes_group, takes_set}
 use Rattle.match_language.specs.Nesting.TakesEach.{takes_last, takes_more}
 use Rattle.match_language.specs.Nesting.TakesAll.{takes_one, takes_several}
 use Rattle.match_language.specs.Spelling.{joined_text, number_text, prefix_below, dotted_mask_text, mask_text, value_text, values_text}
@@ -92,14 +92,14 @@ at_most_same : (x : Field) (n m : ℕ) → n ≤ field_max x → Some m ≡ Some
 at_most_same x n m within e = let same : m ≡ n = cc in ap (at_most (field_max x)) same ∙ at_most_within (field_max x) n within
 
 -- a number stands with every field that has one
-number_constant : (x : Field) (n : ℕ) (k : Token) → is_port x ≡ false → n ≤ field_max x → number_of k ≡ Some n → constant_of x k ≡ Some n
-number_constant x n (t.Bit false) numeric within e = cond-false (is_port x) _ _ numeric ∙ at_most_same x n 0 within e
-number_constant x n (t.Bit true) numeric within e = cond-false (is_port x) _ _ numeric ∙ at_most_same x n 1 within e
-number_constant x n (t.Number m) numeric within e = cond-false (is_port x) _ _ numeric ∙ at_most_same x n m within e
-number_constant x n (t.Hex m) numeric within e = cond-false (is_port x) _ _ numeric ∙ at_most_same x n m within e
+number_constant : (x : Field) (n : ℕ) (k : Token) → is_port_field x ≡ false → n ≤ field_max x → number_of k ≡ Some n → constant_of x k ≡ Some n
+number_constant x n (t.Bit false) numeric within e = cond-false (is_port_field x) _ _ numeric ∙ at_most_same x n 0 within e
+number_constant x n (t.Bit true) numeric within e = cond-false (is_port_field x) _ _ numeric ∙ at_most_same x n 1 within e
+number_constant x n (t.Number m) numeric within e = cond-false (is_port_field x) _ _ numeric ∙ at_most_same x n m within e
+number_constant x n (t.Hex m) numeric within e = cond-false (is_port_field x) _ _ numeric ∙ at_most_same x n m within e
 number_constant x n other numeric within e = absurd (none_is n e)
 
-kind_constant : (x : Field) (n : ℕ) (word : List ℕ) → is_port x ≡ false → n ≤ field_max x → Kind x n word → constant_of x (word_token word) ≡ Some n
+kind_constant : (x : Field) (n : ℕ) (word : List ℕ) → is_port_field x ≡ false → n ≤ field_max x → Kind x n word → constant_of x (word_token word) ≡ Some n
 kind_constant x n word numeric within (of_ip4 bits h) =
     ap (constant_of x) h.is ∙ cond-true (field_bits x == 32) _ _ ((Decides-eqb (field_bits x) 32).1 bits) ∙ at_most_within (field_max x) n within
 kind_constant x n word numeric within (of_mac bits h) =
@@ -171,7 +171,7 @@ mask_is x n m word within (of_number a b h some runs) =
 abbrev pub IsOneIn : Field → Rel → Value → List ℕ → List ℕ → Type 0
 IsOneIn x r y text rest = (p : ℕ) → (q : ℕ) × IsOne x r y (skip p text) (skip q rest)
 
-unmasked_in : (x : Field) (r : Rel) (n : ℕ) (word rest : List ℕ) → is_port x ≡ false → n ≤ field_max x → Kind x n word → Follows rest → IsOneIn x r (v.Number n (field_max x)) (word ++ rest) rest
+unmasked_in : (x : Field) (r : Rel) (n : ℕ) (word rest : List ℕ) → is_port_field x ≡ false → n ≤ field_max x → Kind x n word → Follows rest → IsOneIn x r (v.Number n (field_max x)) (word ++ rest) rest
 unmasked_in x r n word rest numeric within kind follows p =
     let b = begins_run p word rest (kind_some x n word kind) (kind_runs x n word kind) follows.runs in
     let i = skip p (word ++ rest) in
@@ -179,7 +179,7 @@ unmasked_in x r n word rest numeric within kind follows p =
     let slash : is_slash (token (next i)) ≡ false = ap (λ (j : Input). is_slash (token j)) b.after ∙ follows.slash b.place in
     (b.place, subst (λ (j : Input). IsOne x r (v.Number n (field_max x)) i j) b.after (unmasked x r n i is slash))
 
-masked_in : (x : Field) (r : Rel) (n m : ℕ) (word mask rest : List ℕ) → is_equality r ≡ true → is_port x ≡ false → n ≤ field_max x → bit_and n m ≡ n → Kind x n word → MaskWord x (word_token word) m mask → Follows rest
+masked_in : (x : Field) (r : Rel) (n m : ℕ) (word mask rest : List ℕ) → is_equality r ≡ true → is_port_field x ≡ false → n ≤ field_max x → bit_and n m ≡ n → Kind x n word → MaskWord x (word_token word) m mask → Follows rest
     → IsOneIn x r (v.Number n m) (word ++ (47 ∷ (mask ++ rest))) rest
 masked_in x r n m word mask rest eq numeric within inside kind has follows p =
     let b = begins_run p word (47 ∷ (mask ++ rest)) (kind_some x n word kind) (kind_runs x n word kind) refl in
@@ -201,13 +201,13 @@ mask_text_other : (x : Field) (m : ℕ) → (m == field_max x) ≡ false → mas
 unfolding mask_text
 mask_text_other x m other = cond-false (m == field_max x) _ _ other
 
-number_spelled : (x : Field) (r : Rel) (n : ℕ) (rest : List ℕ) → is_port x ≡ false → n ≤ field_max x → Follows rest → IsOneIn x r (v.Number n (field_max x)) (value_text x (v.Number n (field_max x)) ++ rest) rest
+number_spelled : (x : Field) (r : Rel) (n : ℕ) (rest : List ℕ) → is_port_field x ≡ false → n ≤ field_max x → Follows rest → IsOneIn x r (v.Number n (field_max x)) (value_text x (v.Number n (field_max x)) ++ rest) rest
 unfolding value_text
 number_spelled x r n rest numeric within follows =
     let same : (number_text x n ++ mask_text x (field_max x)) ++ rest ≡ number_text x n ++ rest = append_assoc (number_text x n) (mask_text x (field_max x)) rest ∙ ap (λ (w : List ℕ). number_text x n ++ (w ++ rest)) (mask_text_full x) in
     subst (λ (w : List ℕ). IsOneIn x r (v.Number n (field_max x)) w rest) (sym same) (unmasked_in x r n (number_text x n) rest numeric within (kind_of x n within) follows)
 
-masked_by : (x : Field) (r : Rel) (n m : ℕ) (rest : List ℕ) → is_equality r ≡ true → is_port x ≡ false → n ≤ field_max x → m ≤ field_max x → bit_and n m ≡ n → Follows rest → (b : Bool) → (m == field_max x) ≡ b
+masked_by : (x : Field) (r : Rel) (n m : ℕ) (rest : List ℕ) → is_equality r ≡ true → is_port_field x ≡ false → n ≤ field_max x → m ≤ field_max x → bit_and n m ≡ n → Follows rest → (b : Bool) → (m == field_max x) ≡ b
     → IsOneIn x r (v.Number n m) (value_text x (v.Number n m) ++ rest) rest
 unfolding value_text
 masked_by x r n m rest eq numeric within most inside follows true e =
@@ -222,7 +222,7 @@ masked_by x r n m rest eq numeric within most inside follows false e =
 name_passes : (name : List ℕ) → IsName name → list_all name_byte name ≡ true
 name_passes name h = list_all-from_AllPass name_byte name h.bytes
 
-pub one_again : (x : Field) (r : Rel) (y : Value) → Takes x r y → (rest : List ℕ) → Follows rest → IsOneIn x r y (value_text x y ++ rest) rest
+pub one_again : (x : Field) (r : Rel) (y : Value) → TakesValue x r y → (rest : List ℕ) → Follows rest → IsOneIn x r y (value_text x y ++ rest) rest
 unfolding value_text
 one_again _ _ _ (takes_number x r n numeric within) rest follows p = number_spelled x r n rest numeric within follows p
 one_again _ _ _ (takes_masked x r n m eq numeric within most inside) rest follows p = masked_by x r n m rest eq numeric within most inside follows (m == field_max x) refl p
@@ -257,7 +257,7 @@ joined_more x y z zs rest = append_assoc (value_text x y) (44 ∷ 32 ∷ joined_
 joined_one : (x : Field) (y : Value) (rest : List ℕ) → joined_text comma (map (value_text x) (y ∷ [])) ++ rest ≡ value_text x y ++ rest
 joined_one x y rest = append_assoc (value_text x y) [] rest
 
-behind_comma : (x : Field) (r : Rel) (y z : Value) (zs : List Value) (text rest : List ℕ) → Takes x r y → IsListIn x r (z ∷ zs) text rest → IsListIn x r (y ∷ z ∷ zs) (value_text x y ++ (44 ∷ 32 ∷ text)) rest
+behind_comma : (x : Field) (r : Rel) (y z : Value) (zs : List Value) (text rest : List ℕ) → TakesValue x r y → IsListIn x r (z ∷ zs) text rest → IsListIn x r (y ∷ z ∷ zs) (value_text x y ++ (44 ∷ 32 ∷ text)) rest
 behind_comma x r y z zs text rest h others p =
     let a = one_again x r y h (44 ∷ 32 ∷ text) (comma_follows (32 ∷ text)) p in
     let c = begins_comma a.0 (32 ∷ text) in

@@ -11,7 +11,7 @@ use mathlib.Core.Bool.{true≢false}
 use Rattle.ovn_base.specs.names.NameText.{IsName, name_byte}
 use Rattle.match_language.specs.declared.token.Token.{Token}
 use Rattle.match_language.specs.declared.token.Token.TheVariants as t
-use Rattle.match_language.specs.Tokens.{is_blank, is_run, first_token, string_token, quoted_len, set_token, group_token, name_len, is_name_len, word_token}
+use Rattle.match_language.specs.Tokens.{is_token_blank, is_run, first_token, string_token, quoted_len, set_token, group_token, name_len, is_name_len, word_token}
 use Rattle.match_language.specs.Input.{Input, token, next, skip, quoted, blanks}
 use Rattle.match_language.specs.Grammar.{is_slash}
 
@@ -54,14 +54,14 @@ pub record Begins (p : ℕ) (text : List ℕ) (k : Token) (rest : List ℕ) : Ty
   pub place : ℕ
   pub after : next (skip p text) ≡ skip place rest
 
-pub skip_none : (p b : ℕ) (text : List ℕ) → is_blank b ≡ false → skip p (b ∷ text) ≡ record { place = p; text = b ∷ text }
+pub skip_none : (p b : ℕ) (text : List ℕ) → is_token_blank b ≡ false → skip p (b ∷ text) ≡ record { place = p; text = b ∷ text }
 unfolding skip
 skip_none p b text h =
-    let none : blanks (b ∷ text) ≡ 0 = cond-false (is_blank b) _ _ h in
+    let none : blanks (b ∷ text) ≡ 0 = cond-false (is_token_blank b) _ _ h in
     let at : Input = record { place = p; text = b ∷ text } in
     ap (λ (n : ℕ). record at { place = p + n; text = drop n (b ∷ text) }) none ∙ ap (λ (n : ℕ). record at { place = n }) (add-zero p)
 
-pub begins_first : (p b : ℕ) (text : List ℕ) (k : Token) (n : ℕ) (rest : List ℕ) → is_blank b ≡ false → first_token (b ∷ text) ≡ (k, n) → drop n (b ∷ text) ≡ rest → Begins p (b ∷ text) k rest
+pub begins_first : (p b : ℕ) (text : List ℕ) (k : Token) (n : ℕ) (rest : List ℕ) → is_token_blank b ≡ false → first_token (b ∷ text) ≡ (k, n) → drop n (b ∷ text) ≡ rest → Begins p (b ∷ text) k rest
 unfolding token next
 begins_first p b text k n rest blank e left =
     let here = skip_none p b text blank in
@@ -131,7 +131,7 @@ not_equal b n other run false e = refl
 not_equal b n other run true e = absurd (true≢false (sym run ∙ ap is_run ((Decides-eqb b n).0 e) ∙ other))
 
 -- a byte of a word is no blank
-pub run_no_blank : (b : ℕ) → is_run b ≡ true → is_blank b ≡ false
+pub run_no_blank : (b : ℕ) → is_run b ≡ true → is_token_blank b ≡ false
 run_no_blank b run =
     let a = not_equal b 32 refl run (b == 32) refl in
     let c = not_equal b 9 refl run (b == 9) refl in

@@ -13,7 +13,7 @@ use Rattle.ovn_base.specs.names.NameText.{name_byte}
 use Rattle.match_language.specs.declared.expr.Rel.TheVariants.{Eq, Ne, Lt, Le, Gt, Ge}
 use Rattle.match_language.specs.declared.token.Token.{Token}
 use Rattle.match_language.specs.declared.token.Token.TheVariants as t
-use Rattle.match_language.specs.Tokens.{is_blank, is_run, run_len, first_token, symbol, pair, string_token, quoted_len, set_token, group_token, name_len, is_name_len, word_token}
+use Rattle.match_language.specs.Tokens.{is_token_blank, is_run, run_len, first_token, symbol, pair, string_token, quoted_len, set_token, group_token, name_len, is_name_len, word_token}
 use Rattle.match_language.specs.Input.{Input, token, next, skip, quoted}
 use Rattle.match_language.specs.FirstFault.{after, Same, Shares}
 use Rattle.match_language.proofs.Names.{prefix_passes}
@@ -189,13 +189,13 @@ blank_bad b rest false true z e g h any = ap (λ (k : ℕ). (first_token (k ∷ 
 blank_bad b rest false false true e g h any = ap (λ (k : ℕ). (first_token (k ∷ rest)).0) ((Decides-eqb b 10).0 h)
 blank_bad b rest false false false e g h any = absurd (false≢true any)
 
-blank_by : (b : ℕ) (rest : List ℕ) (r : Bool) → is_blank b ≡ r → is_plain (first_token (b ∷ rest)).0 ≡ true → r ≡ false
+blank_by : (b : ℕ) (rest : List ℕ) (r : Bool) → is_token_blank b ≡ r → is_plain (first_token (b ∷ rest)).0 ≡ true → r ≡ false
 blank_by b rest false e plain = refl
 blank_by b rest true e plain = absurd (false≢true (ap is_plain (sym (blank_bad b rest (b == 32) (b == 9) (b == 10) refl refl refl e)) ∙ plain))
 
 -- the token of a text, where the text goes on otherwise behind it
 pub record Grafted (b : ℕ) (rest c : List ℕ) : Type 0 where
-  pub blank : is_blank b ≡ false
+  pub blank : is_token_blank b ≡ false
   pub text : List ℕ
   pub token : first_token (b ∷ text) ≡ first_token (b ∷ rest)
   pub left : drop (first_token (b ∷ rest)).1 (b ∷ text) ≡ 32 ∷ c
@@ -206,7 +206,7 @@ grafted_by b rest c x e plain some within same =
     let n : x.1 ≡ suc (x.1 - 1) = omega (arith, some) in
     let text = take (x.1 - 1) rest ++ (32 ∷ c) in
     record {
-      blank = blank_by b rest (is_blank b) refl (ap (λ (y : Token × ℕ). is_plain y.0) e ∙ plain);
+      blank = blank_by b rest (is_token_blank b) refl (ap (λ (y : Token × ℕ). is_plain y.0) e ∙ plain);
       text = text;
       token = same ∙ sym e;
       left = ap (λ (y : Token × ℕ). drop y.1 (b ∷ text)) e ∙ ap (λ (k : ℕ). drop k (b ∷ text)) n ∙ drop_kept (x.1 - 1) rest (32 ∷ c) (omega (arith, within));

@@ -14,17 +14,17 @@ use Rattle.match_language.specs.declared.field.Field.{Field}
 use Rattle.match_language.specs.declared.field.Field.TheVariants as f
 use Rattle.match_language.specs.declared.token.Token.{Token}
 use Rattle.match_language.specs.declared.token.Token.TheVariants as t
-use Rattle.match_language.specs.Tables.{is_port, is_address}
+use Rattle.match_language.specs.Tables.{is_port_field, is_address}
 use Rattle.match_language.specs.Relations.{is_equality, rel_text}
 use Rattle.match_language.specs.Values.{constant_of}
 use Rattle.match_language.specs.Input.{Input, token, next, quoted, skip, left}
 use Rattle.match_language.specs.Grammar.{is_slash, IsOne, IsList, IsValues}
 use Rattle.match_language.specs.Grammar.IsList.{last_value, with_comma, without_comma}
 use Rattle.match_language.specs.Grammar.IsValues.{one_value, in_braces}
-use Rattle.match_language.specs.Nesting.{Takes}
+use Rattle.match_language.specs.Nesting.{TakesValue}
 use Rattle.match_language.specs.Spelling.{value_text}
 use Rattle.match_language.specs.FirstFault as ff
-use Rattle.match_language.specs.FirstFault.{after, Same, Shares, seen, wanted, fault_by, is_value, is_outside, is_passed}
+use Rattle.match_language.specs.FirstFault.{after, Same, Shares, tokens_seen, wanted, fault_by, is_value, is_outside, is_passed}
 use Rattle.match_language.specs.FirstFault.Wanted.{wants_relation, wants_value, wants_more, wants_operator}
 use Rattle.match_language.specs.Reading.{Read, ◌>>=◌, unexpected, relation, relation_by, number, number_by, where_taken, one_by, one, closes, past_comma, more_values, several, opens, values, comparison}
 use Rattle.match_language.proofs.Steps.{done, failed}
@@ -229,7 +229,7 @@ module _ (f : Field) (r : Rel) (admits : Admits f r) (ts : List Token) (i : Inpu
 
 -- ---- where no value can stand
 
-port_constant : (x : Field) (k : Token) → is_port x ≡ true → constant_of x k ≡ None
+port_constant : (x : Field) (k : Token) → is_port_field x ≡ true → constant_of x k ≡ None
 port_constant f.Inport (t.Dotted n) e = refl
 port_constant f.Inport (t.Ether n) e = refl
 port_constant f.Inport _ e = refl
@@ -238,7 +238,7 @@ port_constant f.Outport (t.Ether n) e = refl
 port_constant f.Outport _ e = refl
 port_constant _ k e = absurd (false≢true e)
 
-module _ (x : Field) (r : Rel) (is_port_field : is_port x ≡ true) (eq : is_equality r ≡ false) where
+module _ (x : Field) (r : Rel) (of_port : is_port_field x ≡ true) (eq : is_equality r ≡ false) where
   one_at : (k : Input) (c : Token) → token k ≡ c → one x r k ≡ one_by x r c k
   unfolding one
   one_at k c at = ap (λ (y : Token). one_by x r y k) at
@@ -262,15 +262,15 @@ module _ (x : Field) (r : Rel) (is_port_field : is_port x ≡ true) (eq : is_equ
 
   no_constant : (k : Input) (c : Token) → token k ≡ c → opens c ≡ false → one_by x r c k ≡ number x r c k → values x r k ≡ Err (fault.BadConstant k.place)
   unfolding number
-  no_constant k c at bare reads = one_value_at k c at bare ∙ ap alone reads ∙ ap (λ (o : Option ℕ). alone (number_by x r c o k)) (port_constant x c is_port_field)
+  no_constant k c at bare reads = one_value_at k c at bare ∙ ap alone reads ∙ ap (λ (o : Option ℕ). alone (number_by x r c o k)) (port_constant x c of_port)
 
   no_values : (k : Input) (c : Token) → token k ≡ c → values x r k ≡ Err (fault_by wants_value c k.place)
   unfolding values
   no_values k t.OpenBrace at =
       ap (λ (y : Token). cond (opens y) (cond (is_equality r) (several x r (next k)) (Err (fault.BadConstant k.place))) (alone (one x r k))) at
       ∙ ap (λ (b : Bool). cond b (several x r (next k)) (Err (fault.BadConstant k.place))) eq
-  no_values k t.Text at = not_taken k t.Text (is_port x) (v.Port (quoted k)) at refl refl
-  no_values k (t.Group name) at = not_taken k (t.Group name) (is_port x) (v.Group name) at refl refl
+  no_values k t.Text at = not_taken k t.Text (is_port_field x) (v.Port (quoted k)) at refl refl
+  no_values k (t.Group name) at = not_taken k (t.Group name) (is_port_field x) (v.Group name) at refl refl
   no_values k (t.Set name) at = not_taken k (t.Set name) (is_address x) (v.Set name) at refl refl
   no_values k (t.Bit b) at = no_constant k (t.Bit b) at refl refl
   no_values k (t.Number n) at = no_constant k (t.Number n) at refl refl
@@ -285,13 +285,13 @@ module _ (x : Field) (r : Rel) (is_port_field : is_port x ≡ true) (eq : is_equ
 abbrev pub SomeComparison : Field → Input → Input → Type 0
 SomeComparison x k l = (r : Rel) × (xs : List Value) × (token k ≡ t.Relation r) × IsValues x r xs (next k) l
 
-admits_by : (x : Field) (r : Rel) → is_equality r ≡ true → (b : Bool) → is_port x ≡ b → Admits x r
+admits_by : (x : Field) (r : Rel) → is_equality r ≡ true → (b : Bool) → is_port_field x ≡ b → Admits x r
 admits_by x r eq true e = inr (e, eq)
 admits_by x r eq false e = inl e
 
 module _ (x : Field) (ts : List Token) (i : Input) where
-  abbrev an_equal : (y : Value) × Takes x rel.Eq y
-  an_equal = sample x rel.Eq (admits_by x rel.Eq refl (is_port x) refl)
+  abbrev an_equal : (y : Value) × TakesValue x rel.Eq y
+  an_equal = sample x rel.Eq (admits_by x rel.Eq refl (is_port_field x) refl)
 
   abbrev equal_tail : List ℕ → List ℕ
   equal_tail rest = rel_text rel.Eq ++ (32 ∷ (value_text x an_equal.0 ++ rest))
@@ -324,7 +324,7 @@ module _ (x : Field) (ts : List Token) (i : Input) where
       (λ k m l stands xs. (r, xs.0, stands.0, subst (λ (y : Input). IsValues x r xs.0 y l) stands.1 xs.1))
 
   -- none can
-  port_fails : (r : Rel) (g : MatchFault) → is_port x ≡ true → is_equality r ≡ false → token i ≡ t.Relation r → values x r (next i) ≡ Err g → Fails (comparison x) (SomeComparison x) (t.Field x ∷ ts) i g
+  port_fails : (r : Rel) (g : MatchFault) → is_port_field x ≡ true → is_equality r ≡ false → token i ≡ t.Relation r → values x r (next i) ≡ Err g → Fails (comparison x) (SomeComparison x) (t.Field x ∷ ts) i g
   port_fails r g is eq at e =
       let shown = no_values x r is eq (next i) (token (next i)) refl in
       record {
@@ -345,7 +345,7 @@ module _ (x : Field) (ts : List Token) (i : Input) where
         goes = λ rest follows k s q e. subst (λ (y : Input). (l : ℕ) × SomeComparison x y (skip l rest)) (sym e) (equal_stands rest follows q);
       }
 
-  relation_fails : (r : Rel) (g : MatchFault) → token i ≡ t.Relation r → values x r (next i) ≡ Err g → (b c : Bool) → is_port x ≡ b → is_equality r ≡ c → Fails (comparison x) (SomeComparison x) (t.Field x ∷ ts) i g
+  relation_fails : (r : Rel) (g : MatchFault) → token i ≡ t.Relation r → values x r (next i) ≡ Err g → (b c : Bool) → is_port_field x ≡ b → is_equality r ≡ c → Fails (comparison x) (SomeComparison x) (t.Field x ∷ ts) i g
   relation_fails r g at e false c is eq = taken_fails r g (inl is) at e
   relation_fails r g at e true true is eq = taken_fails r g (inr (is, eq)) at e
   relation_fails r g at e true false is eq = port_fails r g is eq at e
@@ -360,7 +360,7 @@ module _ (x : Field) (ts : List Token) (i : Input) where
 
   comparison_each : (c : Token) (g : MatchFault) → token i ≡ c → (relation_by c i >>= λ r. compares r.0 (values x r.0 r.1)) ≡ Err g → Fails (comparison x) (SomeComparison x) (t.Field x ∷ ts) i g
   comparison_each (t.Relation r) g at e = elim (bind_err (values x r (next i)) (λ xs. Ok (ex.Compare x r xs.0, xs.1)) g e) [
-    | inl h ↦ relation_fails r g at h (is_port x) (is_equality r) refl refl
+    | inl h ↦ relation_fails r g at h (is_port_field x) (is_equality r) refl refl
     | inr h ↦ absurd (err_never (ex.Compare x r h.0.0, h.0.1) g h.1.1)
   ]
   comparison_each t.Slash g at e = no_relation t.Slash g at (λ p. refl) (lone (t.Field x) ts refl) (λ k. refl) (ap (λ (y : MatchFault). failed y) (err_is {A = Expr × Input} (unexpected t.Slash i.place) g e))

@@ -15,7 +15,7 @@ use Rattle.match_language.specs.declared.fault.MatchFault.TheVariants as fault
 use Rattle.match_language.specs.declared.field.Field.{Field}
 use Rattle.match_language.specs.declared.token.Token.{Token}
 use Rattle.match_language.specs.declared.token.Token.TheVariants as t
-use Rattle.match_language.specs.Tables.{field_bits, field_max, is_port, is_address}
+use Rattle.match_language.specs.Tables.{field_bits, field_max, is_port_field, is_address}
 use Rattle.match_language.specs.Relations.{is_equality}
 use Rattle.match_language.specs.Tokens.{is_run, word_token}
 use Rattle.match_language.specs.Values.{is_constant_token, constant_of, mask_of, number_of, at_most, dotted_mask, ether_mask}
@@ -23,13 +23,13 @@ use Rattle.match_language.specs.Constants.{◌>>=◌ as ◌>?=◌}
 use Rattle.match_language.specs.Input.{Input, token, next, quoted, skip}
 use Rattle.match_language.specs.Grammar.{is_slash, IsOne}
 use Rattle.match_language.specs.Grammar.IsOne.{unmasked, masked, port, of_group, of_set}
-use Rattle.match_language.specs.Nesting.{Takes}
-use Rattle.match_language.specs.Nesting.Takes.{takes_number, takes_port}
+use Rattle.match_language.specs.Nesting.{TakesValue}
+use Rattle.match_language.specs.Nesting.TakesValue.{takes_number, takes_port}
 use Rattle.match_language.specs.Spelling.{value_text}
 use Rattle.match_language.specs.FirstFault as ff
-use Rattle.match_language.specs.FirstFault.{after, Same, Shares, seen, wanted, fault_by, is_value, is_outside, back, is_passed, is_some, takes_mask, misplaced}
+use Rattle.match_language.specs.FirstFault.{after, Same, Shares, tokens_seen, wanted, fault_by, is_value, is_outside, back, is_passed, is_some, takes_mask, misplaced}
 use Rattle.match_language.specs.FirstFault.Wanted.{wants_value, wants_mask, wants_more}
-use Rattle.match_language.specs.Reading.{Read, ◌>>=◌, unexpected, under, mask, mask_by, after_constant, number_by, number, where_taken, one_by, one}
+use Rattle.match_language.specs.Reading.{Read, ◌>>=◌, unexpected, masked_value, mask, mask_by, after_constant, number_by, number, where_taken, one_by, one}
 use Rattle.match_language.proofs.Steps.{done, failed, never, chosen}
 use Rattle.match_language.proofs.Nested.{chosen_some, passed_some, bind_some, at_most_is}
 use Rattle.match_language.proofs.Begins.{Follows, begins_run}
@@ -55,9 +55,9 @@ err_never x g e = never g x (sym e)
 
 -- some value stands beside the field and the relation
 abbrev pub Admits : Field → Rel → Type 0
-Admits f r = (is_port f ≡ false) ⊎ ((is_port f ≡ true) × (is_equality r ≡ true))
+Admits f r = (is_port_field f ≡ false) ⊎ ((is_port_field f ≡ true) × (is_equality r ≡ true))
 
-pub sample : (f : Field) (r : Rel) → Admits f r → (y : Value) × Takes f r y
+pub sample : (f : Field) (r : Rel) → Admits f r → (y : Value) × TakesValue f r y
 sample f r (inl e) = (v.Number 0 (field_max f), takes_number f r 0 e (omega arith))
 sample f r (inr e) = (v.Port [], takes_port f r [] e.0 e.1 refl)
 
@@ -72,13 +72,13 @@ one_bare _ _ _ _ _ (port f r i is eq at) = ap is_slash at
 one_bare _ _ _ _ _ (of_group f r name i is eq at) = ap is_slash at
 one_bare _ _ _ _ _ (of_set f r name i is eq at) = ap is_slash at
 
-pub sample_bare : (f : Field) (r : Rel) (y : Value) → Takes f r y → (rest : List ℕ) → Follows rest → (q : ℕ) → is_slash (token (skip q (value_text f y ++ rest))) ≡ false
+pub sample_bare : (f : Field) (r : Rel) (y : Value) → TakesValue f r y → (rest : List ℕ) → Follows rest → (q : ℕ) → is_slash (token (skip q (value_text f y ++ rest))) ≡ false
 sample_bare f r y h rest follows q = let a = one_again f r y h rest follows q in one_bare f r y (skip q (value_text f y ++ rest)) (skip a.0 rest) a.1
 
 abbrev pub SomeOne : Field → Rel → Input → Input → Type 0
 SomeOne f r k l = (x : Value) × IsOne f r x k l
 
-pub sample_stands : (f : Field) (r : Rel) (y : Value) → Takes f r y → (rest : List ℕ) → Follows rest → (q : ℕ) → (l : ℕ) × SomeOne f r (skip q (value_text f y ++ rest)) (skip l rest)
+pub sample_stands : (f : Field) (r : Rel) (y : Value) → TakesValue f r y → (rest : List ℕ) → Follows rest → (q : ℕ) → (l : ℕ) × SomeOne f r (skip q (value_text f y ++ rest)) (skip l rest)
 sample_stands f r y h rest follows q = let a = one_again f r y h rest follows q in (a.0, (y, a.1))
 
 -- ---- what stands before a value
@@ -164,7 +164,7 @@ cond_through : {A B : Type 0} (g : A → B) (b : Bool) (x y : A) → g (cond b x
 cond_through g true x y = refl
 cond_through g false x y = refl
 
-under_same : (n place : ℕ) (o : Option ℕ) (m : Token) (j : Input) → read_as n place (under_out n o) m j ≡ under n place o j
+under_same : (n place : ℕ) (o : Option ℕ) (m : Token) (j : Input) → read_as n place (under_out n o) m j ≡ masked_value n place o j
 under_same n place (Some k) m j = cond_through (λ (x : Mask). read_as n place x m j) (bit_and n k == n) (inside k) outside
 under_same n place None m j = refl
 
@@ -296,7 +296,7 @@ own_mask f (t.Ether m) n e =
     let w = mac_word n most in
     record { word = _; some = w.some; runs = w.runs; is = ap (ether_mask f) w.is ∙ at_most_within (field_max f) n within }
 own_mask f other n e =
-    let a = passed_some (is_port f) (number_of other >?= at_most (field_max f)) n e in
+    let a = passed_some (is_port_field f) (number_of other >?= at_most (field_max f)) n e in
     let b = bind_some (number_of other) (at_most (field_max f)) n a.1 in
     own_number f other n (λ m. refl) (at_most_is (field_max f) b.0 n b.1)
 
@@ -456,8 +456,8 @@ module _ (f : Field) (r : Rel) (admits : Admits f r) (ts : List Token) (i : Inpu
   constant_fails k g at constant reads e = number_fails k g at constant reads (constant_of f k) refl e
 
   one_each : (c : Token) (g : MatchFault) → token i ≡ c → one_by f r c i ≡ Err g → Fails (one f r) (SomeOne f r) ts i g
-  one_each t.Text g at e = not_taken t.Text (is_port f && is_equality r) (λ k. v.Port (quoted k)) g at refl (λ k. refl) e
-  one_each (t.Group name) g at e = not_taken (t.Group name) (is_port f && is_equality r) (λ k. v.Group name) g at refl (λ k. refl) e
+  one_each t.Text g at e = not_taken t.Text (is_port_field f && is_equality r) (λ k. v.Port (quoted k)) g at refl (λ k. refl) e
+  one_each (t.Group name) g at e = not_taken (t.Group name) (is_port_field f && is_equality r) (λ k. v.Group name) g at refl (λ k. refl) e
   one_each (t.Set name) g at e = not_taken (t.Set name) (is_address f && is_equality r) (λ k. v.Set name) g at refl (λ k. refl) e
   one_each (t.Bit b) g at e = constant_fails (t.Bit b) g at refl (λ k. refl) e
   one_each (t.Number n) g at e = constant_fails (t.Number n) g at refl (λ k. refl) e

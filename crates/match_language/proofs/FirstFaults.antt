@@ -10,10 +10,10 @@ use Rattle.match_language.specs.declared.fault.ParseFault.TheVariants as pf
 use Rattle.match_language.specs.declared.field.Direction.{Direction}
 use Rattle.match_language.specs.declared.token.Token.{Token}
 use Rattle.match_language.specs.declared.token.Token.TheVariants as t
-use Rattle.match_language.specs.Faults.{IfBad, Gives}
+use Rattle.match_language.specs.Faults.{IfBad, GivesExpr}
 use Rattle.match_language.specs.Input.{Input, token, skip}
-use Rattle.match_language.specs.Grammar.{IsExpr, Spells}
-use Rattle.match_language.specs.FirstFault.{after, seen, Wanted, wanted, fault_by, back, is_passed, IsAlive, IsFirstFault}
+use Rattle.match_language.specs.Grammar.{IsExpr, SpellsExpr}
+use Rattle.match_language.specs.FirstFault.{after, tokens_seen, Wanted, wanted, fault_by, back, is_passed, IsAlive, IsFirstFault}
 use Rattle.match_language.specs.FirstFault.Wanted.{wants_operator}
 use Rattle.match_language.specs.Reading.{Read, ◌>>=◌, unexpected, is_operator, expression, term, ended_by, ended, whole}
 use Rattle.match_language.proofs.Steps.{failed, never}
@@ -103,11 +103,11 @@ module _ (way : Direction) where
       let stands = h.goes [] end_follows (skip 0 other.0) at.0 at.1.0 at.1.1 in
       record { other = other.0; expr = stands.1.0; shares = at.0; spells = record { end = skip stands.0 []; body = stands.1.1; whole = again.ended stands.0 } }
 
-  alive_before : (text : List ℕ) (kept index : ℕ) → IsAlive way text kept → Gap (skip 0 text) [] kept index → (j : ℕ) → j < index → (is_passed (seen (suc j) (skip 0 text) []) ≡ true) ⊎ IsAlive way text (suc j)
+  alive_before : (text : List ℕ) (kept index : ℕ) → IsAlive way text kept → Gap (skip 0 text) [] kept index → (j : ℕ) → j < index → (is_passed (tokens_seen (suc j) (skip 0 text) []) ≡ true) ⊎ IsAlive way text (suc j)
   alive_before text kept index alive (inl e) j less = inr (alive_less text (suc j) kept (omega (arith, less, e)) alive)
   alive_before text kept index alive (inr e) j less = elim (cases_lt j kept) [
     | inl below ↦ inr (alive_less text (suc j) kept (omega (arith, below)) alive)
-    | inr above ↦ let same : index ≡ suc j = omega (arith, above, less, e.0) in inl (subst (λ (n : ℕ). is_passed (seen n (skip 0 text) []) ≡ true) same e.1)
+    | inr above ↦ let same : index ≡ suc j = omega (arith, above, less, e.0) in inl (subst (λ (n : ℕ). is_passed (tokens_seen n (skip 0 text) []) ≡ true) same e.1)
   ]
 
   first_by : (text : List ℕ) (g : MatchFault) → Fails (full way) (SomeExpr way 64) [] (skip 0 text) g → IsFirstFault way text g
@@ -119,7 +119,7 @@ module _ (way : Direction) where
     settled = ap is_passed (seen_last h.index (skip 0 text) []) ∙ h.settled;
     alive = alive_before text h.kept h.index (alive_kept text g h) h.gap;
     named = h.named;
-    at = h.at ∙ plus_is h.named (back (seen h.index (skip 0 text) []) (token (after h.index (skip 0 text))));
+    at = h.at ∙ plus_is h.named (back (tokens_seen h.index (skip 0 text) []) (token (after h.index (skip 0 text))));
     is = h.is;
   }
 
@@ -153,31 +153,31 @@ module _ (way : Direction) where
   one_first text f g h k =
       let i = skip 0 text in
       let same = one_index text f g h k in
-      let behind = λ (n : ℕ). back (seen n i []) (token (after n i)) in
-      let shown = λ (n : ℕ) (m : ℕ). fault_by (wanted (seen n i [])) (token (after n i)) (after m i).place in
+      let behind = λ (n : ℕ). back (tokens_seen n i []) (token (after n i)) in
+      let shown = λ (n : ℕ) (m : ℕ). fault_by (wanted (tokens_seen n i [])) (token (after n i)) (after m i).place in
       let there : h.named + behind k.index ≡ k.named + behind k.index = ap (λ (n : ℕ). h.named + behind n) (sym same) ∙ sym h.at ∙ same ∙ k.at in
       h.is ∙ ap (λ (n : ℕ). shown n h.named) same ∙ ap (shown k.index) (sum_left h.named k.named (behind k.index) there) ∙ sym k.is
 
   -- a text that spells an expression has none
-  pub none_spelled : (text : List ℕ) (x : Expr) (f : MatchFault) → Spells way text x → IsFirstFault way text f → ⊥
+  pub none_spelled : (text : List ℕ) (x : Expr) (f : MatchFault) → SpellsExpr way text x → IsFirstFault way text f → ⊥
   none_spelled text x f spells h = h.dead (record { other = text; expr = x; shares = shares_own (suc h.index) (skip 0 text); spells = spells })
 
   -- ---- what `parse` answers
 
-  either : (text : List ℕ) (r : Result Expr MatchFault) → whole way text ≡ r → ((x : Expr) × Spells way text x) ⊎ ((f : MatchFault) × IsFirstFault way text f)
+  either : (text : List ℕ) (r : Result Expr MatchFault) → whole way text ≡ r → ((x : Expr) × SpellsExpr way text x) ⊎ ((f : MatchFault) × IsFirstFault way text f)
   either text (Ok x) e = inl (x, whole_found way text x e)
   either text (Err f) e = inr (f, whole_first text f e)
 
   -- a text spells an expression or has a first fault
-  pub spelled_or : (text : List ℕ) → ((x : Expr) × Spells way text x) ⊎ ((f : MatchFault) × IsFirstFault way text f)
+  pub spelled_or : (text : List ℕ) → ((x : Expr) × SpellsExpr way text x) ⊎ ((f : MatchFault) × IsFirstFault way text f)
   spelled_or text = either text (whole way text) refl
 
-  pub gives_first : (text : List ℕ) (r : Result Expr ParseFault) → Gives r (whole way text) → IfBad r (λ f. IsFirstFault way text f)
+  pub gives_first : (text : List ℕ) (r : Result Expr ParseFault) → GivesExpr r (whole way text) → IfBad r (λ f. IsFirstFault way text f)
   gives_first text (Ok x) h = tt
   gives_first text (Err pf.Memory) h = tt
   gives_first text (Err (pf.Bad f)) h = whole_first text f h
 
-  pub gives_only_first : (text : List ℕ) (r : Result Expr ParseFault) → Gives r (whole way text) → (f : MatchFault) → IsFirstFault way text f → Gives r (Err f)
+  pub gives_only_first : (text : List ℕ) (r : Result Expr ParseFault) → GivesExpr r (whole way text) → (f : MatchFault) → IsFirstFault way text f → GivesExpr r (Err f)
   gives_only_first text (Ok x) h f first = absurd (none_spelled text x f (whole_found way text x h) first)
   gives_only_first text (Err pf.Memory) h f first = tt
   gives_only_first text (Err (pf.Bad g)) h f first = ap (λ (d : MatchFault). failed d) (one_first text f g first (whole_first text g h))

@@ -9,12 +9,12 @@ use Rattle.match_language.specs.declared.token.Token.{Token}
 use Rattle.match_language.specs.declared.token.Token.TheVariants as t
 use Rattle.match_language.specs.Tables.{stands}
 use Rattle.match_language.specs.Input.{Input, token, next, skip, left}
-use Rattle.match_language.specs.Grammar.{IsTerm, IsExpr, IsJoined, Spells}
+use Rattle.match_language.specs.Grammar.{IsTerm, IsExpr, IsJoined, SpellsExpr}
 use Rattle.match_language.specs.Grammar.IsTerm.{constant, predicate, negated, grouped}
 use Rattle.match_language.specs.Grammar.IsExpr.{alone, all_of, any_of}
 use Rattle.match_language.specs.Grammar.IsJoined.{last_term, before_others}
 use Rattle.match_language.specs.declared.fault.ParseFault.{ParseFault}
-use Rattle.match_language.specs.Faults.{Gives}
+use Rattle.match_language.specs.Faults.{GivesExpr}
 use Rattle.match_language.specs.Reading.{Read, unexpected, comparison, leaf_by, leaf, is_operator, more, joined, after_first, expression, closed_by, group, negation, deep_by, deep, flat_by, flat, term, ended_by, ended, whole}
 use Rattle.match_language.proofs.Steps.{bind_ok, done, ok_is, never, chosen, chosen_ok}
 use Rattle.match_language.proofs.FoundValues.{comparison_found}
@@ -123,7 +123,7 @@ ended_found (Ok x) y e = let a = ended_case x.0 x.1 (token x.1) y e in (x, refl,
 ended_found (Err f) y e = absurd (never f y e)
 
 -- the expression that reading gives is spelled by the text
-pub whole_found : (way : Direction) (text : List ℕ) (x : Expr) → whole way text ≡ Ok x → Spells way text x
+pub whole_found : (way : Direction) (text : List ℕ) (x : Expr) → whole way text ≡ Ok x → SpellsExpr way text x
 unfolding whole
 whole_found way text x e =
     let a = ended_found (expression (term way 64) (skip 0 text)) x e in
@@ -135,6 +135,6 @@ whole_found way text x e =
     }
 
 -- what gives what reading gives, gives what is in the grammar
-pub gives_found : (way : Direction) (text : List ℕ) (r : Result Expr ParseFault) → Gives r (whole way text) → IfOk r (λ x. Spells way text x)
+pub gives_found : (way : Direction) (text : List ℕ) (r : Result Expr ParseFault) → GivesExpr r (whole way text) → IfOk r (λ x. SpellsExpr way text x)
 gives_found way text (Ok x) h = whole_found way text x h
 gives_found way text (Err _) h = tt

@@ -13,7 +13,7 @@ use Rattle.match_language.specs.declared.field.Field.{Field}
 use Rattle.match_language.specs.declared.field.Direction.{Direction}
 use Rattle.match_language.specs.declared.token.Token.{Token}
 use Rattle.match_language.specs.declared.token.Token.TheVariants as t
-use Rattle.match_language.specs.Tables.{field_max, is_port, is_address, stands}
+use Rattle.match_language.specs.Tables.{field_max, is_port_field, is_address, stands}
 use Rattle.match_language.specs.Relations.{is_equality}
 use Rattle.match_language.specs.Values.{is_constant_token, constant_of, mask_of}
 use Rattle.match_language.specs.Input.{Input, token, next, quoted, left}
@@ -22,7 +22,7 @@ use Rattle.match_language.specs.Grammar.IsOne.{unmasked, masked, port, of_group,
 use Rattle.match_language.specs.Grammar.IsList.{last_value, with_comma, without_comma}
 use Rattle.match_language.specs.Grammar.IsValues.{one_value, in_braces}
 use Rattle.match_language.specs.Grammar.IsTerm.{compared}
-use Rattle.match_language.specs.Reading.{◌>>=◌, unexpected, relation, relation_by, under, mask, after_constant, number_by, number, where_taken, one_by, one, closes, past_comma, more_values, several, opens, values, comparison}
+use Rattle.match_language.specs.Reading.{◌>>=◌, unexpected, relation, relation_by, masked_value, mask, after_constant, number_by, number, where_taken, one_by, one, closes, past_comma, more_values, several, opens, values, comparison}
 use Rattle.match_language.proofs.Steps.{bind_ok, done, ok_is, never, chosen, chosen_ok}
 
 abbrev Standing : Field → Rel → Input → Value × Input → Type 0
@@ -33,7 +33,7 @@ taken_found taken w i x e =
     let a = chosen_ok taken (done (w, next i)) (fault.BadConstant i.place) x e in
     (a.0, ok_is (w, next i) x a.1)
 
-under_found : (f : Field) (r : Rel) (n place : ℕ) (o : Option ℕ) (j : Input) (x : Value × Input) → under n place o j ≡ Ok x → (m : ℕ) × (o ≡ Some m) × (bit_and n m ≡ n) × ((v.Number n m, next j) ≡ x)
+under_found : (f : Field) (r : Rel) (n place : ℕ) (o : Option ℕ) (j : Input) (x : Value × Input) → masked_value n place o j ≡ Ok x → (m : ℕ) × (o ≡ Some m) × (bit_and n m ≡ n) × ((v.Number n m, next j) ≡ x)
 under_found f r n place None j x e = absurd (never (fault.BadConstant j.place) x e)
 under_found f r n place (Some m) j x e =
     let a = chosen_ok (bit_and n m == n) (done (v.Number n m, next j)) (fault.BadConstant place) x e in
@@ -43,8 +43,8 @@ mask_found : (f : Field) (r : Rel) (k : Token) (n place : ℕ) (j : Input) (x : 
     → (m : ℕ) × (is_equality r ≡ true) × (mask_of f k (token j) ≡ Some m) × (bit_and n m ≡ n) × ((v.Number n m, next j) ≡ x)
 unfolding mask
 mask_found f r k n place j x e =
-    let a = chosen_ok (is_constant_token (token j)) (cond (is_equality r) (under n place (mask_of f k (token j)) j) (Err (fault.BadConstant j.place))) (unexpected (token j) j.place) x e in
-    let b = chosen_ok (is_equality r) (under n place (mask_of f k (token j)) j) (fault.BadConstant j.place) x a.1 in
+    let a = chosen_ok (is_constant_token (token j)) (cond (is_equality r) (masked_value n place (mask_of f k (token j)) j) (Err (fault.BadConstant j.place))) (unexpected (token j) j.place) x e in
+    let b = chosen_ok (is_equality r) (masked_value n place (mask_of f k (token j)) j) (fault.BadConstant j.place) x a.1 in
     let c = under_found f r n place (mask_of f k (token j)) j x b.1 in
     (c.0, b.0, c.1, c.2, c.3)
 
@@ -68,11 +68,11 @@ number_found f r k i x at e = number_case f r k i x at (constant_of f k) refl e
 
 one_case : (f : Field) (r : Rel) (k : Token) (i : Input) (x : Value × Input) → token i ≡ k → one_by f r k i ≡ Ok x → IsOne f r x.0 i x.1
 one_case f r t.Text i x at e =
-    let a = taken_found (is_port f && is_equality r) (v.Port (quoted i)) i x e in
-    subst (Standing f r i) a.1 (port f r i (first_so (is_port f) (is_equality r) a.0) (second_so (is_port f) (is_equality r) a.0) at)
+    let a = taken_found (is_port_field f && is_equality r) (v.Port (quoted i)) i x e in
+    subst (Standing f r i) a.1 (port f r i (first_so (is_port_field f) (is_equality r) a.0) (second_so (is_port_field f) (is_equality r) a.0) at)
 one_case f r (t.Group name) i x at e =
-    let a = taken_found (is_port f && is_equality r) (v.Group name) i x e in
-    subst (Standing f r i) a.1 (of_group f r name i (first_so (is_port f) (is_equality r) a.0) (second_so (is_port f) (is_equality r) a.0) at)
+    let a = taken_found (is_port_field f && is_equality r) (v.Group name) i x e in
+    subst (Standing f r i) a.1 (of_group f r name i (first_so (is_port_field f) (is_equality r) a.0) (second_so (is_port_field f) (is_equality r) a.0) at)
 one_case f r (t.Set name) i x at e =
     let a = taken_found (is_address f && is_equality r) (v.Set name) i x e in
     subst (Standing f r i) a.1 (of_set f r name i (first_so (is_address f) (is_equality r) a.0) (second_so (is_address f) (is_equality r) a.0) at)

@@ -11,7 +11,7 @@ use Rattle.match_language.specs.declared.field.Predicate.{Predicate}
 use Rattle.match_language.specs.declared.field.Direction.{Direction}
 use Rattle.match_language.specs.declared.token.Token.{Token}
 use Rattle.match_language.specs.declared.token.Token.TheVariants as t
-use Rattle.match_language.specs.Tables.{is_port}
+use Rattle.match_language.specs.Tables.{is_port_field}
 use Rattle.match_language.specs.Values.{is_constant_token, constant_of, mask_of}
 use Rattle.match_language.specs.Input.{Input, token, next, quoted}
 use Rattle.match_language.specs.Grammar.{is_slash, IsOne, IsList, IsValues, IsTerm, IsExpr, IsJoined}
@@ -52,7 +52,7 @@ constant_is f (t.Hex m) n e = refl
 constant_is f (t.Dotted m) n e = refl
 constant_is f (t.Ether m) n e = refl
 constant_is f t.BadConstant n e = refl
-constant_is f other n e = absurd (no_number (is_port f) n e)
+constant_is f other n e = absurd (no_number (is_port_field f) n e)
 
 -- ---- what was seen
 

@@ -11,25 +11,25 @@ use Rattle.match_language.specs.declared.field.Field.TheVariants as f
 use Rattle.match_language.specs.declared.field.Direction.{Direction}
 use Rattle.match_language.specs.declared.token.Token.{Token}
 use Rattle.match_language.specs.declared.token.Token.TheVariants as t
-use Rattle.match_language.specs.Tables.{field_bits, field_max, is_port}
+use Rattle.match_language.specs.Tables.{field_bits, field_max, is_port_field}
 use Rattle.match_language.specs.Relations.{is_equality}
 use Rattle.match_language.specs.Constants.{prefix_mask, ◌>>=◌}
 use Rattle.match_language.specs.Values.{constant_of, mask_of, number_of, decimal_of, at_most, prefix_of, dotted_mask, ether_mask}
 use Rattle.match_language.specs.Input.{Input, token, next, quoted, skip}
-use Rattle.match_language.specs.Grammar.{IsOne, IsList, IsValues, IsTerm, IsExpr, IsJoined, Spells}
+use Rattle.match_language.specs.Grammar.{IsOne, IsList, IsValues, IsTerm, IsExpr, IsJoined, SpellsExpr}
 use Rattle.match_language.specs.Grammar.IsOne.{unmasked, masked, port, of_group, of_set}
 use Rattle.match_language.specs.Grammar.IsList.{last_value, with_comma, without_comma}
 use Rattle.match_language.specs.Grammar.IsValues.{one_value, in_braces}
 use Rattle.match_language.specs.Grammar.IsTerm.{constant, predicate, compared, negated, grouped}
 use Rattle.match_language.specs.Grammar.IsExpr.{alone, all_of, any_of}
 use Rattle.match_language.specs.Grammar.IsJoined.{last_term, before_others}
-use Rattle.match_language.specs.Nesting.{Takes, TakesEach, TakesAll, Nests, AllNest, Fits}
-use Rattle.match_language.specs.Nesting.Takes.{takes_number, takes_masked, takes_port, takes_group, takes_set}
+use Rattle.match_language.specs.Nesting.{TakesValue, TakesEach, TakesAll, Nests, AllNest, FitsLevels}
+use Rattle.match_language.specs.Nesting.TakesValue.{takes_number, takes_masked, takes_port, takes_group, takes_set}
 use Rattle.match_language.specs.Nesting.TakesEach.{takes_last, takes_more}
 use Rattle.match_language.specs.Nesting.TakesAll.{takes_one, takes_several}
 use Rattle.match_language.specs.Nesting.Nests.{nests_constant, nests_predicate, nests_compared, nests_negated, nests_all, nests_any}
 use Rattle.match_language.specs.Nesting.AllNest.{nests_last, nests_before}
-use Rattle.match_language.specs.Nesting.Fits.{fits_one, fits_all, fits_any}
+use Rattle.match_language.specs.Nesting.FitsLevels.{fits_one, fits_all, fits_any}
 use Rattle.match_language.proofs.TokenLaws.{string_quoteless, set_named, group_named}
 
 none_is : {A : Type 0} (x : A) → None ≡ Some x → ⊥
@@ -57,12 +57,12 @@ at_most_is most m n e =
     let a = chosen_some (nat_le m most) (Some m) n e in
     subst (λ (k : ℕ). k ≤ most) (some_is m n a.1) (leb-true m most a.0)
 
-wide_no_port : (x : Field) (b : ℕ) → field_bits x ≡ suc b → is_port x ≡ false
+wide_no_port : (x : Field) (b : ℕ) → field_bits x ≡ suc b → is_port_field x ≡ false
 wide_no_port f.Inport b e = absurd (omega (arith, e))
 wide_no_port f.Outport b e = absurd (omega (arith, e))
 wide_no_port _ b e = refl
 
-constant_fits : (x : Field) (k : Token) (n : ℕ) → constant_of x k ≡ Some n → (is_port x ≡ false) × (n ≤ field_max x)
+constant_fits : (x : Field) (k : Token) (n : ℕ) → constant_of x k ≡ Some n → (is_port_field x ≡ false) × (n ≤ field_max x)
 constant_fits x (t.Dotted m) n e =
     let a = chosen_some (field_bits x == 32) (at_most (field_max x) m) n e in
     (wide_no_port x 31 ((Decides-eqb (field_bits x) 32).0 a.0), at_most_is (field_max x) m n a.1)
@@ -70,7 +70,7 @@ constant_fits x (t.Ether m) n e =
     let a = chosen_some (field_bits x == 48) (at_most (field_max x) m) n e in
     (wide_no_port x 47 ((Decides-eqb (field_bits x) 48).0 a.0), at_most_is (field_max x) m n a.1)
 constant_fits x other n e =
-    let a = passed_some (is_port x) (number_of other >>= at_most (field_max x)) n e in
+    let a = passed_some (is_port_field x) (number_of other >>= at_most (field_max x)) n e in
     let b = bind_some (number_of other) (at_most (field_max x)) n a.1 in
     (a.0, at_most_is (field_max x) b.0 n b.1)
 
@@ -99,7 +99,7 @@ mask_fits x (t.Dotted j) m n o is e =
 mask_fits x (t.Ether j) m n o is e = ether_fits x m n e
 mask_fits x other m n o is e = let a = bind_some (number_of m) (at_most (field_max x)) n e in at_most_is (field_max x) a.0 n a.1
 
-one_takes : (x : Field) (r : Rel) (y : Value) (i j : Input) → IsOne x r y i j → Takes x r y
+one_takes : (x : Field) (r : Rel) (y : Value) (i j : Input) → IsOne x r y i j → TakesValue x r y
 one_takes _ _ _ _ _ (unmasked x r n i is bare) = let a = constant_fits x (token i) n is in takes_number x r n a.0 a.1
 one_takes _ _ _ _ _ (masked x r n m i eq is slash of within) =
     let a = constant_fits x (token i) n is in
@@ -136,7 +136,7 @@ mutual
   all_deeper _ _ _ (nests_before way n x xs h hs) = nests_before way (suc n) x xs (nests_deeper way n x h) (all_deeper way n xs hs)
 
 -- in parentheses
-enclosed : (way : Direction) (n : ℕ) (x : Expr) → Fits way n x → Nests way (suc n) x
+enclosed : (way : Direction) (n : ℕ) (x : Expr) → FitsLevels way n x → Nests way (suc n) x
 enclosed _ _ _ (fits_one way n x h) = nests_deeper way n x h
 enclosed _ _ _ (fits_all way n x xs h hs) = nests_all way n x xs h hs
 enclosed _ _ _ (fits_any way n x xs h hs) = nests_any way n x xs h hs
@@ -149,7 +149,7 @@ mutual
   term_nests _ _ _ _ _ (negated way n x i j at h) = nests_negated way n x (term_nests way n x (next i) j h)
   term_nests _ _ _ _ _ (grouped way n x i j at h close) = enclosed way n x (expr_fits way n x (next i) j h)
 
-  expr_fits : (way : Direction) (n : ℕ) (x : Expr) (i j : Input) → IsExpr way n x i j → Fits way n x
+  expr_fits : (way : Direction) (n : ℕ) (x : Expr) (i j : Input) → IsExpr way n x i j → FitsLevels way n x
   expr_fits _ _ _ _ _ (alone way n x i j h) = fits_one way n x (term_nests way n x i j h)
   expr_fits _ _ _ _ _ (all_of way n x xs i j k h at hs) = fits_all way n x xs (term_nests way n x i j h) (joined_nest way n t.And xs (next j) k hs)
   expr_fits _ _ _ _ _ (any_of way n x xs i j k h at hs) = fits_any way n x xs (term_nests way n x i j h) (joined_nest way n t.Or xs (next j) k hs)
@@ -159,10 +159,10 @@ mutual
   joined_nest _ _ _ _ _ _ (before_others way n op x xs i j k h at hs) = nests_before way n x xs (term_nests way n x i j h) (joined_nest way n op xs (next j) k hs)
 
 -- what a text spells fits 64 levels
-pub spelled_fits : (way : Direction) (text : List ℕ) (x : Expr) → Spells way text x → Fits way 64 x
+pub spelled_fits : (way : Direction) (text : List ℕ) (x : Expr) → SpellsExpr way text x → FitsLevels way 64 x
 spelled_fits way text x h = expr_fits way 64 x (skip 0 text) h.end h.body
 
 -- what spells something fits
-pub found_fits : {E : Type 0} (way : Direction) (text : List ℕ) (r : Result Expr E) → IfOk r (λ x. Spells way text x) → IfOk r (λ x. Fits way 64 x)
+pub found_fits : {E : Type 0} (way : Direction) (text : List ℕ) (r : Result Expr E) → IfOk r (λ x. SpellsExpr way text x) → IfOk r (λ x. FitsLevels way 64 x)
 found_fits way text (Ok x) h = spelled_fits way text x h
 found_fits way text (Err e) h = tt

@@ -8,7 +8,7 @@ use Rattle.match_language.specs.declared.token.Token.{Token}
 use Rattle.match_language.specs.declared.token.Token.TheVariants as t
 use Rattle.match_language.specs.Tables.{stands}
 use Rattle.match_language.specs.Input.{Input, token, next, skip, left}
-use Rattle.match_language.specs.Grammar.{IsTerm, IsExpr, IsJoined, Spells}
+use Rattle.match_language.specs.Grammar.{IsTerm, IsExpr, IsJoined, SpellsExpr}
 use Rattle.match_language.specs.Grammar.IsTerm.{constant, predicate, compared, negated, grouped}
 use Rattle.match_language.specs.Grammar.IsExpr.{alone, all_of, any_of}
 use Rattle.match_language.specs.Grammar.IsJoined.{last_term, before_others}
@@ -124,6 +124,6 @@ ended_only : (x : Expr) (j : Input) → token j ≡ t.End → ended_by x (token 
 ended_only x j at = rw at refl
 
 -- the expression that a text spells is what reading gives
-pub whole_only : (way : Direction) (text : List ℕ) (x : Expr) → Spells way text x → whole way text ≡ Ok x
+pub whole_only : (way : Direction) (text : List ℕ) (x : Expr) → SpellsExpr way text x → whole way text ≡ Ok x
 unfolding whole
 whole_only way text x h = rw (expr_only way 64 x (skip 0 text) h.end h.body (subst Stops (sym h.whole) end_stops)) (ended_only x h.end h.whole)

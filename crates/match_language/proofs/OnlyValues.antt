@@ -11,7 +11,7 @@ use Rattle.match_language.specs.declared.expr.Rel.{Rel}
 use Rattle.match_language.specs.declared.field.Field.{Field}
 use Rattle.match_language.specs.declared.token.Token.{Token}
 use Rattle.match_language.specs.declared.token.Token.TheVariants as t
-use Rattle.match_language.specs.Tables.{field_max, is_port, is_address}
+use Rattle.match_language.specs.Tables.{field_max, is_port_field, is_address}
 use Rattle.match_language.specs.Relations.{is_equality}
 use Rattle.match_language.specs.Constants.{◌>>=◌ as ◌>?=◌}
 use Rattle.match_language.specs.Values.{is_constant_token, constant_of, mask_of, number_of, decimal_of, at_most, prefix_of, dotted_mask, ether_mask}
@@ -20,7 +20,7 @@ use Rattle.match_language.specs.Grammar.{is_slash, IsOne, IsList, IsValues}
 use Rattle.match_language.specs.Grammar.IsOne.{unmasked, masked, port, of_group, of_set}
 use Rattle.match_language.specs.Grammar.IsList.{last_value, with_comma, without_comma}
 use Rattle.match_language.specs.Grammar.IsValues.{one_value, in_braces}
-use Rattle.match_language.specs.Reading.{Read, ◌>>=◌, relation, relation_by, under, mask, after_constant, number_by, number, where_taken, one_by, one, closes, past_comma, more_values, several, opens, values, comparison}
+use Rattle.match_language.specs.Reading.{Read, ◌>>=◌, relation, relation_by, masked_value, mask, after_constant, number_by, number, where_taken, one_by, one, closes, past_comma, more_values, several, opens, values, comparison}
 use Rattle.match_language.proofs.Shorter.{is_end, next_shorter, next_no_longer}
 
 none_is : {A : Type 0} (x : A) → None ≡ Some x → ⊥
@@ -44,7 +44,7 @@ constant_starts f (t.Hex m) n e = record { no_open = refl; close = refl; comma =
 constant_starts f (t.Dotted m) n e = record { no_open = refl; close = refl; comma = λ i. refl; end = refl }
 constant_starts f (t.Ether m) n e = record { no_open = refl; close = refl; comma = λ i. refl; end = refl }
 constant_starts f t.BadConstant n e = record { no_open = refl; close = refl; comma = λ i. refl; end = refl }
-constant_starts f other n e = absurd (no_number (is_port f) n e)
+constant_starts f other n e = absurd (no_number (is_port_field f) n e)
 
 -- a constant is read as one
 constant_reads : (f : Field) (r : Rel) (k : Token) (n : ℕ) → constant_of f k ≡ Some n → (i : Input) → one_by f r k i ≡ number f r k i
@@ -54,7 +54,7 @@ constant_reads f r (t.Hex m) n e i = refl
 constant_reads f r (t.Dotted m) n e i = refl
 constant_reads f r (t.Ether m) n e i = refl
 constant_reads f r t.BadConstant n e i = refl
-constant_reads f r other n e i = absurd (no_number (is_port f) n e)
+constant_reads f r other n e i = absurd (no_number (is_port_field f) n e)
 
 pub number_constant : (m : Token) (n : ℕ) → number_of m ≡ Some n → is_constant_token m ≡ true
 number_constant (t.Bit b) n e = refl
@@ -91,7 +91,7 @@ unfolding mask
 mask_only f r k n place j m eq of within =
     cond-true (is_constant_token (token j)) _ _ (mask_constant f k (token j) m of)
     ∙ cond-true (is_equality r) _ _ eq
-    ∙ ap (λ (o : Option ℕ). under n place o j) of
+    ∙ ap (λ (o : Option ℕ). masked_value n place o j) of
     ∙ cond-true (bit_and n m == n) _ _ ((Decides-eqb (bit_and n m) n).1 within)
 
 after_unmasked : (f : Field) (r : Rel) (k : Token) (n place : ℕ) (m : Token) (j : Input) → is_slash m ≡ false → after_constant f r k n place m j ≡ Ok (v.Number n (field_max f), j)
@@ -112,8 +112,8 @@ one_only _ _ _ _ _ (masked f r n m i eq is slash of within) =
     number_at f r n i is
     ∙ ap (λ (c : Token). after_constant f r (token i) n i.place c (next i)) slash
     ∙ mask_only f r (token i) n i.place (next (next i)) m eq of within
-one_only _ _ _ _ _ (port f r i is eq at) = ap (λ (c : Token). one_by f r c i) at ∙ taken_only (is_port f) (is_equality r) (v.Port (quoted i)) i is eq
-one_only _ _ _ _ _ (of_group f r name i is eq at) = ap (λ (c : Token). one_by f r c i) at ∙ taken_only (is_port f) (is_equality r) (v.Group name) i is eq
+one_only _ _ _ _ _ (port f r i is eq at) = ap (λ (c : Token). one_by f r c i) at ∙ taken_only (is_port_field f) (is_equality r) (v.Port (quoted i)) i is eq
+one_only _ _ _ _ _ (of_group f r name i is eq at) = ap (λ (c : Token). one_by f r c i) at ∙ taken_only (is_port_field f) (is_equality r) (v.Group name) i is eq
 one_only _ _ _ _ _ (of_set f r name i is eq at) = ap (λ (c : Token). one_by f r c i) at ∙ taken_only (is_address f) (is_equality r) (v.Set name) i is eq
 
 text_starts : Starts t.Text

@@ -6,7 +6,7 @@ use Rattle.match_language.specs.declared.token.Token.{Token}
 use Rattle.match_language.specs.declared.token.Token.TheVariants as t
 use Rattle.match_language.specs.Input.{Input, token, next, skip}
 use Rattle.match_language.specs.Grammar.{is_slash}
-use Rattle.match_language.specs.FirstFault.{after, Same, Shares, seen, wanted, fault_by, is_outside, back, is_passed}
+use Rattle.match_language.specs.FirstFault.{after, Same, Shares, tokens_seen, wanted, fault_by, is_outside, back, is_passed}
 use Rattle.match_language.specs.Reading.{Read}
 use Rattle.match_language.proofs.Begins.{Follows}
 
@@ -29,11 +29,11 @@ pub after_plus : (n m : ℕ) (i : Input) → after (plus n m) i ≡ after m (aft
 after_plus zero m i = refl
 after_plus (suc n) m i = after_plus n m (next i)
 
-pub seen_plus : (n m : ℕ) (i : Input) (ts : List Token) → seen (plus n m) i ts ≡ seen m (after n i) (seen n i ts)
+pub seen_plus : (n m : ℕ) (i : Input) (ts : List Token) → tokens_seen (plus n m) i ts ≡ tokens_seen m (after n i) (tokens_seen n i ts)
 seen_plus zero m i ts = refl
 seen_plus (suc n) m i ts = seen_plus n m (next i) (token i ∷ ts)
 
-pub seen_last : (n : ℕ) (i : Input) (ts : List Token) → seen (suc n) i ts ≡ token (after n i) ∷ seen n i ts
+pub seen_last : (n : ℕ) (i : Input) (ts : List Token) → tokens_seen (suc n) i ts ≡ token (after n i) ∷ tokens_seen n i ts
 seen_last zero i ts = refl
 seen_last (suc n) i ts = seen_last n (next i) (token i ∷ ts)
 
@@ -84,7 +84,7 @@ pub record Moves (Holds : Input → Input → Type 0) (Claim : List Token → Ty
   pub there : j ≡ after (suc more) i
   pub plain : Plain (suc more) i
   pub same : (k : Input) → Shares (suc more) i k → Tame j (after (suc more) k) → Holds k (after (suc more) k)
-  pub left : Claim (seen (suc more) i ts)
+  pub left : Claim (tokens_seen (suc more) i ts)
 
 -- one token
 pub single : {H : Input → Input → Type 0} {C : List Token → Type 0} (ts : List Token) (i : Input) → is_plain (token i) ≡ true → C (token i ∷ ts) → ((k : Input) → Same i k → H k (next k)) → Moves H C ts i (next i)
@@ -95,7 +95,7 @@ module _ {H1 H2 H : Input → Input → Type 0} {C1 C2 : List Token → Type 0} 
   pub then : Moves H1 C1 ts i j → ((us : List Token) → C1 us → Moves H2 C2 us j l) → ((k m e : Input) → H1 k m → H2 m e → H k e) → Moves H C2 ts i l
   then M second join =
       let a = suc M.more in
-      let us = seen a i ts in
+      let us = tokens_seen a i ts in
       let N = second us M.left in
       let b = suc N.more in
       record {
@@ -108,27 +108,27 @@ module _ {H1 H2 H : Input → Input → Type 0} {C1 C2 : List Token → Type 0} 
             let first = M.same k front (tame_same j (after a k) rest.0) in
             let last = N.same (after a k) rest (subst (Tame l) (after_plus a b k) tame) in
             subst (H k) (sym (after_plus a b k)) (join k (after a k) (after b (after a k)) first last);
-        left = subst C2 (ap (λ (x : Input). seen b x us) M.there ∙ sym (seen_plus a b i ts)) N.left;
+        left = subst C2 (ap (λ (x : Input). tokens_seen b x us) M.there ∙ sym (seen_plus a b i ts)) N.left;
       }
 
 -- another way to say it
 pub weaken : {H K : Input → Input → Type 0} {C D : List Token → Type 0} (ts : List Token) (i j : Input) → ((k l : Input) → H k l → K k l) → ((us : List Token) → C us → D us) → Moves H C ts i j → Moves K D ts i j
-weaken ts i j f g M = record { more = M.more; there = M.there; plain = M.plain; same = λ k s tame. f k (after (suc M.more) k) (M.same k s tame); left = g (seen (suc M.more) i ts) M.left }
+weaken ts i j f g M = record { more = M.more; there = M.there; plain = M.plain; same = λ k s tame. f k (after (suc M.more) k) (M.same k s tame); left = g (tokens_seen (suc M.more) i ts) M.left }
 
 -- ---- a reading that fails
 
 -- so many tokens of all those before the fault are kept: all of them, or all but one that is passed
 abbrev pub Gap : Input → List Token → ℕ → ℕ → Type 0
-Gap i ts kept all = (kept ≡ all) ⊎ ((suc kept ≡ all) × (is_passed (seen all i ts) ≡ true))
+Gap i ts kept all = (kept ≡ all) ⊎ ((suc kept ≡ all) × (is_passed (tokens_seen all i ts) ≡ true))
 
 -- The reading fails at the token at the index, wherever the tokens up to it are the same, and the fault is the one that this token
 -- shows. Where the tokens that are kept are the same and then the tail comes, it stands.
 pub record Fails {A : Type 0} (read : Input → Read A) (Holds : Input → Input → Type 0) (ts : List Token) (i : Input) (f : MatchFault) : Type 0 where
   pub index : ℕ
   pub named : ℕ
-  pub at : index ≡ plus named (back (seen index i ts) (token (after index i)))
-  pub is : f ≡ fault_by (wanted (seen index i ts)) (token (after index i)) (after named i).place
-  pub settled : is_passed (token (after index i) ∷ seen index i ts) ≡ false
+  pub at : index ≡ plus named (back (tokens_seen index i ts) (token (after index i)))
+  pub is : f ≡ fault_by (wanted (tokens_seen index i ts)) (token (after index i)) (after named i).place
+  pub settled : is_passed (token (after index i) ∷ tokens_seen index i ts) ≡ false
   pub same : (k : Input) → Shares (suc index) i k → (d : MatchFault) × (read k ≡ Err d)
   pub kept : ℕ
   pub gap : Gap i ts kept index
@@ -179,7 +179,7 @@ tame_tail : (j m k : Input) (kept : ℕ) (text : List ℕ) (q : ℕ) → j ≡ m
 tame_tail j m k zero text q there bare s e h = ap (λ (x : Input). is_slash (token x)) e ∙ bare
 tame_tail j m k (suc kept) text q there bare s e h = tame_same m k s.0 (ap (λ (x : Input). is_slash (token x)) (sym there) ∙ h)
 
-gap_plus : (n kept all : ℕ) (i : Input) (ts : List Token) → Gap (after n i) (seen n i ts) kept all → Gap i ts (plus n kept) (plus n all)
+gap_plus : (n kept all : ℕ) (i : Input) (ts : List Token) → Gap (after n i) (tokens_seen n i ts) kept all → Gap i ts (plus n kept) (plus n all)
 gap_plus n kept all i ts (inl e) = inl (ap (plus n) e)
 gap_plus n kept all i ts (inr e) = inr (sym (plus_suc n kept) ∙ ap (plus n) e.0, ap is_passed (seen_plus n all i ts) ∙ e.1)
 
@@ -188,22 +188,22 @@ pub fails_behind : {A B : Type 0} {H1 H2 H : Input → Input → Type 0} {C : Li
     → ((us : List Token) → C us → Fails read H2 us j f) → ((k l : Input) (d : MatchFault) → H1 k l → Same j l → read l ≡ Err d → (e : MatchFault) × (other k ≡ Err e)) → ((k m e : Input) → H1 k m → H2 m e → H k e) → Fails other H ts i f
 fails_behind {H2 = H2} {H = H} read other ts i j f M second reads join =
     let n = suc M.more in
-    let us = seen n i ts in
+    let us = tokens_seen n i ts in
     let h = subst (λ (x : Input). Fails read H2 us x f) M.there (second us M.left) in
     let tokens = sym (seen_plus n h.index i ts) in
     let place = sym (after_plus n h.index i) in
     record {
       index = plus n h.index;
       named = plus n h.named;
-      at = ap (plus n) h.at ∙ sym (plus_assoc n h.named (back (seen h.index (after n i) us) (token (after h.index (after n i)))))
+      at = ap (plus n) h.at ∙ sym (plus_assoc n h.named (back (tokens_seen h.index (after n i) us) (token (after h.index (after n i)))))
           ∙ ap (λ (x : List Token). plus (plus n h.named) (back x (token (after h.index (after n i))))) tokens
-          ∙ ap (λ (x : Input). plus (plus n h.named) (back (seen (plus n h.index) i ts) (token x))) place;
+          ∙ ap (λ (x : Input). plus (plus n h.named) (back (tokens_seen (plus n h.index) i ts) (token x))) place;
       is = h.is
           ∙ ap (λ (x : List Token). fault_by (wanted x) (token (after h.index (after n i))) (after h.named (after n i)).place) tokens
-          ∙ ap (λ (x : Input). fault_by (wanted (seen (plus n h.index) i ts)) (token x) (after h.named (after n i)).place) place
-          ∙ ap (λ (x : Input). fault_by (wanted (seen (plus n h.index) i ts)) (token (after (plus n h.index) i)) x.place) (sym (after_plus n h.named i));
+          ∙ ap (λ (x : Input). fault_by (wanted (tokens_seen (plus n h.index) i ts)) (token x) (after h.named (after n i)).place) place
+          ∙ ap (λ (x : Input). fault_by (wanted (tokens_seen (plus n h.index) i ts)) (token (after (plus n h.index) i)) x.place) (sym (after_plus n h.named i));
       settled = ap (λ (x : List Token). is_passed (token (after (plus n h.index) i) ∷ x)) (seen_plus n h.index i ts)
-          ∙ ap (λ (x : Input). is_passed (token x ∷ seen h.index (after n i) us)) (after_plus n h.index i) ∙ h.settled;
+          ∙ ap (λ (x : Input). is_passed (token x ∷ tokens_seen h.index (after n i) us)) (after_plus n h.index i) ∙ h.settled;
       same = λ k s.
           let all = subst (λ (m : ℕ). Shares m i k) (sym (plus_suc n h.index)) s in
           let front = shares_front n (suc h.index) i k all in

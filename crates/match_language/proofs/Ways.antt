@@ -6,10 +6,10 @@ use Rattle.match_language.specs.declared.field.Field.{Field}
 use Rattle.match_language.specs.declared.field.Direction.{Direction}
 use Rattle.match_language.specs.declared.field.Direction.TheVariants as d
 use Rattle.match_language.specs.Tables.{stands}
-use Rattle.match_language.specs.Nesting.{Nests, AllNest, Fits}
+use Rattle.match_language.specs.Nesting.{Nests, AllNest, FitsLevels}
 use Rattle.match_language.specs.Nesting.Nests.{nests_constant, nests_predicate, nests_compared, nests_negated, nests_all, nests_any}
 use Rattle.match_language.specs.Nesting.AllNest.{nests_last, nests_before}
-use Rattle.match_language.specs.Nesting.Fits.{fits_one, fits_all, fits_any}
+use Rattle.match_language.specs.Nesting.FitsLevels.{fits_one, fits_all, fits_any}
 
 stands_to : (f : Field) → stands d.ToLport f ≡ true
 stands_to f = refl
@@ -27,7 +27,7 @@ mutual
   all_to _ _ _ (nests_last way n x h) = nests_last d.ToLport n x (nests_to way n x h)
   all_to _ _ _ (nests_before way n x xs h hs) = nests_before d.ToLport n x xs (nests_to way n x h) (all_to way n xs hs)
 
-pub fits_to : (way : Direction) (n : ℕ) (x : Expr) → Fits way n x → Fits d.ToLport n x
+pub fits_to : (way : Direction) (n : ℕ) (x : Expr) → FitsLevels way n x → FitsLevels d.ToLport n x
 fits_to _ _ _ (fits_one way n x h) = fits_one d.ToLport n x (nests_to way n x h)
 fits_to _ _ _ (fits_all way n x xs h hs) = fits_all d.ToLport n x xs (nests_to way n x h) (all_to way n xs hs)
 fits_to _ _ _ (fits_any way n x xs h hs) = fits_any d.ToLport n x xs (nests_to way n x h) (all_to way n xs hs)

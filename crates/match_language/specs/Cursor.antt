@@ -9,7 +9,7 @@ abbrev pub input_of : Inside → Input
 input_of c = record { place = c.place; text = c.text.now }
 
 -- the next token is kept beside the text
-pub record IsReady (c : Inside) : Type 0 where
+pub record HasToken (c : Inside) : Type 0 where
   pub token : c.token ≡ (first_token c.text.now).0
   pub len : c.len ≡ (first_token c.text.now).1
   pub within : c.len ≤ length c.text.now

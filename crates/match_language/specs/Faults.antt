@@ -22,7 +22,7 @@ IfBad (Err pf.Memory) P = Unit {0}
 IfBad (Err (pf.Bad f)) P = P f
 
 -- the expression or the fault is the result, unless memory ran out
-abbrev pub Gives : Result Expr ParseFault → Result Expr MatchFault → Type 0
-Gives (Ok x) wanted = wanted ≡ Ok x
-Gives (Err pf.Memory) wanted = Unit {0}
-Gives (Err (pf.Bad f)) wanted = wanted ≡ Err f
+abbrev pub GivesExpr : Result Expr ParseFault → Result Expr MatchFault → Type 0
+GivesExpr (Ok x) wanted = wanted ≡ Ok x
+GivesExpr (Err pf.Memory) wanted = Unit {0}
+GivesExpr (Err (pf.Bad f)) wanted = wanted ≡ Err f

@@ -11,7 +11,7 @@ use Rattle.match_language.specs.declared.token.Token.TheVariants as t
 use Rattle.match_language.specs.Input.{Input, token, next, quoted, skip}
 use Rattle.match_language.specs.Relations.{is_equality}
 use Rattle.match_language.specs.Values.{is_constant_token, mask_of}
-use Rattle.match_language.specs.Grammar.{Spells}
+use Rattle.match_language.specs.Grammar.{SpellsExpr}
 
 -- ---- the tokens of a text
 
@@ -30,16 +30,16 @@ Shares zero i j = Unit {0}
 Shares (suc n) i j = Same i j × Shares n (next i) (next j)
 
 -- the first n tokens, the last of them first, and then others
-abbrev pub seen : ℕ → Input → List Token → List Token
-seen zero i others = others
-seen (suc n) i others = seen n (next i) (token i ∷ others)
+abbrev pub tokens_seen : ℕ → Input → List Token → List Token
+tokens_seen zero i others = others
+tokens_seen (suc n) i others = tokens_seen n (next i) (token i ∷ others)
 
 -- Some text that spells an expression begins with the first n tokens of this one.
 pub record IsAlive (way : Direction) (text : List ℕ) (n : ℕ) : Type 0 where
   pub other : List ℕ
   pub expr : Expr
   pub shares : Shares n (skip 0 text) (skip 0 other)
-  pub spells : Spells way other expr
+  pub spells : SpellsExpr way other expr
 
 -- ---- what stands behind the tokens before, the last of them first
 
@@ -159,7 +159,7 @@ place_at text index = (after index (skip 0 text)).place
 
 -- the tokens before it, the last of them first
 abbrev pub before : List ℕ → ℕ → List Token
-before text index = seen index (skip 0 text) []
+before text index = tokens_seen index (skip 0 text) []
 
 -- it is one of those that are passed over
 abbrev pub is_passed_at : List ℕ → ℕ → Bool

@@ -11,7 +11,7 @@ use Rattle.match_language.specs.declared.field.Predicate.{Predicate}
 use Rattle.match_language.specs.declared.field.Direction.{Direction}
 use Rattle.match_language.specs.declared.token.Token.{Token}
 use Rattle.match_language.specs.declared.token.Token.TheVariants as t
-use Rattle.match_language.specs.Tables.{field_max, is_port, is_address, stands}
+use Rattle.match_language.specs.Tables.{field_max, is_port_field, is_address, stands}
 use Rattle.match_language.specs.Relations.{is_equality}
 use Rattle.match_language.specs.Values.{constant_of, mask_of}
 use Rattle.match_language.specs.Input.{Input, token, next, quoted, skip}
@@ -28,8 +28,8 @@ pub data IsOne : Field → Rel → Value → Input → Input → Type 0 where
       → IsOne f r (v.Number n (field_max f)) i (next i)
   masked : (f : Field) (r : Rel) (n m : ℕ) (i : Input) → is_equality r ≡ true → constant_of f (token i) ≡ Some n → token (next i) ≡ t.Slash
       → mask_of f (token i) (token (next (next i))) ≡ Some m → bit_and n m ≡ n → IsOne f r (v.Number n m) i (next (next (next i)))
-  port : (f : Field) (r : Rel) (i : Input) → is_port f ≡ true → is_equality r ≡ true → token i ≡ t.Text → IsOne f r (v.Port (quoted i)) i (next i)
-  of_group : (f : Field) (r : Rel) (name : List ℕ) (i : Input) → is_port f ≡ true → is_equality r ≡ true → token i ≡ t.Group name → IsOne f r (v.Group name) i (next i)
+  port : (f : Field) (r : Rel) (i : Input) → is_port_field f ≡ true → is_equality r ≡ true → token i ≡ t.Text → IsOne f r (v.Port (quoted i)) i (next i)
+  of_group : (f : Field) (r : Rel) (name : List ℕ) (i : Input) → is_port_field f ≡ true → is_equality r ≡ true → token i ≡ t.Group name → IsOne f r (v.Group name) i (next i)
   of_set : (f : Field) (r : Rel) (name : List ℕ) (i : Input) → is_address f ≡ true → is_equality r ≡ true → token i ≡ t.Set name → IsOne f r (v.Set name) i (next i)
 
 -- one or more values, with a comma or none between
@@ -70,7 +70,7 @@ mutual
         → IsJoined way n op (x ∷ xs) i k
 
 -- The whole text spells the expression, in a rule of this direction.
-pub record Spells (way : Direction) (text : List ℕ) (x : Expr) : Type 0 where
+pub record SpellsExpr (way : Direction) (text : List ℕ) (x : Expr) : Type 0 where
   pub end : Input
   pub body : IsExpr way MAX_DEPTH x (skip 0 text) end
   pub whole : token end ≡ t.End

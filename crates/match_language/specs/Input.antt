@@ -3,7 +3,7 @@ use Rattle.std.specs.Prelude.{ℕ, ◌+◌, ◌-◌, List, length, take, drop, r
 use Rattle.std.specs.Coded.{Coded, code_by, coded×, coded_ℕ, coded_list}
 use Rattle.std.specs.List.{prefix_len}
 use Rattle.match_language.specs.declared.token.Token.{Token}
-use Rattle.match_language.specs.Tokens.{is_blank, first_token}
+use Rattle.match_language.specs.Tokens.{is_token_blank, first_token}
 
 -- the text from a token on, and its place in the whole text
 pub record Input : Type 0 where
@@ -14,7 +14,7 @@ abbrev pub input_code : Coded Input
 input_code = code_by (ℕ × List ℕ) (coded× coded_ℕ (coded_list coded_ℕ)) (λ i. (i.place, i.text)) (λ p. record { place = p.0; text = p.1 }) (λ _. refl)
 
 abbrev pub blanks : List ℕ → ℕ
-blanks = prefix_len is_blank
+blanks = prefix_len is_token_blank
 
 -- behind the blanks
 unfoldable pub skip : ℕ → List ℕ → Input

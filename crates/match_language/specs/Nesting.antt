@@ -10,27 +10,27 @@ use Rattle.match_language.specs.declared.expr.Rel.{Rel}
 use Rattle.match_language.specs.declared.field.Field.{Field}
 use Rattle.match_language.specs.declared.field.Predicate.{Predicate}
 use Rattle.match_language.specs.declared.field.Direction.{Direction}
-use Rattle.match_language.specs.Tables.{field_max, is_port, is_address, stands}
+use Rattle.match_language.specs.Tables.{field_max, is_port_field, is_address, stands}
 use Rattle.match_language.specs.Relations.{is_equality}
 
 -- The field and the relation take the value: a number of the field, under a mask after == and != alone; a text without a quote
 -- or a group after == and != of a port; a set after == and != of an address.
-pub data Takes : Field → Rel → Value → Type 0 where
-  takes_number : (f : Field) (r : Rel) (n : ℕ) → is_port f ≡ false → n ≤ field_max f → Takes f r (v.Number n (field_max f))
-  takes_masked : (f : Field) (r : Rel) (n m : ℕ) → is_equality r ≡ true → is_port f ≡ false → n ≤ field_max f → m ≤ field_max f → bit_and n m ≡ n → Takes f r (v.Number n m)
-  takes_port : (f : Field) (r : Rel) (text : List ℕ) → is_port f ≡ true → is_equality r ≡ true → list_all (λ b. not (b == 34)) text ≡ true → Takes f r (v.Port text)
-  takes_group : (f : Field) (r : Rel) (name : List ℕ) → is_port f ≡ true → is_equality r ≡ true → IsName name → Takes f r (v.Group name)
-  takes_set : (f : Field) (r : Rel) (name : List ℕ) → is_address f ≡ true → is_equality r ≡ true → IsName name → Takes f r (v.Set name)
+pub data TakesValue : Field → Rel → Value → Type 0 where
+  takes_number : (f : Field) (r : Rel) (n : ℕ) → is_port_field f ≡ false → n ≤ field_max f → TakesValue f r (v.Number n (field_max f))
+  takes_masked : (f : Field) (r : Rel) (n m : ℕ) → is_equality r ≡ true → is_port_field f ≡ false → n ≤ field_max f → m ≤ field_max f → bit_and n m ≡ n → TakesValue f r (v.Number n m)
+  takes_port : (f : Field) (r : Rel) (text : List ℕ) → is_port_field f ≡ true → is_equality r ≡ true → list_all (λ b. not (b == 34)) text ≡ true → TakesValue f r (v.Port text)
+  takes_group : (f : Field) (r : Rel) (name : List ℕ) → is_port_field f ≡ true → is_equality r ≡ true → IsName name → TakesValue f r (v.Group name)
+  takes_set : (f : Field) (r : Rel) (name : List ℕ) → is_address f ≡ true → is_equality r ≡ true → IsName name → TakesValue f r (v.Set name)
 
 -- one or more values that they take
 pub data TakesEach : Field → Rel → List Value → Type 0 where
-  takes_last : (f : Field) (r : Rel) (x : Value) → Takes f r x → TakesEach f r (x ∷ [])
-  takes_more : (f : Field) (r : Rel) (x : Value) (xs : List Value) → Takes f r x → TakesEach f r xs → TakesEach f r (x ∷ xs)
+  takes_last : (f : Field) (r : Rel) (x : Value) → TakesValue f r x → TakesEach f r (x ∷ [])
+  takes_more : (f : Field) (r : Rel) (x : Value) (xs : List Value) → TakesValue f r x → TakesEach f r xs → TakesEach f r (x ∷ xs)
 
 -- one value that they take, or several after == and !=
 pub data TakesAll : Field → Rel → List Value → Type 0 where
-  takes_one : (f : Field) (r : Rel) (x : Value) → Takes f r x → TakesAll f r (x ∷ [])
-  takes_several : (f : Field) (r : Rel) (x y : Value) (xs : List Value) → is_equality r ≡ true → Takes f r x → TakesEach f r (y ∷ xs) → TakesAll f r (x ∷ y ∷ xs)
+  takes_one : (f : Field) (r : Rel) (x : Value) → TakesValue f r x → TakesAll f r (x ∷ [])
+  takes_several : (f : Field) (r : Rel) (x y : Value) (xs : List Value) → is_equality r ≡ true → TakesValue f r x → TakesEach f r (y ∷ xs) → TakesAll f r (x ∷ y ∷ xs)
 
 mutual
   -- Within another expression of a rule of this direction it takes at most n levels of negations and parentheses.
@@ -48,7 +48,7 @@ mutual
     nests_before : (way : Direction) (n : ℕ) (x : Expr) (xs : List Expr) → Nests way n x → AllNest way n xs → AllNest way n (x ∷ xs)
 
 -- Alone it takes at most n levels: a joined one stands in no parentheses.
-pub data Fits : Direction → ℕ → Expr → Type 0 where
-  fits_one : (way : Direction) (n : ℕ) (x : Expr) → Nests way n x → Fits way n x
-  fits_all : (way : Direction) (n : ℕ) (x : Expr) (xs : List Expr) → Nests way n x → AllNest way n xs → Fits way n (e.All (x ∷ xs))
-  fits_any : (way : Direction) (n : ℕ) (x : Expr) (xs : List Expr) → Nests way n x → AllNest way n xs → Fits way n (e.Any (x ∷ xs))
+pub data FitsLevels : Direction → ℕ → Expr → Type 0 where
+  fits_one : (way : Direction) (n : ℕ) (x : Expr) → Nests way n x → FitsLevels way n x
+  fits_all : (way : Direction) (n : ℕ) (x : Expr) (xs : List Expr) → Nests way n x → AllNest way n xs → FitsLevels way n (e.All (x ∷ xs))
+  fits_any : (way : Direction) (n : ℕ) (x : Expr) (xs : List Expr) → Nests way n x → AllNest way n xs → FitsLevels way n (e.Any (x ∷ xs))

@@ -14,7 +14,7 @@ use Rattle.match_language.specs.declared.field.Field.{Field}
 use Rattle.match_language.specs.declared.field.Direction.{Direction}
 use Rattle.match_language.specs.declared.token.Token.{Token}
 use Rattle.match_language.specs.declared.token.Token.TheVariants as t
-use Rattle.match_language.specs.Tables.{field_max, is_port, is_address, stands}
+use Rattle.match_language.specs.Tables.{field_max, is_port_field, is_address, stands}
 use Rattle.match_language.specs.Relations.{is_equality}
 use Rattle.match_language.specs.Values.{is_constant_token, constant_of, mask_of}
 use Rattle.match_language.specs.Input.{Input, token, next, quoted, skip, left}
@@ -28,10 +28,10 @@ abbrev pub ◌>>=◌ : {A B : Type 0} → Read A → (A × Input → Read B) →
 (Err e) >>= f = Err e
 
 -- what a function that reads ensures: what reading gives, unless memory ran out
-abbrev pub Reads : {A : Type 0} → Read A → Result A ParseFault → Input → Type 0
-Reads read (Ok a) new = read ≡ Ok (a, new)
-Reads read (Err pf.Memory) new = Unit {0}
-Reads read (Err (pf.Bad f)) new = read ≡ Err f
+abbrev pub ReadsAs : {A : Type 0} → Read A → Result A ParseFault → Input → Type 0
+ReadsAs read (Ok a) new = read ≡ Ok (a, new)
+ReadsAs read (Err pf.Memory) new = Unit {0}
+ReadsAs read (Err (pf.Bad f)) new = read ≡ Err f
 
 -- the fault of a token that can't stand where it does
 abbrev pub unexpected : Token → ℕ → MatchFault
@@ -48,14 +48,14 @@ unfoldable pub relation : Input → Read Rel
 relation i = relation_by (token i) i
 
 -- A number under its mask, whose constant stands at the place: it has no bit outside the mask.
-abbrev pub under : ℕ → ℕ → Option ℕ → Input → Read Value
-under n place (Some m) i = if bit_and n m == n then Ok (v.Number n m, next i) else Err (fault.BadConstant place)
-under n place None i = Err (fault.BadConstant i.place)
+abbrev pub masked_value : ℕ → ℕ → Option ℕ → Input → Read Value
+masked_value n place (Some m) i = if bit_and n m == n then Ok (v.Number n m, next i) else Err (fault.BadConstant place)
+masked_value n place None i = Err (fault.BadConstant i.place)
 
 -- the mask behind the constant k, of number n
 abbrev pub mask_by : Field → Rel → Token → ℕ → ℕ → Token → Input → Read Value
 mask_by f r k n place m i =
-    if is_constant_token m then (if is_equality r then under n place (mask_of f k m) i else Err (fault.BadConstant i.place))
+    if is_constant_token m then (if is_equality r then masked_value n place (mask_of f k m) i else Err (fault.BadConstant i.place))
     else Err (unexpected m i.place)
 
 unfoldable pub mask : Field → Rel → Token → ℕ → ℕ → Input → Read Value
@@ -78,8 +78,8 @@ abbrev pub where_taken : Bool → Value → Input → Read Value
 where_taken taken x i = if taken then Ok (x, next i) else Err (fault.BadConstant i.place)
 
 abbrev pub one_by : Field → Rel → Token → Input → Read Value
-one_by f r t.Text i = where_taken (is_port f && is_equality r) (v.Port (quoted i)) i
-one_by f r (t.Group name) i = where_taken (is_port f && is_equality r) (v.Group name) i
+one_by f r t.Text i = where_taken (is_port_field f && is_equality r) (v.Port (quoted i)) i
+one_by f r (t.Group name) i = where_taken (is_port_field f && is_equality r) (v.Group name) i
 one_by f r (t.Set name) i = where_taken (is_address f && is_equality r) (v.Set name) i
 one_by f r k i = if is_constant_token k then number f r k i else Err (unexpected k i.place)
 

@@ -60,10 +60,10 @@ abbrev pub field_max : Field → ℕ
 field_max f = 2 ^ field_bits f - 1
 
 -- the two fields that are ports
-abbrev pub is_port : Field → Bool
-is_port f.Inport = true
-is_port f.Outport = true
-is_port _ = false
+abbrev pub is_port_field : Field → Bool
+is_port_field f.Inport = true
+is_port_field f.Outport = true
+is_port_field _ = false
 
 -- the fields that are addresses, with which address sets stand
 abbrev pub is_address : Field → Bool

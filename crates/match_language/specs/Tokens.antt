@@ -13,8 +13,8 @@ use Rattle.match_language.specs.Tables.{field_named, predicate_named}
 use Rattle.match_language.specs.Constants.{decimal_value, dotted_value, ether_value, hex_value}
 
 -- space, tab and line feed
-abbrev pub is_blank : ℕ → Bool
-is_blank b = b == 32 || b == 9 || b == 10
+abbrev pub is_token_blank : ℕ → Bool
+is_token_blank b = b == 32 || b == 9 || b == 10
 
 -- the bytes of words and constants: letters, digits, `_`, `.` and `:`
 abbrev pub is_run : ℕ → Bool

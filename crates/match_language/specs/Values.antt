@@ -3,7 +3,7 @@ use Rattle.std.specs.Prelude.{ℕ, Bool, true, false, if◌then◌else◌, ◌==
 use Rattle.match_language.specs.declared.field.Field.{Field}
 use Rattle.match_language.specs.declared.token.Token.{Token}
 use Rattle.match_language.specs.declared.token.Token.TheVariants as t
-use Rattle.match_language.specs.Tables.{field_bits, field_max, is_port}
+use Rattle.match_language.specs.Tables.{field_bits, field_max, is_port_field}
 use Rattle.match_language.specs.Constants.{prefix_mask, ◌>>=◌}
 
 -- whether the token is a constant
@@ -40,7 +40,7 @@ at_most most n = if nat_le n most then Some n else None
 abbrev pub constant_of : Field → Token → Option ℕ
 constant_of f (t.Dotted n) = if field_bits f == 32 then at_most (field_max f) n else None
 constant_of f (t.Ether n) = if field_bits f == 48 then at_most (field_max f) n else None
-constant_of f other = if is_port f then None else number_of other >>= at_most (field_max f)
+constant_of f other = if is_port_field f then None else number_of other >>= at_most (field_max f)
 
 -- the mask of a prefix of at most 32 bits
 abbrev pub prefix_of : ℕ → Option ℕ

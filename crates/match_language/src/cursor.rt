@@ -1,7 +1,7 @@
 //! A cursor over the tokens of a text, which cuts each as it is reached.
 ghost use Rattle.std.specs.Prelude.{◌≡◌, ◌<◌, ◌≤◌, ◌+◌, ◌^◌, length};
 ghost use Rattle.match_language.specs.Input as spec;
-ghost use Rattle.match_language.specs.Tokens.{is_blank};
+ghost use Rattle.match_language.specs.Tokens.{is_token_blank};
 
 use crate::token::{Token, first_token};
 use std::marker::Model;
@@ -20,7 +20,7 @@ pub(crate) struct Cursor<'a> {
 
 impl<'a> Model for Cursor<'a> {
     ghost use Rattle.match_language.specs.Input.{Input, input_code};
-    ghost use Rattle.match_language.specs.Cursor.{input_of, IsReady};
+    ghost use Rattle.match_language.specs.Cursor.{input_of, HasToken};
 
     ghost Value = { Input };
 
@@ -28,11 +28,11 @@ impl<'a> Model for Cursor<'a> {
 
     ghost view = { input_of };
 
-    ghost invariant = { IsReady };
+    ghost invariant = { HasToken };
 }
 
 fn is_blank(byte: u8) -> bool
-    ensures { result ≡ is_blank byte }
+    ensures { result ≡ is_token_blank byte }
 {
     byte == b' ' || byte == b'\t' || byte == b'\n'
 }

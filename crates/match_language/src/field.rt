@@ -162,7 +162,7 @@ impl Field {
 
     /// Whether the field is a port.
     pub fn is_port(self) -> bool
-        ensures { result ≡ spec.is_port self }
+        ensures { result ≡ spec.is_port_field self }
     {
         match self {
             Field::Inport | Field::Outport => true,

@@ -2,8 +2,8 @@
 ghost use Rattle.std.specs.Prelude.{◌≡◌, ◌++◌, ℕ, List, map, codes, OnOk, OnErr};
 ghost use Rattle.ovn_base.specs.declared.limits.TheConstants.{MAX_DEPTH};
 ghost use Rattle.ovn_base.specs.addresses.EtherAddress.{mac_of};
-ghost use Rattle.match_language.specs.Grammar.{Spells};
-ghost use Rattle.match_language.specs.Nesting.{Fits};
+ghost use Rattle.match_language.specs.Grammar.{SpellsExpr};
+ghost use Rattle.match_language.specs.Nesting.{FitsLevels};
 ghost use Rattle.match_language.specs.Spelling as spec;
 ghost use Rattle.match_language.specs.declared.field.Direction.{Direction};
 ghost use Rattle.match_language.specs.Spelling.{spelling, inner_spelling};
@@ -225,9 +225,9 @@ pub fn print(expr: &Expr, out: &mut Vec<u8>) -> Result<(), NoMemory>
     ensures text { OnOk result (out.new.items ≡ out.old.items ++ spelling expr.now) }
     ensures unchanged { OnErr result (out.new.items ≡ out.old.items) }
     // What some text spells is spelled by its own text.
-    ensures again { (way : Direction) (text : List ℕ) → Spells way text expr.now → Spells way (spelling expr.now) expr.now }
+    ensures again { (way : Direction) (text : List ℕ) → SpellsExpr way text expr.now → SpellsExpr way (spelling expr.now) expr.now }
     // So is what was built, if its values stand with their fields and it nests no deeper than a text may.
-    ensures built { (way : Direction) → Fits way MAX_DEPTH expr.now → Spells way (spelling expr.now) expr.now }
+    ensures built { (way : Direction) → FitsLevels way MAX_DEPTH expr.now → SpellsExpr way (spelling expr.now) expr.now }
 {
     let mut text = Vec::new(*out.allocator());
     push_expr(expr, &mut text)?;

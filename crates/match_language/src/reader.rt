@@ -1,12 +1,12 @@
 //! Reads a text as an expression, by recursive descent: one level for each negation and each pair of parentheses.
 ghost use Rattle.std.specs.Prelude.{◌≡◌, ◌⊎◌, ℕ, List, Ok, Err, IfOk};
-ghost use Rattle.match_language.specs.Grammar.{Spells};
-ghost use Rattle.match_language.specs.Nesting.{Fits};
+ghost use Rattle.match_language.specs.Grammar.{SpellsExpr};
+ghost use Rattle.match_language.specs.Nesting.{FitsLevels};
 ghost use Rattle.match_language.specs.declared.field.Direction.TheVariants.{FromLport, ToLport};
-ghost use Rattle.match_language.specs.Faults.{Gives, IfBad};
+ghost use Rattle.match_language.specs.Faults.{GivesExpr, IfBad};
 ghost use Rattle.match_language.specs.FirstFault.{IsFirstFault};
 ghost use Rattle.match_language.specs.Reading as spec;
-ghost use Rattle.match_language.specs.Reading.{Reads};
+ghost use Rattle.match_language.specs.Reading.{ReadsAs};
 
 use crate::cursor::Cursor;
 use crate::expr::Expr;
@@ -22,7 +22,7 @@ use std::alloc::Global;
 // A term that holds no other.
 #[tactic(auto, unfolding(crate::specs::Reading::leaf))]
 fn leaf(alloc: Global, cursor: &mut Cursor<'_>, way: Direction) -> Result<Expr, ParseFault>
-    ensures { Reads (spec.leaf way cursor.old) result cursor.new }
+    ensures { ReadsAs (spec.leaf way cursor.old) result cursor.new }
 {
     match cursor.peek() {
         Token::Bit(truth) => {
@@ -66,7 +66,7 @@ fn joined(
     is_and: bool,
     first: Expr,
 ) -> Result<List<Expr>, ParseFault>
-    ensures { Reads (spec.joined (spec.term way levels) is_and first cursor.old) result cursor.new }
+    ensures { ReadsAs (spec.joined (spec.term way levels) is_and first cursor.old) result cursor.new }
 {
     let mut terms = List::new(alloc);
     terms.push(first)?;
@@ -93,7 +93,7 @@ fn expression(
     way: Direction,
     levels: u8,
 ) -> Result<Expr, ParseFault>
-    ensures { Reads (spec.expression (spec.term way levels) cursor.old) result cursor.new }
+    ensures { ReadsAs (spec.expression (spec.term way levels) cursor.old) result cursor.new }
 {
     let first = term(alloc, cursor, way, levels)?;
     match cursor.peek() {
@@ -112,7 +112,7 @@ fn group(
     way: Direction,
     levels: u8,
 ) -> Result<Expr, ParseFault>
-    ensures { Reads (spec.group (spec.term way levels) cursor.old) result cursor.new }
+    ensures { ReadsAs (spec.group (spec.term way levels) cursor.old) result cursor.new }
 {
     cursor.advance();
     let inner = expression(alloc, cursor, way, levels)?;
@@ -134,7 +134,7 @@ fn negation(
     way: Direction,
     levels: u8,
 ) -> Result<Expr, ParseFault>
-    ensures { Reads (spec.negation (spec.term way levels) cursor.old) result cursor.new }
+    ensures { ReadsAs (spec.negation (spec.term way levels) cursor.old) result cursor.new }
 {
     cursor.advance();
     let inner = term(alloc, cursor, way, levels)?;
@@ -144,7 +144,7 @@ fn negation(
 // A term where nothing may open a level.
 #[tactic(auto, unfolding(crate::specs::Reading::flat))]
 fn flat(alloc: Global, cursor: &mut Cursor<'_>, way: Direction) -> Result<Expr, ParseFault>
-    ensures { Reads (spec.flat way cursor.old) result cursor.new }
+    ensures { ReadsAs (spec.flat way cursor.old) result cursor.new }
 {
     match cursor.peek() {
         Token::Bang | Token::Open => Err(ParseFault::Bad(MatchFault::TooDeep(cursor.place()))),
@@ -161,7 +161,7 @@ fn deep(
     way: Direction,
     levels: u8,
 ) -> Result<Expr, ParseFault>
-    ensures { Reads (spec.deep way (spec.term way levels) cursor.old) result cursor.new }
+    ensures { ReadsAs (spec.deep way (spec.term way levels) cursor.old) result cursor.new }
 {
     match cursor.peek() {
         Token::Bang => negation(alloc, cursor, way, levels),
@@ -179,7 +179,7 @@ fn term(
     way: Direction,
     levels: u8,
 ) -> Result<Expr, ParseFault>
-    ensures { Reads (spec.term way levels cursor.old) result cursor.new }
+    ensures { ReadsAs (spec.term way levels cursor.old) result cursor.new }
 {
     if levels == 0 {
         flat(alloc, cursor, way)
@@ -191,7 +191,7 @@ fn term(
 /// The expression that the text spells, or its first fault.
 #[tactic(auto, unfolding(crate::specs::Reading::whole))]
 pub(crate) fn whole(alloc: Global, text: &[u8], way: Direction) -> Result<Expr, ParseFault>
-    ensures { Gives result (spec.whole way text.now) }
+    ensures { GivesExpr result (spec.whole way text.now) }
 {
     let mut cursor = Cursor::new(text);
     let expr = expression(alloc, &mut cursor, way, MAX_DEPTH)?;
@@ -204,24 +204,24 @@ pub(crate) fn whole(alloc: Global, text: &[u8], way: Direction) -> Result<Expr, 
 /// The expression that the text spells in a rule of the direction, or the first fault of the text.
 pub fn parse(alloc: Global, text: &[u8], way: Direction) -> Result<Expr, ParseFault>
     // The answer is a function of the text and the direction, unless memory runs out.
-    ensures exact { Gives result (spec.whole way text.now) }
+    ensures exact { GivesExpr result (spec.whole way text.now) }
     // What is read is in the grammar.
-    ensures found { IfOk result (λ x. Spells way text.now x) }
+    ensures found { IfOk result (λ x. SpellsExpr way text.now x) }
     // What is in the grammar is read, unless memory runs out.
-    ensures only { (x : Expr) → Spells way text.now x → Gives result (Ok x) }
+    ensures only { (x : Expr) → SpellsExpr way text.now x → GivesExpr result (Ok x) }
     // It nests no deeper than 64 levels, and each value stands with its field.
-    ensures fits { IfOk result (λ x. Fits way MAX_DEPTH x) }
+    ensures fits { IfOk result (λ x. FitsLevels way MAX_DEPTH x) }
     // A fault is the text's first.
     ensures first { IfBad result (λ f. IsFirstFault way text.now f) }
     // A text's first fault is told, unless memory runs out.
-    ensures only_first { (f : MatchFault) → IsFirstFault way text.now f → Gives result (Err f) }
+    ensures only_first { (f : MatchFault) → IsFirstFault way text.now f → GivesExpr result (Err f) }
 {
     whole(alloc, text, way)
 }
 
 /// A text spells at most one expression.
 pub fn one_expression()
-    ensures { (way : Direction) (text : List ℕ) (x y : Expr) → Spells way text x → Spells way text y → x ≡ y }
+    ensures { (way : Direction) (text : List ℕ) (x y : Expr) → SpellsExpr way text x → SpellsExpr way text y → x ≡ y }
 {}
 
 /// A text has at most one first fault.
@@ -231,20 +231,20 @@ pub fn one_first_fault()
 
 /// A text that spells an expression has no fault.
 pub fn spelled_has_none()
-    ensures { (way : Direction) (text : List ℕ) (x : Expr) (f : MatchFault) → Spells way text x → IsFirstFault way text f → ⊥ }
+    ensures { (way : Direction) (text : List ℕ) (x : Expr) (f : MatchFault) → SpellsExpr way text x → IsFirstFault way text f → ⊥ }
 {}
 
 /// Each text spells an expression or has a first fault.
 pub fn spelled_or_faulty()
-    ensures { (way : Direction) (text : List ℕ) → ((x : Expr) × Spells way text x) ⊎ ((f : MatchFault) × IsFirstFault way text f) }
+    ensures { (way : Direction) (text : List ℕ) → ((x : Expr) × SpellsExpr way text x) ⊎ ((f : MatchFault) × IsFirstFault way text f) }
 {}
 
 /// What a text spells nests at most 64 levels, and each of its values stands with its field.
 pub fn spelled_fits()
-    ensures { (way : Direction) (text : List ℕ) (x : Expr) → Spells way text x → Fits way MAX_DEPTH x }
+    ensures { (way : Direction) (text : List ℕ) (x : Expr) → SpellsExpr way text x → FitsLevels way MAX_DEPTH x }
 {}
 
 /// What fits in a from-lport rule fits in a to-lport rule.
 pub fn fits_to_lport()
-    ensures { (n : ℕ) (x : Expr) → Fits FromLport n x → Fits ToLport n x }
+    ensures { (n : ℕ) (x : Expr) → FitsLevels FromLport n x → FitsLevels ToLport n x }
 {}

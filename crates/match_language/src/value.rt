@@ -1,7 +1,7 @@
 //! Reads the relation and the values behind a field.
 ghost use Rattle.std.specs.Prelude.{◌≡◌};
 ghost use Rattle.match_language.specs.Reading as spec;
-ghost use Rattle.match_language.specs.Reading.{Reads};
+ghost use Rattle.match_language.specs.Reading.{ReadsAs};
 ghost use Rattle.match_language.specs.Values as values;
 ghost use Rattle.match_language.specs.Tables.{is_address};
 ghost use Rattle.match_language.specs.Input.{token};
@@ -137,7 +137,7 @@ fn is_address(field: Field) -> bool
 
 #[tactic(auto, unfolding(crate::specs::Reading::relation))]
 fn relation(cursor: &mut Cursor<'_>) -> Result<Rel, ParseFault>
-    ensures { Reads (spec.relation cursor.old) result cursor.new }
+    ensures { ReadsAs (spec.relation cursor.old) result cursor.new }
 {
     match cursor.peek() {
         Token::Relation(rel) => {
@@ -158,7 +158,7 @@ fn mask(
     bits: u64,
     place: usize,
 ) -> Result<Value, ParseFault>
-    ensures { Reads (spec.mask field rel constant.now bits place cursor.old) result cursor.new }
+    ensures { ReadsAs (spec.mask field rel constant.now bits place cursor.old) result cursor.new }
 {
     let token = cursor.peek();
     if !is_constant(&token) {
@@ -185,7 +185,7 @@ fn number(
     rel: Rel,
     constant: &Token,
 ) -> Result<Value, ParseFault>
-    ensures { Reads (spec.number field rel constant.now cursor.old) result cursor.new }
+    ensures { ReadsAs (spec.number field rel constant.now cursor.old) result cursor.new }
 {
     let place = cursor.place();
     let Some(bits) = constant_of(field, constant) else {
@@ -206,7 +206,7 @@ fn number(
 
 // The value, if it is taken there.
 fn where_taken(cursor: &mut Cursor<'_>, is_taken: bool, value: Value) -> Result<Value, ParseFault>
-    ensures { Reads (spec.where_taken is_taken value cursor.old) result cursor.new }
+    ensures { ReadsAs (spec.where_taken is_taken value cursor.old) result cursor.new }
 {
     if is_taken {
         cursor.advance();
@@ -219,7 +219,7 @@ fn where_taken(cursor: &mut Cursor<'_>, is_taken: bool, value: Value) -> Result<
 // One value of the field.
 #[tactic(auto, unfolding(crate::specs::Reading::one))]
 fn one(alloc: Global, cursor: &mut Cursor<'_>, field: Field, rel: Rel) -> Result<Value, ParseFault>
-    ensures { Reads (spec.one field rel cursor.old) result cursor.new }
+    ensures { ReadsAs (spec.one field rel cursor.old) result cursor.new }
 {
     let is_port = field.is_port() && rel.is_equality();
     match cursor.peek() {
@@ -278,7 +278,7 @@ fn several(
     field: Field,
     rel: Rel,
 ) -> Result<List<Value>, ParseFault>
-    ensures { Reads (spec.several field rel cursor.old) result cursor.new }
+    ensures { ReadsAs (spec.several field rel cursor.old) result cursor.new }
 {
     let mut values = List::new(alloc);
     values.push(one(alloc, cursor, field, rel)?)?;
@@ -301,7 +301,7 @@ fn values(
     field: Field,
     rel: Rel,
 ) -> Result<List<Value>, ParseFault>
-    ensures { Reads (spec.values field rel cursor.old) result cursor.new }
+    ensures { ReadsAs (spec.values field rel cursor.old) result cursor.new }
 {
     if opens(cursor.peek()) {
         if !rel.is_equality() {
@@ -322,7 +322,7 @@ pub(crate) fn comparison(
     cursor: &mut Cursor<'_>,
     field: Field,
 ) -> Result<Expr, ParseFault>
-    ensures { Reads (spec.comparison field cursor.old) result cursor.new }
+    ensures { ReadsAs (spec.comparison field cursor.old) result cursor.new }
 {
     let rel = relation(cursor)?;
     let values = values(alloc, cursor, field, rel)?;

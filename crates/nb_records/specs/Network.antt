@@ -22,6 +22,6 @@ with_record net (kind.Switch switch) = record net { switches = put net.switches 
 with_record net (kind.SwitchPort port) = record net { ports = put net.ports port.name port }
 
 -- the records of each kind are in order
-pub record IsInOrder (net : Network) : Type 0 where
+pub record AreByName (net : Network) : Type 0 where
   pub switches_in_order : IsByName net.switches
   pub ports_in_order : IsByName net.ports

@@ -19,13 +19,13 @@ pub struct Records {
 }
 
 impl Model for Records {
-    ghost use Rattle.nb_records.specs.Network.{Network, IsInOrder};
+    ghost use Rattle.nb_records.specs.Network.{Network, AreByName};
 
     ghost Value = { Network };
 
     ghost view = { λ r. record { switches = r.switches.entries; ports = r.ports.entries } };
 
-    ghost invariant = { λ r. IsInOrder (record { switches = r.switches.entries; ports = r.ports.entries }) };
+    ghost invariant = { λ r. AreByName (record { switches = r.switches.entries; ports = r.ports.entries }) };
 }
 
 impl Records {

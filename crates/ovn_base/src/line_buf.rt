@@ -2,7 +2,7 @@
 ghost use Rattle.ovn_base.specs.streams.Causes.{Rose};
 ghost use Rattle.ovn_base.specs.lines.Cuts.{CutsEnded};
 ghost use Rattle.ovn_base.specs.lines.Lines.{HasNoFeed};
-ghost use Rattle.ovn_base.specs.lines.Reading.{taken, unread};
+ghost use Rattle.ovn_base.specs.lines.Reading.{bytes_taken, unread};
 ghost use Rattle.std.specs.Io.KnownBytes.{IsAtEnd};
 ghost use Rattle.std.specs.Prelude.{
   false,
@@ -120,8 +120,8 @@ impl LineBuf {
         requires no_feed { HasNoFeed (take scanned self.old.held) }
         ensures cut { MatchBool result (CutsEnded self.old self.new)
             ((self.new ≡ self.old) × HasNoFeed self.old.held) }
-        ensures limit { taken self.new ≤ MAX_INPUT }
-        ensures below { self.new.ended ≡ true → taken self.new < MAX_INPUT }
+        ensures limit { bytes_taken self.new ≤ MAX_INPUT }
+        ensures below { self.new.ended ≡ true → bytes_taken self.new < MAX_INPUT }
     {
         let Some(at) = find_feed(&self.window.held()[scanned..]) else {
             return false;
@@ -156,11 +156,11 @@ impl LineBuf {
         ensures at_end { self.new.ended ≡ true → IsAtEnd (S.left source.new) }
         ensures err { OnErr result ((self.new.held ≡ self.old.held) × (self.new.ended ≡ false)) }
         ensures read_fault { result ≡ Err LineFault.ReadFault → Rose (S.faults source.old) (S.faults source.new) }
-        ensures read_short { result ≡ Err LineFault.ReadFault → taken self.new < MAX_INPUT }
-        ensures too_long { result ≡ Err LineFault.InputTooLong → taken self.new ≡ MAX_INPUT }
+        ensures read_short { result ≡ Err LineFault.ReadFault → bytes_taken self.new < MAX_INPUT }
+        ensures too_long { result ≡ Err LineFault.InputTooLong → bytes_taken self.new ≡ MAX_INPUT }
         ensures faulted { self.new.faulted ≡ (if is_err result then true else self.old.faulted) }
-        ensures limit { taken self.new ≤ MAX_INPUT }
-        ensures below { self.new.ended ≡ true → taken self.new < MAX_INPUT }
+        ensures limit { bytes_taken self.new ≤ MAX_INPUT }
+        ensures below { self.new.ended ≡ true → bytes_taken self.new < MAX_INPUT }
         ensures faults { S.faults source.old ≤ S.faults source.new }
     {
         let taken = self.given + self.window.held().len() as u64;

@@ -1,7 +1,7 @@
 //! Lines of a source, one after another.
 ghost use Rattle.ovn_base.specs.streams.Causes.{Rose};
 ghost use Rattle.ovn_base.specs.lines.Lines.{ended_lines};
-ghost use Rattle.ovn_base.specs.lines.Reading.{Gives, Stops, taken, unread};
+ghost use Rattle.ovn_base.specs.lines.Reading.{Gives, Stops, bytes_taken, unread};
 ghost use Rattle.ovn_base.specs.streams.WhereTold.{WhereTold};
 ghost use Rattle.std.specs.Io.KnownBytes.{IsAtEnd};
 ghost use Rattle.std.specs.Prelude.{
@@ -85,12 +85,12 @@ pub fn next_line<S: Source>(source: &mut S, buf: &mut LineBuf) -> Result<Line, L
     ensures none_held { OnErr result (ended_lines buf.new.held ≡ []) }
     ensures before_end { OnErr result (buf.old.ended ≡ false) }
     ensures read_fault { result ≡ Err LineFault.ReadFault → Rose (S.faults source.old) (S.faults source.new) }
-    ensures read_short { result ≡ Err LineFault.ReadFault → taken buf.new < MAX_INPUT }
-    ensures too_long { result ≡ Err LineFault.InputTooLong → taken buf.new ≡ MAX_INPUT }
+    ensures read_short { result ≡ Err LineFault.ReadFault → bytes_taken buf.new < MAX_INPUT }
+    ensures too_long { result ≡ Err LineFault.InputTooLong → bytes_taken buf.new ≡ MAX_INPUT }
     ensures faulted { buf.new.faulted ≡ is_err result }
 
-    ensures limit { taken buf.new ≤ MAX_INPUT }
-    ensures below { buf.new.ended ≡ true → taken buf.new < MAX_INPUT }
+    ensures limit { bytes_taken buf.new ≤ MAX_INPUT }
+    ensures below { buf.new.ended ≡ true → bytes_taken buf.new < MAX_INPUT }
     ensures faults { S.faults source.old ≤ S.faults source.new }
 {
     // How many of the held bytes have no line feed among them, and whether bytes of the line were let go.

@@ -45,13 +45,13 @@ use Rattle.tunnel_keys.proofs.OwnerLaws.{in_datapaths, in_ports}
 use Rattle.world_core.specs.Crossing.{numbered_from}
 use Rattle.world_core.specs.Editing.{owner_of, owners_of, datapath_effect, port_effect, added_ports, key_effects, accepted, born, with_name}
 use Rattle.world_core.specs.Effects.{effects_of, crossings_in}
-use Rattle.world_core.specs.Homes.{is_at as is_bound_to, is_in, members, members_at, other_homes}
+use Rattle.world_core.specs.Homes.{is_at as is_bound_to, is_group_member, members, members_at, other_homes}
 use Rattle.world_core.specs.Numbers.{datapath_number, port_number}
 use Rattle.world_core.specs.Refusing.{refusal, refusal_of_entry, refusal_of_record, too_many_wait}
 use Rattle.world_core.specs.State.{State, empty, event_count, finished, is_chassis, settled_where_none_waits}
-use Rattle.world_core.specs.Step.{Step, Does, Enters, Arrives, Drains, sent_on, with_kept, most_arrivals}
+use Rattle.world_core.specs.Step.{NetworkStep, Does, Enters, Arrives, Drains, sent_on, with_kept, most_arrivals}
 use Rattle.world_core.specs.Unbuilt.{is_unbuilt_port}
-use Rattle.world_core.specs.Visit.{End, leaves, is_dropped, crosses, is_lost, Target, HasTarget, Origin, crossing_to, sent_home, sent_to, Goes, Visit, arrival, is_gone, is_same_port, reached}
+use Rattle.world_core.specs.Visit.{End, leaves, is_dropped, crosses, is_lost, Target, HasTarget, SentFrom, crossing_to, sent_home, sent_to, Goes, Visit, arrival, is_gone, is_same_port, reached}
 use Rattle.world_core.specs.declared.crossing.Aim.{Aim}
 use Rattle.world_core.specs.declared.crossing.Aim.TheVariants.{ToPort, ToGroup}
 use Rattle.world_core.specs.declared.crossing.Crossing.{Crossing}
@@ -213,13 +213,13 @@ home_named m q chassis named bound = among_all HasNamedHome (q, chassis) m.bindi
 
 member_named : (m : State) (switch : Name) (group : Group) (chassis q : Name) → IsNamedState m → Among q (members_at m.net m.bindings switch group chassis) → IsName q
 member_named m switch group chassis q named among =
-    let test : Name × SwitchPort → Bool = λ e. same_name e.1.switch switch && is_in group e.1 in
+    let test : Name × SwitchPort → Bool = λ e. same_name e.1.switch switch && is_group_member group e.1 in
     let one = filter_among (λ n. is_bound_to m.bindings n chassis) q (members m.net switch group) among in
     let entry = map_among (λ (e : Name × SwitchPort). e.0) q (filter test m.net.ports) one.0 in
     let kept = filter_among test entry.0 m.net.ports entry.1 in
     subst IsName (sym entry.2) (among_all IsNamedPort entry.0 m.net.ports named.ports kept.0).0
 
-module _ (m : State) (named : IsNamedState m) (from : Origin) (switch : IsName from.switch.name) (port : IsName from.port.name) (packet : inet.Packet) where
+module _ (m : State) (named : IsNamedState m) (from : SentFrom) (switch : IsName from.switch.name) (port : IsName from.port.name) (packet : inet.Packet) where
   one_named : (q : Name) (entry : SwitchPort) (home : Option Name) → at m.bindings q ≡ home → IsName q → AreNamedEnds (sent_home from packet q entry home)
   one_named q entry None e is = ((switch, is), tt)
   one_named q entry (Some home) e is = by (same_name home from.chassis) (same_name q from.port.name)
@@ -389,7 +389,7 @@ finished_named : (m : State) → IsNamedState m → IsNamedState (finished m)
 finished_named m named = record { ports = named.ports; chassis = named.chassis; bindings = named.bindings; waiting = named.waiting; keys = settled_ranged m.waiting m.keys named.keys }
 
 -- the effects of a step are in names, and the state after it too
-pub step_named : (m : State) (event : Event) (effects : List NetEffect) (after : State) → IsNamedState m → IsNamedEvent event → Step m event effects after → AreNamed effects × IsNamedState after
+pub step_named : (m : State) (event : Event) (effects : List NetEffect) (after : State) → IsNamedState m → IsNamedEvent event → NetworkStep m event effects after → AreNamed effects × IsNamedState after
 step_named m event effects after named fine h =
     let does = does_named m event effects h.mid named fine h.does in
     (does.effects_are, subst IsNamedState (sym h.state) (finished_named h.mid does.state))

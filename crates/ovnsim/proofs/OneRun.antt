@@ -34,7 +34,7 @@ pub record SameTaking (first other : List ℕ) (mid after : WorldView) (left mor
 takes_same : (one two : WorldView) (event : Event) (own their left more : List Pick) (first other : List ℕ) (mid after : WorldView) → IsSound one → IsSound two → AreAlike one two → Takes one event own first mid → Takes two event their other after
     → own ++ left ≡ their ++ more → SameTaking first other mid after left more
 takes_same one two event own their left more first other mid after sound also like (accepts h p) (accepts k q) e =
-    let moved : net.Step one.state event k.effects after.state = subst (λ s. net.Step s event k.effects after.state) (sym like.state) k.step in
+    let moved : net.NetworkStep one.state event k.effects after.state = subst (λ s. net.NetworkStep s event k.effects after.state) (sym like.state) k.step in
     let step =
     step_with one.state event h.effects k.effects mid.state after.state left more sound.consistent.valid h.step moved (sym (ap (λ ps. ps ++ left) p) ∙ e ∙ ap (λ ps. ps ++ more) q) in
     let walks : mid.walks ≡ after.walks = same_walks one two event (record { effects = h.effects; walks = mid.walks }) (record { effects = k.effects; walks = after.walks }) mid.sim after.sim sound also like.state like.zones h.passed k.passed in

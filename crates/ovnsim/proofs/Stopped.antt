@@ -3,7 +3,7 @@ use Rattle.std.proofs.Common.{◌≡◌, ◌+◌, ◌-◌, ◌^◌, ◌<◌, ◌
 use Rattle.std.proofs.lemmas.Bool.{cond-true, cond-false}
 use Rattle.std.specs.Io.KnownBytes.{append_known, IsAtEnd}
 use Rattle.ovn_base.specs.lines.Lines.{lines_within}
-use Rattle.ovn_base.specs.lines.Reading.{Reading, GivesLine, Stops, taken}
+use Rattle.ovn_base.specs.lines.Reading.{Reading, GivesLine, Stops, bytes_taken}
 use Rattle.ovn_base.specs.streams.WhereTold.{WhereTold}
 use Rattle.ovn_base.proofs.LineLaws.{within-nil}
 use Rattle.ovn_base.proofs.WhereToldLaws.{told_then, told_some, append_none, append_twice}
@@ -108,21 +108,21 @@ at_give X Y Z before sent now m k world event more w h g t =
 
 -- the lines of the input within the bytes that were taken
 stop_lines : (m k : Reading) (world : WorldView) (before sent : Option (List ℕ)) (input ahead left : List ℕ) → m.ended ≡ false → (h : Ran m world before sent input ahead) → Stops m k ahead left
-    → lines_within (taken k) input ≡ h.done
+    → lines_within (bytes_taken k) input ≡ h.done
 stop_lines m k world before sent input ahead left open' h s =
-    let r = taken k - m.given in
+    let r = bytes_taken k - m.given in
     let later = s.later in
-    let first : taken k ≡ r + m.given = omega arith in
-    h.lines r (taken k) first (λ e. cc (sym open' ∙ e)) ∙ ap (λ ls. h.done ++ ls) (s.none r (sym first)) ∙ append-nil h.done
+    let first : bytes_taken k ≡ r + m.given = omega arith in
+    h.lines r (bytes_taken k) first (λ e. cc (sym open' ∙ e)) ∙ ap (λ ls. h.done ++ ls) (s.none r (sym first)) ∙ append-nil h.done
 
 -- the source failed
-at_read : (X Y Z before sent : Option (List ℕ)) (m k : Reading) (world : WorldView) → m.ended ≡ false → taken k < 2 ^ 40 → WhereTold X Y (Ran m world before sent) → WhereTold Y Z (Stops m k)
+at_read : (X Y Z before sent : Option (List ℕ)) (m k : Reading) (world : WorldView) → m.ended ≡ false → bytes_taken k < 2 ^ 40 → WhereTold X Y (Ran m world before sent) → WhereTold Y Z (Stops m k)
     → WhereTold X Z (GainsRead before sent)
 at_read X Y Z before sent m k world open' few h s =
     told_then X Y Z (Ran m world before sent) (Stops m k) (GainsRead before sent) h s (λ x y z p q.
     let all = p.count in
     let taken_is = q.count in
-    let n : length x - length z ≡ taken k = omega arith in record {
+    let n : length x - length z ≡ bytes_taken k = omega arith in record {
       taken = omega arith;
       text = p.text;
       last = world;
@@ -131,7 +131,7 @@ at_read X Y Z before sent m k world open' few h s =
     })
 
 -- the input has no end
-at_limit : (X Y Z before sent : Option (List ℕ)) (m k : Reading) (world : WorldView) → m.ended ≡ false → taken k ≡ 2 ^ 40 → WhereTold X Y (Ran m world before sent) → WhereTold Y Z (Stops m k)
+at_limit : (X Y Z before sent : Option (List ℕ)) (m k : Reading) (world : WorldView) → m.ended ≡ false → bytes_taken k ≡ 2 ^ 40 → WhereTold X Y (Ran m world before sent) → WhereTold Y Z (Stops m k)
     → WhereTold X Z (GainsToLimit before sent)
 at_limit X Y Z before sent m k world open' full h s =
     told_then X Y Z (Ran m world before sent) (Stops m k) (GainsToLimit before sent) h s (λ x y z p q.

@@ -10,7 +10,7 @@ use Rattle.event_lines.specs.Picks.{picks_of}
 use Rattle.world_core.specs.Outcome.{IsAccepted, IsRefused, matched}
 use Rattle.world_core.specs.WorldView.{WorldView, IsSound}
 use Rattle.world_core.specs.State.{State, event_count}
-use Rattle.world_core.specs.Step.{Step, Does, Arrives, Drains, most_arrivals}
+use Rattle.world_core.specs.Step.{NetworkStep, Does, Arrives, Drains, most_arrivals}
 use Rattle.ovnsim.specs.Runs.{Takes, accepts, refuses}
 use Rattle.ovnsim.specs.Taking.{TakesWith, WasCut}
 use Rattle.ovnsim.specs.declared.run.Stop.{Stop}
@@ -52,7 +52,7 @@ does_counts m (Unread fault) effects after h = absurd h
 does_counts m NotBuilt effects after h = absurd h
 
 -- a step counts one event that was accepted
-pub step_counts : (m : State) (event : Event) (effects : List NetEffect) (after : State) → Step m event effects after → (after.accepted ≡ m.accepted + 1) × (after.refused ≡ m.refused)
+pub step_counts : (m : State) (event : Event) (effects : List NetEffect) (after : State) → NetworkStep m event effects after → (after.accepted ≡ m.accepted + 1) × (after.refused ≡ m.refused)
 step_counts m event effects after h =
     let does = does_counts m event effects h.mid h.does in
     (ap (λ (s : State). s.accepted) h.state ∙ ap (λ n. n + 1) does.accepted_are, ap (λ (s : State). s.refused) h.state ∙ does.refused_are)

@@ -13,19 +13,19 @@ use Rattle.ovnsim.specs.declared.next_event.Next.{Next}
 use Rattle.ovnsim.specs.declared.next_event.Next.TheVariants.{Found, Blank, End}
 
 -- a space, a tab or a carriage return
-abbrev pub is_blank : ℕ → Bool
-is_blank b = b == 32 || b == 9 || b == 13
+abbrev pub is_line_blank : ℕ → Bool
+is_line_blank b = b == 32 || b == 9 || b == 13
 
 -- the line has blanks alone, and no more than a line may have: it is passed over
 pub record IsPassedOver (line : List ℕ) : Type 0 where
   pub short : length line ≤ MAX_LINE
-  pub blank : AllPass is_blank line
+  pub blank : AllPass is_line_blank line
 
 -- what a line that isn't passed over asks for: over 1,048,576 bytes it is too long, whatever its bytes, and one that is no JSON isn't read
 pub data AsksFor (line : List ℕ) (event : Event) : Type 0 where
   is_too_long : MAX_LINE < length line → event ≡ Unread TooLong → AsksFor line event
-  is_no_json : length line ≤ MAX_LINE → ¬ AllPass is_blank line → ((d : Data) → ¬ IsReading line d) → event ≡ Unread BadJson → AsksFor line event
-  is_read : length line ≤ MAX_LINE → ¬ AllPass is_blank line → ReadsLine line event → AsksFor line event
+  is_no_json : length line ≤ MAX_LINE → ¬ AllPass is_line_blank line → ((d : Data) → ¬ IsReading line d) → event ≡ Unread BadJson → AsksFor line event
+  is_read : length line ≤ MAX_LINE → ¬ AllPass is_line_blank line → ReadsLine line event → AsksFor line event
 
 -- the line is the first event's, and the others are those of the lines after it
 pub record HasFirst (line : List ℕ) (events : List Event) (Others : List Event → Type 0) : Type 0 where

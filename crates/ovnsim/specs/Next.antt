@@ -1,7 +1,7 @@
 -- What comes next in the input, and how far it was read.
 use Rattle.std.specs.Prelude.{◌≡◌, ◌<◌, ◌≤◌, ◌^◌, ℕ, List, Option, false, true}
 use Rattle.ovn_base.specs.declared.limits.TheConstants.{MAX_INPUT}
-use Rattle.ovn_base.specs.lines.Reading.{Reading, Stops, taken}
+use Rattle.ovn_base.specs.lines.Reading.{Reading, Stops, bytes_taken}
 use Rattle.ovn_base.specs.streams.WhereTold.{WhereTold}
 use Rattle.world_core.specs.Admitted.{IsAdmitted}
 use Rattle.ovnsim.specs.declared.next_event.Next.{Next}
@@ -23,8 +23,8 @@ GoesOn End old new = new.ended ≡ true
 
 -- at most 2^40 bytes were taken, and fewer where the end was seen
 pub record IsBelowLimit (m : Reading) : Type 0 where
-  pub limit : taken m ≤ MAX_INPUT
-  pub below : m.ended ≡ true → taken m < MAX_INPUT
+  pub limit : bytes_taken m ≤ MAX_INPUT
+  pub below : m.ended ≡ true → bytes_taken m < MAX_INPUT
 
 -- The call stopped before the end, and the bytes that were taken by then have no line that is ended; `ahead` was unread
 -- before, and `left` was not taken.
@@ -34,7 +34,7 @@ pub record StopsBefore (old new : Reading) (ahead left : Option (List ℕ)) : Ty
 
 -- where a call stops for this cause
 abbrev pub StopsIn : Stop → Reading → Reading → Option (List ℕ) → Option (List ℕ) → Type 0
-StopsIn ReadFault old new ahead left = (taken new < MAX_INPUT) × StopsBefore old new ahead left
-StopsIn InputTooLong old new ahead left = (taken new ≡ MAX_INPUT) × StopsBefore old new ahead left
+StopsIn ReadFault old new ahead left = (bytes_taken new < MAX_INPUT) × StopsBefore old new ahead left
+StopsIn InputTooLong old new ahead left = (bytes_taken new ≡ MAX_INPUT) × StopsBefore old new ahead left
 StopsIn Memory old new ahead left = Unit {0}
 StopsIn WriteFault old new ahead left = ⊥

@@ -5,7 +5,7 @@ ghost use Rattle.ovn_base.specs.streams.WhereTold.{WhereTold};
 ghost use Rattle.std.specs.Io.KnownBytes.{IsAtEnd};
 ghost use Rattle.std.specs.List.{AllPass};
 ghost use Rattle.std.specs.Prelude.{◌≡◌, ◌≤◌, ◌↔◌, false, true, Err, IfErr, IfOk, IsTrue, OnOk, length};
-ghost use Rattle.ovnsim.specs.Events.{AskedBy, GivesNext, is_blank};
+ghost use Rattle.ovnsim.specs.Events.{AskedBy, GivesNext, is_line_blank};
 ghost use Rattle.ovnsim.specs.Next.{GoesOn, IsAdmittedNext, IsBelowLimit, StopsIn};
 
 use crate::run::Stop;
@@ -31,7 +31,7 @@ pub enum Next {
 
 /// Whether a line is one of spaces, tabs and carriage returns alone.
 fn is_blank_line(line: &[u8]) -> bool
-    ensures { IsTrue result ↔ AllPass is_blank line.now }
+    ensures { IsTrue result ↔ AllPass is_line_blank line.now }
 {
     line.iter()
         .all(|byte| matches!(*byte, b' ' | b'\t' | b'\r'))

@@ -11,7 +11,7 @@ use Rattle.switch_engine.specs.declared.effect.Effect.{Effect}
 use Rattle.switch_engine.specs.declared.effect.Entry.{Entry}
 use Rattle.switch_engine.specs.declared.walk.RunOut.{RunOut}
 use Rattle.switch_engine.specs.declared.walk.Step.{Step}
-use Rattle.switch_engine.specs.Actions.{Outcome, outcome, going_on}
+use Rattle.switch_engine.specs.Actions.{FlowOutcome, outcome, going_on}
 use Rattle.switch_engine.specs.Advance.{Advances, unmatched_here, matched}
 use Rattle.switch_engine.specs.Growth.{GainsWalk, KeepsRun}
 use Rattle.switch_engine.specs.Walk.{IsWalk, IsWalkOf, start, unmatched}
@@ -85,13 +85,13 @@ pub on_top : (pending after : List Carried) (copy : Carried) → after ≡ pendi
 on_top pending after copy is = ap reverse is ∙ reverse-append pending (copy ∷ [])
 
 -- what goes on stands before the pending copies, where the copy itself goes on
-pub stacked_some : (o : Outcome) (pending put after made : List Carried) (itself : Option Carried) (copy : Carried) → option_to_list itself ≡ o.itself → itself ≡ Some copy → made ≡ o.made → reverse put ≡ made ++ reverse pending → after ≡ put ++ copy ∷ [] → reverse after ≡ going_on o ++ reverse pending
+pub stacked_some : (o : FlowOutcome) (pending put after made : List Carried) (itself : Option Carried) (copy : Carried) → option_to_list itself ≡ o.itself → itself ≡ Some copy → made ≡ o.made → reverse put ≡ made ++ reverse pending → after ≡ put ++ copy ∷ [] → reverse after ≡ going_on o ++ reverse pending
 stacked_some o pending put after made itself copy one some these first top =
     let single : o.itself ≡ copy ∷ [] = sym one ∙ ap option_to_list some in
     on_top put after copy top ∙ ap (λ l. copy ∷ l) (first ∙ ap (λ l. l ++ reverse pending) these) ∙ ap (λ l. (l ++ o.made) ++ reverse pending) (sym single)
 
 -- and where it doesn't
-pub stacked_none : (o : Outcome) (pending put made : List Carried) (itself : Option Carried) → option_to_list itself ≡ o.itself → itself ≡ None → made ≡ o.made → reverse put ≡ made ++ reverse pending → reverse put ≡ going_on o ++ reverse pending
+pub stacked_none : (o : FlowOutcome) (pending put made : List Carried) (itself : Option Carried) → option_to_list itself ≡ o.itself → itself ≡ None → made ≡ o.made → reverse put ≡ made ++ reverse pending → reverse put ≡ going_on o ++ reverse pending
 stacked_none o pending put made itself one none these first =
     let empty : o.itself ≡ [] = sym one ∙ ap option_to_list none in
     first ∙ ap (λ l. l ++ reverse pending) these ∙ ap (λ l. (l ++ o.made) ++ reverse pending) (sym empty)

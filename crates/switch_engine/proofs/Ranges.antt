@@ -5,7 +5,7 @@ use Rattle.std.proofs.Common.{arith, sym, ap, ◌∙◌}
 use Rattle.std.proofs.lemmas.Nat.{and_le_l, and_assoc, and_mask, or_lt}
 use Rattle.std.specs.Int.Bits.{or_add_and}
 use Rattle.std.proofs.Math.Nat.{mod-eq_of_lt}
-use Rattle.inet_packet.specs.Fits.{Fits, CubeFits}
+use Rattle.inet_packet.specs.Fits.{BitsFit, CubeFits}
 use Rattle.inet_packet.specs.declared.cube.Cube.{Cube}
 use Rattle.inet_packet.specs.declared.packet.Packet.{Packet}
 use Rattle.inet_packet.specs.declared.regs.Reg.{Reg}
@@ -71,7 +71,7 @@ pub total_small : (regs : Regs) → IsInRange regs → total regs < 2 ^ 33
 total_small regs r = omega arith
 
 -- a cube that holds the packet holds the word of each register
-asked_fits : (reg : Reg) (cube : Cube) (regs : Regs) (packet : Packet) → CubeFits cube regs packet → Fits (asked reg cube) (word_of reg regs)
+asked_fits : (reg : Reg) (cube : Cube) (regs : Regs) (packet : Packet) → CubeFits cube regs packet → BitsFit (asked reg cube) (word_of reg regs)
 asked_fits Dp cube regs packet h = h.place.dp_fits
 asked_fits InPort cube regs packet h = h.place.in_port_fits
 asked_fits OutPort cube regs packet h = h.place.out_port_fits

@@ -66,26 +66,26 @@ abbrev pub copies_for : Carried → List Member → List Carried
 copies_for copy members = map (copy_for copy) (filter (λ member. not (nat_eq member.key copy.regs.in_port)) members)
 
 -- what actions bring on: their effects, the copy itself where it goes on, and the copies that were made of it, in order
-pub record Outcome : Type 0 where
+pub record FlowOutcome : Type 0 where
   pub effects : List Effect
   pub itself : List Carried
   pub made : List Carried
 
 -- the copy itself is carried to its end before those that were made of it
-abbrev pub going_on : Outcome → List Carried
+abbrev pub going_on : FlowOutcome → List Carried
 going_on outcome = outcome.itself ++ outcome.made
 
 -- with one effect before the others
-abbrev pub with_effect : Effect → Outcome → Outcome
+abbrev pub with_effect : Effect → FlowOutcome → FlowOutcome
 with_effect e outcome = record outcome { effects = e ∷ outcome.effects }
 
 -- with copies before the others that are made
-abbrev pub with_made : List Carried → Outcome → Outcome
+abbrev pub with_made : List Carried → FlowOutcome → FlowOutcome
 with_made copies outcome = record outcome { made = copies ++ outcome.made }
 
 -- what the actions bring on for a copy at a time: they are done in order, up to one that drops it or goes on at a table. No action reads
 -- the time yet.
-abbrev pub outcome : Entry → ℕ → List FlowOp → Carried → Outcome
+abbrev pub outcome : Entry → ℕ → List FlowOp → Carried → FlowOutcome
 outcome entry now [] copy = record { effects = []; itself = []; made = [] }
 outcome entry now (Set reg n ∷ ops) copy = outcome entry now ops (record copy { regs = set_reg reg n copy.regs })
 outcome entry now (Go table ∷ ops) copy = record { effects = []; itself = gone_on table copy ∷ []; made = [] }

@@ -9,7 +9,7 @@ use Rattle.ovn_base.specs.names.ByName.{put_all, in_order, IsByName}
 use Rattle.tunnel_keys.specs.Owners.{is_listed, datapaths_in}
 use Rattle.tunnel_keys.specs.Order.{IsInOrder}
 use Rattle.tunnel_keys.specs.Keys.{Keys, IsKeys, retire, datapath_owner, port_owner, held_datapath, held_port, free_datapath_keys}
-use Rattle.tunnel_keys.specs.Edits.{IsEdit, IsAfter}
+use Rattle.tunnel_keys.specs.Edits.{IsKeyEdit, IsAfter}
 use Rattle.tunnel_keys.specs.Causes.{IsCause, HasKeys}
 use Rattle.tunnel_keys.specs.Giving.{given_ports, HasEnough, IsDatapathFault, IsPortFault, IsFirstShort}
 use Rattle.tunnel_keys.specs.declared.fault.KeyFault.{KeyFault}
@@ -36,7 +36,7 @@ pub record IsRetired (before : Keys) (removed : List KeyOwner) (st : List (Name 
   pub retired : rd ≡ before.retired_datapaths ++ map held_datapath (filter (λ e. is_listed removed (datapath_owner e)) before.datapaths)
   pub retired_ports : rp ≡ before.retired_ports ++ filter_map (held_port before.datapaths) (filter (λ e. is_listed removed (port_owner e)) before.ports)
 
-module _ (before : Keys) (added removed : List KeyOwner) (keys : IsKeys before) (edit : IsEdit before added removed)
+module _ (before : Keys) (added removed : List KeyOwner) (keys : IsKeys before) (edit : IsKeyEdit before added removed)
     (st : List (Name × DatapathKey)) (po : List (Name × PortKey)) (rd : List HeldDatapath) (rp : List HeldPort) (r : IsRetired before removed st po rd rp) where
   between_is : with_entries before st po rd rp ≡ retire before removed
   between_is =

@@ -16,7 +16,7 @@ use Rattle.ovn_base.specs.names.ByName.{at, IsByName}
 use Rattle.tunnel_keys.specs.Owners.{is_listed}
 use Rattle.tunnel_keys.specs.Keys.{Keys, IsKeys, retire, port_owner, datapath_owner, free_datapath_keys, free_port_keys}
 use Rattle.tunnel_keys.specs.Edits.{IsAfter, IsLive, IsThereAfter, GivesKeys, GivesLeastKeys, GivesLeastDatapathKeys, GivesLeastPortKeys}
-use Rattle.tunnel_keys.specs.Giving.{with_keys, datapath_key, port_key}
+use Rattle.tunnel_keys.specs.Giving.{with_keys, new_datapath_key, new_port_key}
 use Rattle.tunnel_keys.specs.declared.owner.Identity.{Identity}
 use Rattle.tunnel_keys.specs.declared.owner.DatapathKey.{DatapathKey}
 use Rattle.tunnel_keys.specs.declared.owner.PortKey.{PortKey}
@@ -135,7 +135,7 @@ module _ (keys : Keys) (added removed : List KeyOwner) where
     | inl old ↦ gb.datapath_kept n d old
     | inr new ↦
         let same : la.to_datapaths.given ≡ lb.to_datapaths.given =
-        one_given datapath_key (λ x. x.birth) (λ x. x.key) (free_datapath_keys (retire keys removed)) la.to_datapaths.given lb.to_datapaths.given la.to_datapaths.order lb.to_datapaths.order (λ e m. refl) (λ e m. refl) la.to_datapaths.least lb.to_datapaths.least
+        one_given new_datapath_key (λ x. x.birth) (λ x. x.key) (free_datapath_keys (retire keys removed)) la.to_datapaths.given lb.to_datapaths.given la.to_datapaths.order lb.to_datapaths.order (λ e m. refl) (λ e m. refl) la.to_datapaths.least lb.to_datapaths.least
         (moved a b ga la.to_datapaths gb lb.to_datapaths) (moved b a gb lb.to_datapaths ga la.to_datapaths) in
         ((lb.to_datapaths.who (n, d)).0 (subst (λ l. Among (n, d) l) same ((la.to_datapaths.who (n, d)).1 (new, f)))).1
   ]
@@ -159,12 +159,12 @@ module _ (keys : Keys) (added removed : List KeyOwner) where
         let pa = la.to_ports p.datapath d here.3 in
         let pb = lb.to_ports p.datapath d (ap (λ l. at l p.datapath) (sym datapaths) ∙ here.3) in
         let same : pa.given ≡ pb.given =
-        one_given (port_key p.datapath) (λ x. x.birth) (λ x. x.key) (free_port_keys (retire keys removed) on) pa.given pb.given pa.order pb.order (λ e m. whole e.1 ((pa.who e).0 m).0) (λ e m. whole e.1 ((pb.who e).0 m).0) pa.least pb.least
+        one_given (new_port_key p.datapath) (λ x. x.birth) (λ x. x.key) (free_port_keys (retire keys removed) on) pa.given pb.given pa.order pb.order (λ e m. whole e.1 ((pa.who e).0 m).0) (λ e m. whole e.1 ((pb.who e).0 m).0) pa.least pb.least
         (moved a b ga on pa gb pb) (moved b a gb on pb ga pa) in
         ((pb.who (n, p)).0 (subst (λ l. Among (n, p) l) same ((pa.who (n, p)).1 (refl, new, f)))).2
   ]
     where
-      whole : (v : PortKey) → v.datapath ≡ p.datapath → port_key p.datapath v.birth v.key ≡ v
+      whole : (v : PortKey) → v.datapath ≡ p.datapath → new_port_key p.datapath v.birth v.key ≡ v
       whole v on = λ i. record { birth = v.birth; datapath = sym on i; key = v.key }
 
       moved : (a b : Keys) → GivesKeys keys added removed a → (on : Identity) → (pa : GivesLeastPortKeys (retire keys removed) added a on) → GivesKeys keys added removed b → (pb : GivesLeastPortKeys (retire keys removed) added b on)

@@ -17,7 +17,7 @@ use Rattle.ovn_base.specs.declared.address.Birth.{Birth}
 use Rattle.ovn_base.specs.names.ByName.{in_order, IsByName}
 use Rattle.tunnel_keys.specs.Owners.{datapaths_in, ports_in}
 use Rattle.tunnel_keys.specs.Keys.{Keys, IsKeys, retire, free_datapath_keys, free_port_keys, free_in, taken_ports}
-use Rattle.tunnel_keys.specs.Edits.{IsEdit}
+use Rattle.tunnel_keys.specs.Edits.{IsKeyEdit}
 use Rattle.tunnel_keys.specs.Causes.{LacksDatapathKeys, LacksPortKeys, HasKeys, IsFirstToLack}
 use Rattle.std.proofs.Common.{append_assoc}
 use Rattle.tunnel_keys.specs.Giving.{HasEnough, IsFirstShort, IsPortFaultOn, IsPortFault, given_ports, given_ports_on}
@@ -81,7 +81,7 @@ module _ (range : ℕ) (live : List (Name × PortKey)) (retired : List HeldPort)
     short = f.1;
   })
 
-module _ (before : Keys) (added removed : List KeyOwner) (keys : IsKeys before) (edit : IsEdit before added removed) where
+module _ (before : Keys) (added removed : List KeyOwner) (keys : IsKeys before) (edit : IsKeyEdit before added removed) where
   pub lacks_datapaths : length (free_datapath_keys (retire before removed)) < length (in_order (datapaths_in added)) → LacksDatapathKeys before added removed
   lacks_datapaths h = let count = datapaths_count before added removed keys edit in omega (arith, h, count)
 

@@ -15,8 +15,8 @@ use Rattle.tunnel_keys.specs.Owners.{is_listed, ports_in}
 use Rattle.ovn_base.specs.names.ByName.{in_order}
 use Rattle.tunnel_keys.specs.Order.{IsByIdentity, IsInOrder}
 use Rattle.tunnel_keys.specs.Keys.{Keys, IsKeys, no_keys, settled, retire, datapath_owner, port_owner, held_datapath, held_port, held_datapaths, held_ports, free_datapath_keys, free_port_keys, taken_datapaths, taken_ports, IsFreeIn}
-use Rattle.tunnel_keys.specs.Edits.{IsEdit}
-use Rattle.tunnel_keys.specs.Giving.{port_key, datapath_key}
+use Rattle.tunnel_keys.specs.Edits.{IsKeyEdit}
+use Rattle.tunnel_keys.specs.Giving.{new_port_key, new_datapath_key}
 use Rattle.tunnel_keys.specs.Owners.{datapaths_in}
 use Rattle.tunnel_keys.specs.declared.owner.Identity.{Identity}
 use Rattle.tunnel_keys.specs.declared.owner.DatapathKey.{DatapathKey}
@@ -97,7 +97,7 @@ module _ (keys : Keys) where
 one_answer : (ds : List (Name × DatapathKey)) (a b : Name) (d e : DatapathKey) → a ≡ b → at ds a ≡ Some d → at ds b ≡ Some e → d ≡ e
 one_answer ds a b d e same f g = same_Some d e (sym f ∙ ap (λ n. at ds n) same ∙ g)
 
-module _ (before : Keys) (added removed : List KeyOwner) (keys : IsKeys before) (edit : IsEdit before added removed) where
+module _ (before : Keys) (added removed : List KeyOwner) (keys : IsKeys before) (edit : IsKeyEdit before added removed) where
   -- ---- datapaths
 
   abbrev RetiredDatapathCase : HeldDatapath → Type 0
@@ -179,7 +179,7 @@ module _ (before : Keys) (added removed : List KeyOwner) (keys : IsKeys before) 
   datapaths_apart a b (inl p) (inr q) same = absurd ((new_is_free q.0 q.1).free (subst (λ k. Among k (taken_datapaths (retire before removed).datapaths (retire before removed).retired_datapaths)) (same ∙ ap (λ (x : HeldDatapath). x.key) q.2) (held_taken a p)))
   datapaths_apart a b (inr p) (inl q) same = absurd ((new_is_free p.0 p.1).free (subst (λ k. Among k (taken_datapaths (retire before removed).datapaths (retire before removed).retired_datapaths)) (sym same ∙ ap (λ (x : HeldDatapath). x.key) p.2) (held_taken b q)))
   datapaths_apart a b (inr p) (inr q) same =
-      let one : p.0 ≡ q.0 = with_keys_apart datapath_key (λ d. d.key) (λ c k. refl) (in_order (datapaths_in added)) (free_datapath_keys (retire before removed)) (free_once before.datapath_range (taken_datapaths (retire before removed).datapaths (retire before removed).retired_datapaths)) p.0 q.0 p.1 q.1 (sym (ap (λ (x : HeldDatapath). x.key) p.2) ∙ same ∙ ap (λ (x : HeldDatapath). x.key) q.2) in
+      let one : p.0 ≡ q.0 = with_keys_apart new_datapath_key (λ d. d.key) (λ c k. refl) (in_order (datapaths_in added)) (free_datapath_keys (retire before removed)) (free_once before.datapath_range (taken_datapaths (retire before removed).datapaths (retire before removed).retired_datapaths)) p.0 q.0 p.1 q.1 (sym (ap (λ (x : HeldDatapath). x.key) p.2) ∙ same ∙ ap (λ (x : HeldDatapath). x.key) q.2) in
       ap (λ (x : HeldDatapath). x.owner) p.2 ∙ ap (λ e. (held_datapath e).owner) one ∙ sym (ap (λ (x : HeldDatapath). x.owner) q.2)
 
   datapath_once : (a b : HeldDatapath) → HeldDatapathCase a → HeldDatapathCase b → a.owner ≡ b.owner → a ≡ b
@@ -325,7 +325,7 @@ module _ (before : Keys) (added removed : List KeyOwner) (keys : IsKeys before) 
         let s = new_port_on before added removed keys edit room m q b in
         let one : s.0 ≡ r.0 = one_answer (all_datapaths (retire before removed) added) q.datapath p.datapath s.0 r.0 (sym on) s.1 r.1 in
         let moved : Among (m, q) (new_ports_on (retire before removed) added (p.datapath, r.0)) = subst (λ (x : Name × DatapathKey). Among (m, q) (new_ports_on (retire before removed) added x)) (λ i. (sym on i, one i)) s.2 in
-        let entry : (n, p) ≡ (m, q) = with_keys_apart (port_key p.datapath) (λ x. x.key) (λ c k. refl) (in_order (ports_in p.datapath added)) (free_port_keys (retire before removed) (record { name = p.datapath; birth = r.0.birth }))
+        let entry : (n, p) ≡ (m, q) = with_keys_apart (new_port_key p.datapath) (λ x. x.key) (λ c k. refl) (in_order (ports_in p.datapath added)) (free_port_keys (retire before removed) (record { name = p.datapath; birth = r.0.birth }))
         (free_once before.port_range (taken_ports (retire before removed).ports (retire before removed).retired_ports (record { name = p.datapath; birth = r.0.birth }))) (n, p) (m, q) r.2 moved same in
         ap (λ (x : Name × PortKey). (on_datapath_key x.0 x.1 d).owner) entry
 

@@ -12,8 +12,8 @@ use Rattle.ovn_base.specs.names.ByName.{at, put_all, in_order, IsByName}
 use Rattle.tunnel_keys.specs.Owners.{is_listed, datapaths_in, ports_in}
 use Rattle.tunnel_keys.specs.Order.{IsInOrder}
 use Rattle.tunnel_keys.specs.Keys.{Keys, IsKeys, retire, datapath_owner, port_owner, held_datapath, free_datapath_keys, free_port_keys, taken_datapaths, taken_ports}
-use Rattle.tunnel_keys.specs.Edits.{IsEdit, IsThereAfter, GivesKeysAfter, GivesLeastDatapathKeys, GivesLeastPortKeys, GivesLeastKeys}
-use Rattle.tunnel_keys.specs.Giving.{datapath_key, port_key, given_datapaths, given_ports_on, given_ports, HasEnough}
+use Rattle.tunnel_keys.specs.Edits.{IsKeyEdit, IsThereAfter, GivesKeysAfter, GivesLeastDatapathKeys, GivesLeastPortKeys, GivesLeastKeys}
+use Rattle.tunnel_keys.specs.Giving.{new_datapath_key, new_port_key, given_datapaths, given_ports_on, given_ports, HasEnough}
 use Rattle.tunnel_keys.specs.declared.owner.DatapathKey.{DatapathKey}
 use Rattle.tunnel_keys.specs.declared.owner.PortKey.{PortKey}
 use Rattle.tunnel_keys.specs.declared.owner.HeldDatapath.{HeldDatapath}
@@ -55,7 +55,7 @@ pub record HasRoom (between : Keys) (added : List KeyOwner) : Type 0 where
 pub one_entry : {X : Type 0} (es : List (Name × X)) → IsByName es → (n : Name) (v w : X) → Among (n, v) es → Among (n, w) es → w ≡ v
 one_entry es s n v w p q = same_Some w v (sym (among_at n w es s q) ∙ among_at n v es s p)
 
-module _ (before : Keys) (added removed : List KeyOwner) (keys : IsKeys before) (edit : IsEdit before added removed) where
+module _ (before : Keys) (added removed : List KeyOwner) (keys : IsKeys before) (edit : IsKeyEdit before added removed) where
   -- ---- who stays
 
   pub stays_datapath : (n : Name) (d : DatapathKey) → at (retire before removed).datapaths n ≡ Some d → (at before.datapaths n ≡ Some d) × (¬ Among (Datapath n d.birth) removed)
@@ -96,7 +96,7 @@ module _ (before : Keys) (added removed : List KeyOwner) (keys : IsKeys before) 
   ports_count d = in_order_length (ports_in d added) (ports_once d added edit.added_once (λ n b c p q. (edit.one_port d d n b c (inr p) (inr q)).1))
 
   pub new_datapaths_sorted : IsByName (new_datapaths (retire before removed) added)
-  new_datapaths_sorted = with_keys_sorted datapath_key (in_order (datapaths_in added)) (free_datapath_keys (retire before removed)) (in_order_sorted (datapaths_in added))
+  new_datapaths_sorted = with_keys_sorted new_datapath_key (in_order (datapaths_in added)) (free_datapath_keys (retire before removed)) (in_order_sorted (datapaths_in added))
 
   pub between_sorted : IsByName (retire before removed).datapaths
   between_sorted = filter_sorted (λ e. not (is_listed removed (datapath_owner e))) before.datapaths keys.datapaths_in_order
@@ -110,9 +110,9 @@ module _ (before : Keys) (added removed : List KeyOwner) (keys : IsKeys before) 
   -- who gets a key is added, and the key is free
   pub new_datapath_who : (e : Name × DatapathKey) → Among e (new_datapaths (retire before removed) added) → Among (Datapath e.0 e.1.birth) added × Among e.1.key (free_datapath_keys (retire before removed))
   new_datapath_who e m =
-      let r = with_keys_cases datapath_key (in_order (datapaths_in added)) (free_datapath_keys (retire before removed)) e m in
+      let r = with_keys_cases new_datapath_key (in_order (datapaths_in added)) (free_datapath_keys (retire before removed)) e m in
       let owner : Among (Datapath r.0.0 r.0.1) added = in_datapaths added r.0.0 r.0.1 (in_order_among (datapaths_in added) r.0.0 r.0.1 r.2) in
-      let same : (r.0.0, datapath_key r.0.1 r.1) ≡ e = sym r.4 in
+      let same : (r.0.0, new_datapath_key r.0.1 r.1) ≡ e = sym r.4 in
       (subst (λ (f : Name × DatapathKey). Among (Datapath f.0 f.1.birth) added) same owner, subst (λ (f : Name × DatapathKey). Among f.1.key (free_datapath_keys (retire before removed))) same r.3)
 
   -- a datapath that stays gets no other key
@@ -136,15 +136,15 @@ module _ (before : Keys) (added removed : List KeyOwner) (keys : IsKeys before) 
   there_datapath n d f = elim (datapath_cases n d f) [ inl k ↦ datapath_there n d k | inr m ↦ inr (new_datapath_who (n, d) m).0 ]
 
   module _ (enough : length (in_order (datapaths_in added)) ≤ length (free_datapath_keys (retire before removed))) where
-    pub new_datapath_there : (n : Name) (b : Birth) → Among (Datapath n b) added → (k : ℕ) × Among (n, datapath_key b k) (new_datapaths (retire before removed) added) × Among k (free_datapath_keys (retire before removed))
+    pub new_datapath_there : (n : Name) (b : Birth) → Among (Datapath n b) added → (k : ℕ) × Among (n, new_datapath_key b k) (new_datapaths (retire before removed) added) × Among k (free_datapath_keys (retire before removed))
     new_datapath_there n b m =
         let a : Among (n, b) (in_order (datapaths_in added)) = among_in_order (datapaths_in added) n b (λ c k. edit.one_datapath n c b (inr (in_datapaths added n c k)) (inr m)) (datapaths_have added n b m) in
-        with_keys_there datapath_key (in_order (datapaths_in added)) (free_datapath_keys (retire before removed)) enough (n, b) a
+        with_keys_there new_datapath_key (in_order (datapaths_in added)) (free_datapath_keys (retire before removed)) enough (n, b) a
 
     -- a datapath that is there after the edit is found
     pub found_datapath : (n : Name) (b : Birth) → IsThereAfter before added removed (Datapath n b) → (d : DatapathKey) × (at (all_datapaths (retire before removed) added) n ≡ Some d) × (d.birth ≡ b)
-    found_datapath n b (inl live) = (datapath_key b live.0.0, datapath_kept n (datapath_key b live.0.0) (datapath_stays n (datapath_key b live.0.0) live.0.1 live.1), refl)
-    found_datapath n b (inr m) = let r = new_datapath_there n b m in (datapath_key b r.0, new_datapath_at n (datapath_key b r.0) r.1, refl)
+    found_datapath n b (inl live) = (new_datapath_key b live.0.0, datapath_kept n (new_datapath_key b live.0.0) (datapath_stays n (new_datapath_key b live.0.0) live.0.1 live.1), refl)
+    found_datapath n b (inr m) = let r = new_datapath_there n b m in (new_datapath_key b r.0, new_datapath_at n (new_datapath_key b r.0) r.1, refl)
 
   module _ (room : HasRoom (retire before removed) added) where
     -- ---- the added ports
@@ -154,13 +154,13 @@ module _ (before : Keys) (added removed : List KeyOwner) (keys : IsKeys before) 
         → Among (Port q.0 e.0 e.1.birth) added × (e.1.datapath ≡ q.0) × Among e.1.key (free_port_keys (retire before removed) (record { name = q.0; birth = q.1.birth }))
     new_port_who q e m =
         let free = free_port_keys (retire before removed) (record { name = q.0; birth = q.1.birth }) in
-        let r = with_keys_cases (port_key q.0) (in_order (ports_in q.0 added)) free e m in
+        let r = with_keys_cases (new_port_key q.0) (in_order (ports_in q.0 added)) free e m in
         let owner : Among (Port q.0 r.0.0 r.0.1) added = in_ports added q.0 r.0.0 r.0.1 (in_order_among (ports_in q.0 added) r.0.0 r.0.1 r.2) in
-        let same : (r.0.0, port_key q.0 r.0.1 r.1) ≡ e = sym r.4 in
+        let same : (r.0.0, new_port_key q.0 r.0.1 r.1) ≡ e = sym r.4 in
         (subst (λ (f : Name × PortKey). Among (Port q.0 f.0 f.1.birth) added) same owner, ap (λ (f : Name × PortKey). f.1.datapath) r.4, subst (λ (f : Name × PortKey). Among f.1.key free) same r.3)
 
     pub new_ports_sorted : (q : Name × DatapathKey) → IsByName (new_ports_on (retire before removed) added q)
-    new_ports_sorted q = with_keys_sorted (port_key q.0) (in_order (ports_in q.0 added)) (free_port_keys (retire before removed) (record { name = q.0; birth = q.1.birth })) (in_order_sorted (ports_in q.0 added))
+    new_ports_sorted q = with_keys_sorted (new_port_key q.0) (in_order (ports_in q.0 added)) (free_port_keys (retire before removed) (record { name = q.0; birth = q.1.birth })) (in_order_sorted (ports_in q.0 added))
 
     -- datapaths with one name are one
     one_q : (q r : Name × DatapathKey) → Among q (all_datapaths (retire before removed) added) → Among r (all_datapaths (retire before removed) added) → q.0 ≡ r.0 → r ≡ q
@@ -181,14 +181,14 @@ module _ (before : Keys) (added removed : List KeyOwner) (keys : IsKeys before) 
     new_port_at n p m = put_all_there (retire before removed).ports (new_ports (retire before removed) added) n p (λ w k. one_new_port n p w m k) m
 
     pub new_port_there : (d n : Name) (b : Birth) → Among (Port d n b) added
-        → (k : ℕ) × (q : DatapathKey) × (at (all_datapaths (retire before removed) added) d ≡ Some q) × Among (n, port_key d b k) (new_ports_on (retire before removed) added (d, q)) × Among k (free_port_keys (retire before removed) (record { name = d; birth = q.birth }))
+        → (k : ℕ) × (q : DatapathKey) × (at (all_datapaths (retire before removed) added) d ≡ Some q) × Among (n, new_port_key d b k) (new_ports_on (retire before removed) added (d, q)) × Among k (free_port_keys (retire before removed) (record { name = d; birth = q.birth }))
     new_port_there d n b m =
         let on = edit.has_datapath d n b (inr m) in
         let q = found_datapath room.for_datapaths d on.0 on.1 in
         let listed : Among (d, q.0) (all_datapaths (retire before removed) added) = at_among (all_datapaths (retire before removed) added) d q.0 q.1 in
         let enough = among_all (HasEnough (retire before removed).port_range (retire before removed).ports (retire before removed).retired_ports added) (d, q.0) (all_datapaths (retire before removed) added) room.for_ports listed in
         let a : Among (n, b) (in_order (ports_in d added)) = among_in_order (ports_in d added) n b (λ c k. (edit.one_port d d n c b (inr (in_ports added d n c k)) (inr m)).1) (ports_have added d n b m) in
-        let r = with_keys_there (port_key d) (in_order (ports_in d added)) (free_port_keys (retire before removed) (record { name = d; birth = q.0.birth })) enough (n, b) a in
+        let r = with_keys_there (new_port_key d) (in_order (ports_in d added)) (free_port_keys (retire before removed) (record { name = d; birth = q.0.birth })) enough (n, b) a in
         (r.0, q.0, q.1, r.1, r.2)
 
     pub new_port_among : (d n : Name) (q : DatapathKey) (p : PortKey) → at (all_datapaths (retire before removed) added) d ≡ Some q → Among (n, p) (new_ports_on (retire before removed) added (d, q)) → Among (n, p) (new_ports (retire before removed) added)
@@ -232,10 +232,10 @@ module _ (before : Keys) (added removed : List KeyOwner) (keys : IsKeys before) 
       port_kept = port_kept;
       datapath_given = λ n b m.
           let r = new_datapath_there room.for_datapaths n b m in
-          (r.0, new_datapath_at n (datapath_key b r.0) r.1, free_is_free (retire before removed).datapath_range (taken_datapaths (retire before removed).datapaths (retire before removed).retired_datapaths) r.0 r.2);
+          (r.0, new_datapath_at n (new_datapath_key b r.0) r.1, free_is_free (retire before removed).datapath_range (taken_datapaths (retire before removed).datapaths (retire before removed).retired_datapaths) r.0 r.2);
       port_given = λ d n b m.
           let r = new_port_there d n b m in
-          (r.0, r.1, new_port_at n (port_key d b r.0) (new_port_among d n r.1 (port_key d b r.0) r.2 r.3), r.2, free_is_free (retire before removed).port_range (taken_ports (retire before removed).ports (retire before removed).retired_ports (record { name = d; birth = r.1.birth })) r.0 r.4);
+          (r.0, r.1, new_port_at n (new_port_key d b r.0) (new_port_among d n r.1 (new_port_key d b r.0) r.2 r.3), r.2, free_is_free (retire before removed).port_range (taken_ports (retire before removed).ports (retire before removed).retired_ports (record { name = d; birth = r.1.birth })) r.0 r.4);
       datapath_cases = λ n d f. elim (datapath_cases n d f) [ inl k ↦ inl k | inr m ↦ inr (new_datapath_who (n, d) m).0 ];
       port_cases = λ n p f. elim (port_cases n p f) [ inl k ↦ inl k | inr m ↦ inr (new_port_owner n p m) ];
     }
@@ -248,10 +248,10 @@ module _ (before : Keys) (added removed : List KeyOwner) (keys : IsKeys before) 
         (λ m. ((new_datapath_who e m).0, new_datapath_at e.0 e.1 m)),
         (λ h.
             let r = new_datapath_there room.for_datapaths e.0 e.1.birth h.0 in
-            let same : datapath_key e.1.birth r.0 ≡ e.1 = same_Some (datapath_key e.1.birth r.0) e.1 (sym (new_datapath_at e.0 (datapath_key e.1.birth r.0) r.1) ∙ h.1) in
+            let same : new_datapath_key e.1.birth r.0 ≡ e.1 = same_Some (new_datapath_key e.1.birth r.0) e.1 (sym (new_datapath_at e.0 (new_datapath_key e.1.birth r.0) r.1) ∙ h.1) in
             subst (λ d. Among (e.0, d) (new_datapaths (retire before removed) added)) same r.1),
       );
-      least = with_keys_first datapath_key (λ d. d.key) (λ b k. refl) (in_order (datapaths_in added)) (free_datapath_keys (retire before removed));
+      least = with_keys_first new_datapath_key (λ d. d.key) (λ b k. refl) (in_order (datapaths_in added)) (free_datapath_keys (retire before removed));
     }
 
     least_ports : (rd : List HeldDatapath) (rp : List HeldPort) (n : Name) (d : DatapathKey) → at (all_datapaths (retire before removed) added) n ≡ Some d
@@ -265,7 +265,7 @@ module _ (before : Keys) (added removed : List KeyOwner) (keys : IsKeys before) 
             (w.1, subst (λ k. Among (Port k e.0 e.1.birth) added) (sym w.1) w.0, new_port_at e.0 e.1 (new_port_among n e.0 d e.1 f m))),
         (λ h.
             let r = new_port_there e.1.datapath e.0 e.1.birth h.1 in
-            let p : PortKey = port_key e.1.datapath e.1.birth r.0 in
+            let p : PortKey = new_port_key e.1.datapath e.1.birth r.0 in
             let found : at (planned (retire before removed) added).ports e.0 ≡ Some p = new_port_at e.0 p (new_port_among e.1.datapath e.0 r.1 p r.2 r.3) in
             let same : p ≡ e.1 = same_Some p e.1 (sym found ∙ h.2) in
             let on : Among (e.0, e.1) (new_ports_on (retire before removed) added (e.1.datapath, r.1)) = subst (λ v. Among (e.0, v) (new_ports_on (retire before removed) added (e.1.datapath, r.1))) same r.3 in
@@ -273,7 +273,7 @@ module _ (before : Keys) (added removed : List KeyOwner) (keys : IsKeys before) 
             let datapath : r.1 ≡ d = same_Some r.1 d (sym there' ∙ f) in
             subst (λ (q : Name × DatapathKey). Among (e.0, e.1) (new_ports_on (retire before removed) added q)) (λ i. (h.0 i, datapath i)) on),
       );
-      least = with_keys_first (port_key n) (λ p. p.key) (λ b k. refl) (in_order (ports_in n added)) (free_port_keys (retire before removed) (record { name = n; birth = d.birth }));
+      least = with_keys_first (new_port_key n) (λ p. p.key) (λ b k. refl) (in_order (ports_in n added)) (free_port_keys (retire before removed) (record { name = n; birth = d.birth }));
     }
 
     pub planned_least : (rd : List HeldDatapath) (rp : List HeldPort) → GivesLeastKeys (retire before removed) added (record (planned (retire before removed) added) { retired_datapaths = rd; retired_ports = rp })

@@ -9,7 +9,7 @@ use Rattle.ovn_base.specs.declared.name.Name.{Name}
 use Rattle.ovn_base.specs.names.ByName.{at}
 use Rattle.ovn_base.proofs.AmongLaws.{among_none}
 use Rattle.ovn_base.proofs.ByNameLaws.{at_among}
-use Rattle.tunnel_keys.specs.Edits.{IsEdit, IsLive, IsNew, IsThereAfter}
+use Rattle.tunnel_keys.specs.Edits.{IsKeyEdit, IsLive, IsNew, IsThereAfter}
 use Rattle.tunnel_keys.specs.Keys.{Keys, IsKeys}
 use Rattle.tunnel_keys.specs.declared.owner.DatapathKey.{DatapathKey}
 use Rattle.tunnel_keys.specs.declared.owner.HeldPort.{HeldPort}
@@ -48,7 +48,7 @@ module _ (keys : Keys) (hold : IsKeys keys) where
     port_lives d other b (inl old) = old.0
     port_lives d other b (inr come) = absurd (not_port name birth d other b (sym (the_one (Port d other b) (Datapath name birth) come)))
 
-    pub datapath_fits : IsEdit keys (Datapath name birth ∷ []) []
+    pub datapath_fits : IsKeyEdit keys (Datapath name birth ∷ []) []
     datapath_fits = record {
       added_once = (λ among. among_none (Datapath name birth) among, tt);
       removed_once = tt;
@@ -84,7 +84,7 @@ module _ (keys : Keys) (hold : IsKeys keys) where
     lives_on : (c : Birth) × IsLive keys (Datapath datapath c)
     lives_on = let d = found (at keys.datapaths datapath) there in (d.0.birth, (d.0.key, d.1))
 
-    pub port_fits : IsEdit keys (Port datapath name birth ∷ []) []
+    pub port_fits : IsKeyEdit keys (Port datapath name birth ∷ []) []
     port_fits = record {
       added_once = (λ among. among_none (Port datapath name birth) among, tt);
       removed_once = tt;
@@ -120,7 +120,7 @@ module _ (keys : Keys) (hold : IsKeys keys) where
     was_live o (inl old) = old.0
     was_live o (inr come) = absurd (among_none o come)
 
-    pub port_goes : IsEdit keys [] (Port datapath name birth ∷ [])
+    pub port_goes : IsKeyEdit keys [] (Port datapath name birth ∷ [])
     port_goes = record {
       added_once = tt;
       removed_once = (λ among. among_none (Port datapath name birth) among, tt);

@@ -9,7 +9,7 @@ use Rattle.ovn_base.specs.names.SameName.{same_name}
 use Rattle.tunnel_keys.specs.Same.{same_birth, same_identity}
 use Rattle.tunnel_keys.specs.Owners.{ports_in}
 use Rattle.tunnel_keys.specs.Keys.{ports_on, free_in, taken_ports}
-use Rattle.tunnel_keys.specs.Giving.{with_keys, port_key, taken_on}
+use Rattle.tunnel_keys.specs.Giving.{with_keys, new_port_key, taken_on}
 use Rattle.tunnel_keys.specs.declared.owner.Identity.{Identity}
 use Rattle.tunnel_keys.specs.declared.owner.PortKey.{PortKey}
 use Rattle.tunnel_keys.specs.declared.owner.HeldPort.{HeldPort}
@@ -41,5 +41,5 @@ module _ (range : ℕ) (live : List (Name × PortKey)) (retired : List HeldPort)
   pub free_is : free_in range (taken_on here gone d) ≡ free_in range (taken_ports live retired d)
   free_is = (λ i. free_in range (taken_on (is_here i) (is_gone i) d)) ∙ ap (λ t. free_in range t) (taken_is live retired d)
 
-  pub given_is : with_keys (port_key d.name) (in_order come) (free_in range (taken_on here gone d)) ≡ with_keys (port_key d.name) (in_order (ports_in d.name added)) (free_in range (taken_ports live retired d))
-  given_is = λ i. with_keys (port_key d.name) (in_order (is_come i)) (free_is i)
+  pub given_is : with_keys (new_port_key d.name) (in_order come) (free_in range (taken_on here gone d)) ≡ with_keys (new_port_key d.name) (in_order (ports_in d.name added)) (free_in range (taken_ports live retired d))
+  given_is = λ i. with_keys (new_port_key d.name) (in_order (is_come i)) (free_is i)

@@ -5,7 +5,7 @@ use mathlib.Core.Logic.{inl, inr}
 use Rattle.std.specs.Option.{unwrap_or}
 use Rattle.ovn_base.specs.declared.name.Name.{Name}
 use Rattle.ovn_base.specs.names.ByName.{at, put}
-use Rattle.tunnel_keys.specs.Grouped.{under}
+use Rattle.tunnel_keys.specs.Grouped.{grouped_under}
 use Rattle.ovn_base.specs.names.SameName.{same_name}
 use Rattle.tunnel_keys.specs.Same.{name_exact, name_own}
 use Rattle.ovn_base.proofs.ByNameLaws.{one_or_two, put_there, put_other}
@@ -20,14 +20,14 @@ apart_false a b apart = by (same_name a b) refl
 
 -- one more value under the name
 pub pushed_under : {X : Type 0} (es : List (Name × List X)) (name : Name) (v : X) (q : Name)
-    → under (put (put es name []) name (under es name ++ v ∷ [])) q ≡ under es q ++ cond (same_name q name) (v ∷ []) []
+    → grouped_under (put (put es name []) name (grouped_under es name ++ v ∷ [])) q ≡ grouped_under es q ++ cond (same_name q name) (v ∷ []) []
 pushed_under {X} es name v q = elim (one_or_two q name) [
   | inl same ↦
-      ap (λ (o : Option (List X)). unwrap_or o []) (ap (λ n. at (put (put es name []) name (under es name ++ v ∷ [])) n) same ∙ put_there (put es name []) name (under es name ++ v ∷ []))
-      ∙ ap (λ n. under es n ++ v ∷ []) (sym same)
-      ∙ ap (λ b. under es q ++ cond b (v ∷ []) []) (sym (ap (λ n. same_name q n) (sym same) ∙ name_own q))
+      ap (λ (o : Option (List X)). unwrap_or o []) (ap (λ n. at (put (put es name []) name (grouped_under es name ++ v ∷ [])) n) same ∙ put_there (put es name []) name (grouped_under es name ++ v ∷ []))
+      ∙ ap (λ n. grouped_under es n ++ v ∷ []) (sym same)
+      ∙ ap (λ b. grouped_under es q ++ cond b (v ∷ []) []) (sym (ap (λ n. same_name q n) (sym same) ∙ name_own q))
   | inr apart ↦
-      ap (λ (o : Option (List X)). unwrap_or o []) (put_other (put es name []) name (under es name ++ v ∷ []) q apart ∙ put_other es name [] q apart)
-      ∙ sym (append_none (under es q))
-      ∙ ap (λ b. under es q ++ cond b (v ∷ []) []) (sym (apart_false q name apart))
+      ap (λ (o : Option (List X)). unwrap_or o []) (put_other (put es name []) name (grouped_under es name ++ v ∷ []) q apart ∙ put_other es name [] q apart)
+      ∙ sym (append_none (grouped_under es q))
+      ∙ ap (λ b. grouped_under es q ++ cond b (v ∷ []) []) (sym (apart_false q name apart))
 ]

@@ -32,7 +32,7 @@ abbrev pub IsThereAfter : Keys → List KeyOwner → List KeyOwner → KeyOwner 
 IsThereAfter keys added removed owner = (IsLive keys owner × (¬ Among owner removed)) ⊎ Among owner added
 
 -- the edit fits the keys
-pub record IsEdit (keys : Keys) (added removed : List KeyOwner) : Type 0 where
+pub record IsKeyEdit (keys : Keys) (added removed : List KeyOwner) : Type 0 where
   -- no owner stands twice
   pub added_once : EachOnce added
   pub removed_once : EachOnce removed
@@ -108,5 +108,5 @@ pub record IsMoved (keys : Keys) (added removed : List KeyOwner) (after : Keys) 
 pub record IsPlanFor (keys after : Keys) : Type 0 where
   pub added : List KeyOwner
   pub removed : List KeyOwner
-  pub fits : IsEdit keys added removed
+  pub fits : IsKeyEdit keys added removed
   pub gives : GivesKeys keys added removed after

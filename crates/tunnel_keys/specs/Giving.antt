@@ -28,11 +28,11 @@ with_keys make [] keys = []
 with_keys make (a ∷ as') [] = []
 with_keys make (a ∷ as') (key ∷ keys) = (a.0, make a.1 key) ∷ with_keys make as' keys
 
-abbrev pub datapath_key : Birth → ℕ → DatapathKey
-datapath_key birth key = record { birth = birth; key = key }
+abbrev pub new_datapath_key : Birth → ℕ → DatapathKey
+new_datapath_key birth key = record { birth = birth; key = key }
 
-abbrev pub port_key : Name → Birth → ℕ → PortKey
-port_key datapath birth key = record { birth = birth; datapath = datapath; key = key }
+abbrev pub new_port_key : Name → Birth → ℕ → PortKey
+new_port_key datapath birth key = record { birth = birth; datapath = datapath; key = key }
 
 -- the keys that are taken on a datapath, of the live ports there and of the retired ports that were there
 abbrev pub taken_on : List (Name × ℕ) → List HeldPort → Identity → List ℕ
@@ -40,11 +40,11 @@ taken_on live retired datapath = map (λ p. p.1) live ++ map (λ h. h.key) (filt
 
 -- what the added datapaths get, beside these live and retired keys
 abbrev pub given_datapaths : ℕ → List (Name × DatapathKey) → List HeldDatapath → List KeyOwner → List (Name × DatapathKey)
-given_datapaths range live retired added = with_keys datapath_key (in_order (datapaths_in added)) (free_in range (taken_datapaths live retired))
+given_datapaths range live retired added = with_keys new_datapath_key (in_order (datapaths_in added)) (free_in range (taken_datapaths live retired))
 
 -- what the ports added to the datapath get
 abbrev pub given_ports_on : ℕ → List (Name × PortKey) → List HeldPort → List KeyOwner → Name × DatapathKey → List (Name × PortKey)
-given_ports_on range live retired added d = with_keys (port_key d.0) (in_order (ports_in d.0 added)) (free_in range (taken_ports live retired (record { name = d.0; birth = d.1.birth })))
+given_ports_on range live retired added d = with_keys (new_port_key d.0) (in_order (ports_in d.0 added)) (free_in range (taken_ports live retired (record { name = d.0; birth = d.1.birth })))
 
 -- what the added ports get, on one datapath after the other
 abbrev pub given_ports : ℕ → List (Name × PortKey) → List HeldPort → List KeyOwner → List (Name × DatapathKey) → List (Name × PortKey)

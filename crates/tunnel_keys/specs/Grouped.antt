@@ -5,5 +5,5 @@ use Rattle.ovn_base.specs.declared.name.Name.{Name}
 use Rattle.ovn_base.specs.names.ByName.{at}
 
 -- the values under the name, in order
-abbrev pub under : {X : Type 0} → List (Name × List X) → Name → List X
-under groups name = unwrap_or (at groups name) []
+abbrev pub grouped_under : {X : Type 0} → List (Name × List X) → Name → List X
+grouped_under groups name = unwrap_or (at groups name) []

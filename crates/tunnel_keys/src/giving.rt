@@ -4,7 +4,7 @@ ghost use Rattle.std.specs.List.{AllByRecursion};
 ghost use Rattle.ovn_base.specs.names.ByName.{in_order};
 ghost use Rattle.tunnel_keys.specs.Owners.{as_datapath, datapaths_in};
 ghost use Rattle.tunnel_keys.specs.Keys.{free_in, taken_datapaths};
-ghost use Rattle.tunnel_keys.specs.Giving.{put_option, with_keys, datapath_key, port_key, taken_on, given_datapaths, given_ports, HasEnough, IsDatapathFault, IsPortFaultOn, IsPortFault, lists_of};
+ghost use Rattle.tunnel_keys.specs.Giving.{put_option, with_keys, new_datapath_key, new_port_key, taken_on, given_datapaths, given_ports, HasEnough, IsDatapathFault, IsPortFaultOn, IsPortFault, lists_of};
 
 use crate::fault::KeyFault;
 use crate::free::{free_keys, taken_by_datapaths, taken_by_ports};
@@ -60,7 +60,7 @@ fn datapaths_with_keys(
     arrivals: &BTreeMap<Name, Birth>,
     keys: &[u32],
 ) -> Result<List<(Name, DatapathKey)>, NoMemory>
-    ensures { IfOk result (λ l. l ≡ with_keys datapath_key arrivals.now.entries keys.now) }
+    ensures { IfOk result (λ l. l ≡ with_keys new_datapath_key arrivals.now.entries keys.now) }
 {
     let mut given = List::new(alloc);
     let mut next = 0;
@@ -88,7 +88,7 @@ fn ports_with_keys(
     keys: &[u32],
 ) -> Result<List<(Name, PortKey)>, NoMemory>
     requires { AllByRecursion (λ key. key < 2 ^ 16) keys.now }
-    ensures { IfOk result (λ l. l ≡ with_keys (port_key datapath.now) arrivals.now.entries keys.now) }
+    ensures { IfOk result (λ l. l ≡ with_keys (new_port_key datapath.now) arrivals.now.entries keys.now) }
 {
     let mut given = List::new(alloc);
     let mut next = 0;
@@ -140,7 +140,7 @@ fn give_keys_on(
     added: &[(Name, Birth)],
     datapath: &Identity,
 ) -> Result<List<(Name, PortKey)>, KeyFault>
-    ensures given { IfOk result (λ l. l ≡ with_keys (port_key datapath.now.name) (in_order added.now) (free_in range (taken_on live.now retired.now datapath.now))) }
+    ensures given { IfOk result (λ l. l ≡ with_keys (new_port_key datapath.now.name) (in_order added.now) (free_in range (taken_on live.now retired.now datapath.now))) }
     ensures enough { IfOk result (λ l. length (in_order added.now) ≤ length (free_in range (taken_on live.now retired.now datapath.now))) }
     ensures fault { IfErr result (IsPortFaultOn datapath.now.name (free_in range (taken_on live.now retired.now datapath.now)) (in_order added.now)) }
 {

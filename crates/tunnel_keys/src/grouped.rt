@@ -2,7 +2,7 @@
 ghost use Rattle.std.specs.Prelude.{◌≡◌, ◌++◌, ◌∷◌, [], IfOk, OnOk, cond};
 ghost use Rattle.std.specs.List.{filter, cons_option};
 ghost use Rattle.ovn_base.specs.declared.name.Name.{Name};
-ghost use Rattle.tunnel_keys.specs.Grouped.{under};
+ghost use Rattle.tunnel_keys.specs.Grouped.{grouped_under};
 ghost use Rattle.ovn_base.specs.names.SameName.{same_name};
 ghost use Rattle.tunnel_keys.specs.Owners.{as_port_of, ports_in};
 ghost use Rattle.tunnel_keys.specs.Keys.{ports_on};
@@ -17,7 +17,7 @@ use std::collections::BTreeMap;
 
 // The values under the name.
 pub(crate) fn under<'a, V>(groups: &'a BTreeMap<Name, List<V>>, name: &Name) -> &'a [V]
-    ensures { result.now ≡ under groups.now.entries name.now }
+    ensures { result.now ≡ grouped_under groups.now.entries name.now }
 {
     match groups.get(name) {
         Some(list) => list.as_slice(),
@@ -32,7 +32,7 @@ fn push_under<V: Drop>(
     name: Name,
     value: V,
 ) -> Result<(), NoMemory>
-    ensures { OnOk result ((n : Name) → under groups.new.entries n ≡ under groups.old.entries n ++ cond (same_name n name) (value ∷ []) []) }
+    ensures { OnOk result ((n : Name) → grouped_under groups.new.entries n ≡ grouped_under groups.old.entries n ++ cond (same_name n name) (value ∷ []) []) }
 {
     let emptied = groups.insert(name, List::new(alloc))?;
     let mut list = emptied.unwrap_or(List::new(alloc));
@@ -46,7 +46,7 @@ pub(crate) fn ports_by_datapath(
     alloc: Global,
     owners: &[KeyOwner],
 ) -> Result<BTreeMap<Name, List<(Name, Birth)>>, NoMemory>
-    ensures { IfOk result (λ m. (d : Name) → under m.entries d ≡ ports_in d owners.now) }
+    ensures { IfOk result (λ m. (d : Name) → grouped_under m.entries d ≡ ports_in d owners.now) }
 {
     let mut groups = BTreeMap::new(alloc);
     for owner in owners {
@@ -61,7 +61,7 @@ fn push_port(
     groups: &mut BTreeMap<Name, List<(Name, Birth)>>,
     owner: &KeyOwner,
 ) -> Result<(), NoMemory>
-    ensures { OnOk result ((d : Name) → under groups.new.entries d ≡ under groups.old.entries d ++ cons_option (as_port_of d owner.now) []) }
+    ensures { OnOk result ((d : Name) → grouped_under groups.new.entries d ≡ grouped_under groups.old.entries d ++ cons_option (as_port_of d owner.now) []) }
 {
     match owner {
         KeyOwner::Datapath { .. } => Ok(()),
@@ -78,7 +78,7 @@ pub(crate) fn live_by_datapath(
     alloc: Global,
     ports: &BTreeMap<Name, PortKey>,
 ) -> Result<BTreeMap<Name, List<(Name, u16)>>, NoMemory>
-    ensures { IfOk result (λ m. (d : Name) → under m.entries d ≡ ports_on ports.now.entries d) }
+    ensures { IfOk result (λ m. (d : Name) → grouped_under m.entries d ≡ ports_on ports.now.entries d) }
 {
     let mut groups = BTreeMap::new(alloc);
     for (name, port) in ports {
@@ -92,7 +92,7 @@ pub(crate) fn retired_by_datapath(
     alloc: Global,
     retired: &[HeldPort],
 ) -> Result<BTreeMap<Name, List<HeldPort>>, NoMemory>
-    ensures { IfOk result (λ m. (d : Name) → under m.entries d ≡ filter (λ h. same_name d h.datapath.name) retired.now) }
+    ensures { IfOk result (λ m. (d : Name) → grouped_under m.entries d ≡ filter (λ h. same_name d h.datapath.name) retired.now) }
 {
     let mut groups = BTreeMap::new(alloc);
     for held in retired {

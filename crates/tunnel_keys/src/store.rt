@@ -4,7 +4,7 @@ ghost use Rattle.std.specs.Option.{option_copied, option_map};
 ghost use Rattle.ovn_base.specs.declared.limits.TheConstants.{MAX_DATAPATH_KEY, MAX_PORT_KEY};
 ghost use Rattle.ovn_base.specs.names.ByName.{at};
 ghost use Rattle.tunnel_keys.specs.Keys.{IsKeys, no_keys, settled, ports_on};
-ghost use Rattle.tunnel_keys.specs.Edits.{IsEdit, IsAfter, IsPlanFor};
+ghost use Rattle.tunnel_keys.specs.Edits.{IsKeyEdit, IsAfter, IsPlanFor};
 ghost use Rattle.tunnel_keys.specs.Causes.{IsCause, HasKeys};
 
 use crate::fault::KeyFault;
@@ -156,7 +156,7 @@ impl KeyStore {
     /// order of their names. A port that is not removed keeps its key, also where the edit removes its datapath and adds one
     /// of that name; the key is then one of the new datapath.
     ///
-    /// The edit must fit the keys ([`IsEdit`]): no owner stands twice in a list, the removed ones are live, no key, live or
+    /// The edit must fit the keys ([`IsKeyEdit`]): no owner stands twice in a list, the removed ones are live, no key, live or
     /// retired, is or was one of an added one, and no retired key of a port was one of an added datapath. Afterwards no two
     /// datapaths and no two ports have one name, and the datapath of each port is there.
     ///
@@ -164,7 +164,7 @@ impl KeyStore {
     /// range are neither live nor retired, and `NoPortKey` of the first datapath, in order of name, to which more ports are
     /// added than keys of the range are neither live nor retired on it.
     pub fn plan(&mut self, added: &[KeyOwner], removed: &[KeyOwner]) -> Result<KeyPlan, KeyFault>
-        requires { IsEdit self.old added.now removed.now }
+        requires { IsKeyEdit self.old added.now removed.now }
         ensures kept { self.new ≡ self.old }
         ensures after { IfOk result (IsAfter self.old added.now removed.now) }
         ensures enough { IfOk result (λ plan. HasKeys self.old added.now removed.now) }
@@ -186,7 +186,7 @@ impl KeyStore {
 
     // The keys after an edit.
     fn after(&self, added: &[KeyOwner], removed: &[KeyOwner]) -> Result<KeyStore, KeyFault>
-        requires { IsEdit self.now added.now removed.now }
+        requires { IsKeyEdit self.now added.now removed.now }
         ensures after { IfOk result (IsAfter self.now added.now removed.now) }
         ensures enough { IfOk result (λ keys. HasKeys self.now added.now removed.now) }
         ensures fault { IfErr result (IsCause self.now added.now removed.now) }

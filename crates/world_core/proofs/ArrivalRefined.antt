@@ -199,8 +199,8 @@ module _ (law : ArrivalLaw) (m : State) (zones : List (Name × ℕ)) (more : ℕ
       let w = a.crossings.may n x (numbered_among m.waiting n x c.waits) in
       let home : frame.to ≡ x.home = ap (λ (f : WaitingFrame). f.to) c.is in
       let read = read_so m zones more a x w vni in_key out_key packet (subst (λ (f : WaitingFrame). Carries f.bytes vni in_key out_key packet) c.is carries) in
-      let there : sim.named s.chassis x.home ≡ Some flows = ap (λ d. sim.named s.chassis d) (sym home) ∙ held in
-      let known : Among x.home m.chassis = (h.held x.home).0 (is_some_of (sim.named s.chassis x.home) flows there) in
+      let there : sim.at_name s.chassis x.home ≡ Some flows = ap (λ d. sim.at_name s.chassis d) (sym home) ∙ held in
+      let known : Among x.home m.chassis = (h.held x.home).0 (is_some_of (sim.at_name s.chassis x.home) flows there) in
       arrives_so keep x c.waits packet carries.whole read.3 steps effects
       (law m zones n x flows a.valid a.keys a.bound w known (h.flows x.home flows there) clock packet carries.whole read.3 steps effects (rw (← read.0, ← read.1, ← read.2) walk))
       (subst (λ d. IsTold (arrived s n keep) d (start.Frame n) steps effects before after new) home told)
@@ -209,7 +209,7 @@ module _ (law : ArrivalLaw) (m : State) (zones : List (Name × ℕ)) (more : ℕ
       let x = c.crossing in
       let w = a.crossings.may n x (numbered_among m.waiting n x c.waits) in
       let home : frame.to ≡ x.home = ap (λ (f : WaitingFrame). f.to) c.is in
-      let absent : ¬ Among x.home m.chassis = λ known. none_there (ap (λ d. sim.named s.chassis d) (sym home) ∙ none) ((h.held x.home).1 known) in
+      let absent : ¬ Among x.home m.chassis = λ known. none_there (ap (λ d. sim.at_name s.chassis d) (sym home) ∙ none) ((h.held x.home).1 known) in
       let gone = gone_chassis m x (no_chassis m x.home absent) in
       arrives_so keep x c.waits w.packet w.whole w.frame_is [] (effect.Lost ∷ [])
       (subst (λ b. AllZip (IsNumbered m.keys) (cond b (is_lost n ∷ []) (reached m x w.packet x.aim)) (effect.Lost ∷ [])) (sym gone) (IsNumbered.lost, tt))

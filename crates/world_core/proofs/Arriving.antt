@@ -46,7 +46,7 @@ use Rattle.world_core.specs.Stages.{Basis, IsDatapath, IsPort, EntryRow, HomeRow
 use Rattle.world_core.specs.State.{is_chassis}
 use Rattle.world_core.specs.Tables.{TableFlow}
 use Rattle.world_core.specs.Visit.{End, leaves, is_lost, has_birth, is_switch, is_port, misses, is_gone, is_same_port, reached, arrival}
-use Rattle.world_core.specs.WalkLaw.{entry_of}
+use Rattle.world_core.specs.WalkLaw.{tunnel_entry_of}
 use Rattle.world_core.proofs.ByTable.{at_0, at_33}
 use Rattle.world_core.proofs.Comes.{Setting, basis_of, copy_at, Comes, Matched, After, as_row, row_fits, comes_by, comes_row, comes_unmatched}
 use Rattle.world_core.proofs.Entering.{is_local}
@@ -100,7 +100,7 @@ module _ (s : Setting) (n : ℕ) (x : Crossing) (may : MayWait s.m x) (known : A
   out_key = aim_key s.m.keys x.aim
 
   abbrev entry : Entry
-  entry = entry_of s.m.keys x
+  entry = tunnel_entry_of s.m.keys x
 
   -- the registers after its header was read
   abbrev after : Regs

@@ -29,7 +29,7 @@ use Rattle.world_core.specs.Homes.{is_at, members, members_at, other_homes}
 use Rattle.world_core.specs.Packets.{IsSentFrom}
 use Rattle.world_core.specs.Sound.{HaveKeys, IsValid, HasAimKey, IsOnLive, IsAimOnLive}
 use Rattle.world_core.specs.State.{State}
-use Rattle.world_core.specs.Visit.{End, leaves, is_dropped, crosses, Goes, HasTarget, Origin, Target, one, group, none, Visit, crossing_to, sent_home, sent_to}
+use Rattle.world_core.specs.Visit.{End, leaves, is_dropped, crosses, Goes, HasTarget, SentFrom, Target, one, group, none, Visit, crossing_to, sent_home, sent_to}
 use Rattle.world_core.proofs.KeyLaws.{datapath_held, datapath_under, port_held}
 use Rattle.world_core.proofs.NamedEffects.{AreLostAs}
 
@@ -66,7 +66,7 @@ module _ (m : State) (have : HaveKeys m.net m.keys) where
 
 module _ (m : State) (valid : IsValid m.net) (have : HaveKeys m.net m.keys) (packet : Packet) (whole : IsWhole packet) (p : Name) (chassis : Name) (port : SwitchPort) (there' : at m.net.ports p ≡ Some port) (switch : Switch)
     (on : at m.net.switches port.switch ≡ Some switch) (home : at m.bindings p ≡ Some chassis) where
-  abbrev from : Origin
+  abbrev from : SentFrom
   from = record { chassis = chassis; switch = record { name = port.switch; birth = switch.birth }; port = record { name = p; birth = port.birth } }
 
   own_key : HasKeyOn m have from.switch from.port

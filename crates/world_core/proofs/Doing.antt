@@ -5,7 +5,7 @@ use Rattle.std.proofs.lemmas.Bool.{cases_Bool, false≢true}
 use Rattle.chassis_sim.specs.Changing.{given_name}
 use Rattle.chassis_sim.specs.Settings.{AreSet}
 use Rattle.chassis_sim.specs.State as sim
-use Rattle.chassis_sim.specs.State.{named, same_pair}
+use Rattle.chassis_sim.specs.State.{at_name, same_pair}
 use Rattle.edit_reader.specs.declared.event.Event.{Event}
 use Rattle.edit_reader.specs.declared.event.Event.TheVariants as event_of
 use Rattle.event_lines.specs.declared.refusal.Refusal.TheVariants as why
@@ -81,7 +81,7 @@ module _ (old done new : WorldView) (mid : State) (bound : List (Name × Option 
   held_then : AreHeld old.state old.zones done.sim
   held_then = subst (λ s. AreHeld old.state old.zones s) (sym sim_is) taken.held
 
-  pub then_taken : ((q : Name) → named new.sim.bindings q ≡ at mid.bindings q) → HaveOwnersNames mid.keys new.sim → IsTaken new
+  pub then_taken : ((q : Name) → at_name new.sim.bindings q ≡ at mid.bindings q) → HaveOwnersNames mid.keys new.sim → IsTaken new
   then_taken bindings called =
       let frames = frames_same old.state mid taken.consistent.born kept taken.consistent.keys.hold old.state.waiting taken.consistent.on_the_way.crossings.may in
       let state : done.state ≡ finished mid = ap (λ (v : WorldView). v.state) over in
@@ -111,8 +111,8 @@ module _ (old done new : WorldView) (mid : State) (names : List (ℕ × ℕ × N
   abbrev held : AreHeld m old.zones old.sim
   held = taken.held
 
-  bindings_then : mid.bindings ≡ m.bindings → (q : Name) → named new.sim.bindings q ≡ at mid.bindings q
-  bindings_then same q = made.bindings q ∙ ap (λ (v : WorldView). named v.sim.bindings q) over ∙ held.bindings q ∙ ap (λ l. at l q) (sym same)
+  bindings_then : mid.bindings ≡ m.bindings → (q : Name) → at_name new.sim.bindings q ≡ at mid.bindings q
+  bindings_then same q = made.bindings q ∙ ap (λ (v : WorldView). at_name v.sim.bindings q) over ∙ held.bindings q ∙ ap (λ l. at l q) (sym same)
 
   names_then : HaveOwnersNames m.keys done.sim
   names_then = subst (λ s. HaveOwnersNames m.keys s) (sym (ap (λ (v : WorldView). v.sim) over)) held.names
@@ -205,7 +205,7 @@ chassis_done old done new c taken now over same_zones made =
       counts = refl;
       zones = zones_then old done new mid [] [] taken now over made kept stay refl refl ∙ same_zones;
       now = then_taken old done new mid [] [] taken now over made kept stay refl refl
-          (λ q. made.bindings q ∙ ap (λ (v : WorldView). named v.sim.bindings q) over ∙ taken.held.bindings q)
+          (λ q. made.bindings q ∙ ap (λ (v : WorldView). at_name v.sim.bindings q) over ∙ taken.held.bindings q)
           (still_named old.state.keys done.sim new.sim made.names_are (subst (λ s. HaveOwnersNames old.state.keys s) (sym (ap (λ (v : WorldView). v.sim) over)) taken.held.names));
     }
 
@@ -228,12 +228,12 @@ binding_done old done new p c taken now over zones_are made =
           (still_named m.keys done.sim new.sim made.names_are (subst (λ s. HaveOwnersNames m.keys s) (sym (ap (λ (v : WorldView). v.sim) over)) taken.held.names));
     }
   where
-    bound_then : (m : State) → (q : Name) → named new.sim.bindings q ≡ at (put old.state.bindings p c) q
+    bound_then : (m : State) → (q : Name) → at_name new.sim.bindings q ≡ at (put old.state.bindings p c) q
     bound_then m q = elim (cases_Bool (same_name p q)) [
       | inl same ↦
           let is : p ≡ q = (bytes_decides p q).0 same in
-          made.bindings q ∙ ap (λ b. cond b (Some c) (named done.sim.bindings q)) same ∙ sym (ap (λ n. at (put old.state.bindings p c) n) (sym is) ∙ put_there old.state.bindings p c)
+          made.bindings q ∙ ap (λ b. cond b (Some c) (at_name done.sim.bindings q)) same ∙ sym (ap (λ n. at (put old.state.bindings p c) n) (sym is) ∙ put_there old.state.bindings p c)
       | inr other ↦
-          made.bindings q ∙ ap (λ b. cond b (Some c) (named done.sim.bindings q)) other ∙ ap (λ (v : WorldView). named v.sim.bindings q) over ∙ taken.held.bindings q
+          made.bindings q ∙ ap (λ b. cond b (Some c) (at_name done.sim.bindings q)) other ∙ ap (λ (v : WorldView). at_name v.sim.bindings q) over ∙ taken.held.bindings q
           ∙ sym (put_other old.state.bindings p c q (λ is. false≢true (sym other ∙ (bytes_decides p q).1 (sym is))))
     ]

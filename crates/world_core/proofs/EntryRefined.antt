@@ -60,7 +60,7 @@ module _ (law : EntryLaw) (m : State) (zones : List (Name × ℕ)) (more : ℕ) 
           entered g.packet g.whole g.frame_is chassis steps effects (law m zones chassis flows a.valid a.keys a.bound (h.flows chassis flows held) p home clock g.packet g.whole steps effects walk) told
       by (passing.IsInjected.nowhere chassis bound none told) =
           let home : at m.bindings p ≡ Some chassis = sym (h.bindings p) ∙ bound in
-          let there = some_of (sim.named s.chassis chassis) ((h.held chassis).1 (a.bound.chassis_there p chassis home)) in
+          let there = some_of (sim.at_name s.chassis chassis) ((h.held chassis).1 (a.bound.chassis_there p chassis home)) in
           absurd (none-some there.0 (sym none ∙ there.1))
 
 pub entry_refines : EntryLaw → EntryRefines

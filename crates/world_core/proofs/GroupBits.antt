@@ -6,7 +6,7 @@ use Rattle.std.proofs.lemmas.Bool.Decides.{Decides-eqb}
 use Rattle.std.proofs.lemmas.Nat.{and_block, and_mask}
 use Rattle.ovn_base.specs.addresses.EtherAddress.{is_multicast_mac}
 use Rattle.ovn_base.specs.declared.address.Mac.{Mac}
-use Rattle.inet_packet.specs.Fits.{Fits}
+use Rattle.inet_packet.specs.Fits.{BitsFit}
 use Rattle.world_core.specs.Rows.{of_a_group}
 
 -- the bit of a group stands above 40 others
@@ -21,12 +21,12 @@ group_bit m =
     let same : bit_and m.number (2 ^ 40) ≡ bit_and (high * 2 ^ 40 + low) (2 ^ 40) = ap (λ n. bit_and n (2 ^ 40)) parts in
     omega (arith, same, block, none, one)
 
-pub multicast_fits : (m : Mac) → is_multicast_mac m ≡ true → Fits of_a_group m.number
+pub multicast_fits : (m : Mac) → is_multicast_mac m ≡ true → BitsFit of_a_group m.number
 multicast_fits m is =
     let one : m.number / 2 ^ 40 % 2 ≡ 1 = (Decides-eqb (m.number / 2 ^ 40 % 2) 1).0 is in
     omega (arith, one, group_bit m)
 
-pub fits_multicast : (m : Mac) → Fits of_a_group m.number → is_multicast_mac m ≡ true
+pub fits_multicast : (m : Mac) → BitsFit of_a_group m.number → is_multicast_mac m ≡ true
 fits_multicast m fits =
     let is : bit_and m.number (2 ^ 40) ≡ 2 ^ 40 = fits in
     (Decides-eqb (m.number / 2 ^ 40 % 2) 1).1 (omega (arith, group_bit m, is))

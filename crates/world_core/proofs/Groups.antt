@@ -25,7 +25,7 @@ use Rattle.nb_records.specs.Network.{Network}
 use Rattle.nb_records.specs.declared.record.SwitchPort.{SwitchPort}
 use Rattle.tunnel_keys.specs.declared.owner.PortKey.{PortKey}
 use Rattle.world_core.specs.declared.crossing.Group.{Group}
-use Rattle.world_core.specs.Homes.{is_home, is_at, is_in, members, members_at}
+use Rattle.world_core.specs.Homes.{is_home, is_at, is_group_member, members, members_at}
 use Rattle.world_core.specs.Naming.{IsNumbered}
 use Rattle.world_core.specs.Stages.{Basis, IsPort, member_of}
 use Rattle.world_core.specs.Visit.{leaves}
@@ -54,7 +54,7 @@ pub record IsOfGroup (net : Network) (bindings : List (Name × Name)) (switch ch
 
 pub of_group : (net : Network) → IsByName net.ports → (bindings : List (Name × Name)) (switch : Name) (group : Group) (chassis q : Name) → Among q (members_at net bindings switch group chassis) → IsOfGroup net bindings switch chassis q
 of_group net sorted bindings switch group chassis q m =
-    let test : Name × SwitchPort → Bool = λ e. same_name e.1.switch switch && is_in group e.1 in
+    let test : Name × SwitchPort → Bool = λ e. same_name e.1.switch switch && is_group_member group e.1 in
     let one = filter_among (λ n. is_at bindings n chassis) q (members net switch group) m in
     let named = map_among (λ (e : Name × SwitchPort). e.0) q (filter test net.ports) one.0 in
     let kept = filter_among test named.0 net.ports named.1 in
@@ -62,7 +62,7 @@ of_group net sorted bindings switch group chassis q m =
     record {
       port = named.0.1;
       there = among_at q named.0.1 net.ports sorted entry;
-      on = (bytes_decides named.0.1.switch switch).0 (first_so (same_name named.0.1.switch switch) (is_in group named.0.1) kept.1);
+      on = (bytes_decides named.0.1.switch switch).0 (first_so (same_name named.0.1.switch switch) (is_group_member group named.0.1) kept.1);
       home = bound_to bindings q chassis one.1;
     }
 

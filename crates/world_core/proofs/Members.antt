@@ -27,7 +27,7 @@ use Rattle.tunnel_keys.specs.declared.owner.PortKey.{PortKey}
 use Rattle.tunnel_keys.proofs.Lists.{filter_sorted}
 use Rattle.world_core.specs.declared.crossing.Group.{Group}
 use Rattle.world_core.specs.declared.crossing.Group.TheVariants.{Flood, Unknown}
-use Rattle.world_core.specs.Homes.{is_home, is_at, is_in, members}
+use Rattle.world_core.specs.Homes.{is_home, is_at, is_group_member, members}
 use Rattle.world_core.specs.Numbers.{port_number}
 use Rattle.world_core.specs.Sound.{IsValid, HaveKeys}
 use Rattle.world_core.specs.Stages.{Basis, member_of, members_here, homes_of, has_unknown}
@@ -135,15 +135,15 @@ module _ (b : Basis) (valid : IsValid b.net) (keys : HaveKeys b.net b.keys) (a :
   -- ---- the members of a group
 
   module _ (group : Group) where
-    abbrev is_member : Name × SwitchPort → Bool
-    is_member e = same_name e.1.switch a && is_in group e.1
+    abbrev of_group : Name × SwitchPort → Bool
+    of_group e = same_name e.1.switch a && is_group_member group e.1
 
     member_found : (q : Name) → Among q (members b.net a group) → Among q (keys_of (group_among b group ports))
     member_found q m =
-        let r = map_among (λ (e : Name × SwitchPort). e.0) q (filter is_member b.net.ports) m in
-        let f = filter_among is_member r.0 b.net.ports r.1 in
+        let r = map_among (λ (e : Name × SwitchPort). e.0) q (filter of_group b.net.ports) m in
+        let f = filter_among of_group r.0 b.net.ports r.1 in
         let found : at b.net.ports r.0.0 ≡ Some r.0.1 = among_at r.0.0 r.0.1 b.net.ports valid.ports_sorted f.0 in
-        let both = both_true (same_name r.0.1.switch a) (is_in group r.0.1) f.1 in
+        let both = both_true (same_name r.0.1.switch a) (is_group_member group r.0.1) f.1 in
         let own = keys.port_has r.0.0 r.0.1 found in
         let on = on_ports r.0.0 own.0 own.1 (own.3 ∙ (bytes_decides r.0.1.switch a).0 both.0) in
         let kept = among_filter (λ (e : Name × ℕ). is_record_in group (at b.net.ports e.0)) (r.0.0, own.0.key) ports on (ap (λ o. is_record_in group o) found ∙ both.1) in
@@ -154,13 +154,13 @@ module _ (b : Basis) (valid : IsValid b.net) (keys : HaveKeys b.net b.keys) (a :
         let r = map_among (λ (e : Name × ℕ). e.0) q (group_among b group ports) m in
         let f = filter_among (λ (e : Name × ℕ). is_record_in group (at b.net.ports e.0)) r.0 ports r.1 in
         let port = record_on r.0 f.0 in
-        let both = true_both (same_name port.0.switch a) (is_in group port.0) ((bytes_decides port.0.switch a).1 port.2) (ap (λ o. is_record_in group o) (sym port.1) ∙ f.1) in
-        let kept = among_filter is_member (r.0.0, port.0) b.net.ports (at_among b.net.ports r.0.0 port.0 port.1) both in
-        subst (λ n. Among n (members b.net a group)) (sym r.2) (among_map (λ (e : Name × SwitchPort). e.0) (r.0.0, port.0) (filter is_member b.net.ports) kept)
+        let both = true_both (same_name port.0.switch a) (is_group_member group port.0) ((bytes_decides port.0.switch a).1 port.2) (ap (λ o. is_record_in group o) (sym port.1) ∙ f.1) in
+        let kept = among_filter of_group (r.0.0, port.0) b.net.ports (at_among b.net.ports r.0.0 port.0 port.1) both in
+        subst (λ n. Among n (members b.net a group)) (sym r.2) (among_map (λ (e : Name × SwitchPort). e.0) (r.0.0, port.0) (filter of_group b.net.ports) kept)
 
     pub members_are : members b.net a group ≡ keys_of (group_among b group ports)
     members_are =
-        one_order (members b.net a group) (keys_of (group_among b group ports)) (filter_sorted is_member b.net.ports valid.ports_sorted)
+        one_order (members b.net a group) (keys_of (group_among b group ports)) (filter_sorted of_group b.net.ports valid.ports_sorted)
         (filter_sorted (λ e. is_record_in group (at b.net.ports e.0)) ports ports_sorted) member_found found_member
 
     -- as the flows of a chassis know them

@@ -25,7 +25,7 @@ use Rattle.chassis_sim.specs.Frames.{Carries}
 use Rattle.chassis_sim.specs.InNames.{all_in_names, frames_sent, next_after_all}
 use Rattle.chassis_sim.specs.Passing.{IsArrived, IsInjected, IsTold, arrived, with_frames}
 use Rattle.chassis_sim.specs.State as sim
-use Rattle.chassis_sim.specs.State.{named, numbered, KeyPair}
+use Rattle.chassis_sim.specs.State.{at_name, numbered, KeyPair}
 use Rattle.chassis_sim.specs.declared.out.SimOut.{SimOut}
 use Rattle.chassis_sim.specs.declared.underlay.WaitingFrame.{WaitingFrame}
 use Rattle.edit_reader.specs.declared.event.Event.{Event}
@@ -44,10 +44,10 @@ HaveOneWalk flows more =
 
 -- both hold the same chassis, bindings and waiting frames, and flows that give one walk
 record AreAlike (a b : sim.SimState) : Type 0 where
-  bindings : (q : Name) → named a.bindings q ≡ named b.bindings q
-  held : (c : Name) → IsSome (named a.chassis c) → IsSome (named b.chassis c)
-  held_too : (c : Name) → IsSome (named b.chassis c) → IsSome (named a.chassis c)
-  walks : (c : Name) (flows more : List Flow) → named a.chassis c ≡ Some flows → named b.chassis c ≡ Some more → HaveOneWalk flows more
+  bindings : (q : Name) → at_name a.bindings q ≡ at_name b.bindings q
+  held : (c : Name) → IsSome (at_name a.chassis c) → IsSome (at_name b.chassis c)
+  held_too : (c : Name) → IsSome (at_name b.chassis c) → IsSome (at_name a.chassis c)
+  walks : (c : Name) (flows more : List Flow) → at_name a.chassis c ≡ Some flows → at_name b.chassis c ≡ Some more → HaveOneWalk flows more
   waiting : a.waiting ≡ b.waiting
   next : a.next ≡ b.next
 
@@ -107,21 +107,21 @@ module _ (a b : sim.SimState) (alike : AreAlike a b) where
       subst (λ c. IsTold b c start steps effects then later other) (sym same)
       (subst (λ s. IsTold b home start s effects then later other) (sym walks.0) (subst (λ e. IsTold b home start others e then later other) (sym walks.1) k))
 
-  both_held : (c d : Name) (flows : List Flow) → c ≡ d → named a.chassis c ≡ Some flows → named b.chassis d ≢ None
+  both_held : (c d : Name) (flows : List Flow) → c ≡ d → at_name a.chassis c ≡ Some flows → at_name b.chassis d ≢ None
   both_held c d flows same is none =
-      let s = some_of (named b.chassis c) (alike.held c (is_some_of (named a.chassis c) flows is)) in
-      none-some s.0 (sym none ∙ ap (λ n. named b.chassis n) (sym same) ∙ s.1)
+      let s = some_of (at_name b.chassis c) (alike.held c (is_some_of (at_name a.chassis c) flows is)) in
+      none-some s.0 (sym none ∙ ap (λ n. at_name b.chassis n) (sym same) ∙ s.1)
 
-  both_held_too : (c d : Name) (flows : List Flow) → c ≡ d → named b.chassis d ≡ Some flows → named a.chassis c ≢ None
+  both_held_too : (c d : Name) (flows : List Flow) → c ≡ d → at_name b.chassis d ≡ Some flows → at_name a.chassis c ≢ None
   both_held_too c d flows same is none =
-      let s = some_of (named a.chassis d) (alike.held_too d (is_some_of (named b.chassis d) flows is)) in
-      none-some s.0 (sym none ∙ ap (λ n. named a.chassis n) same ∙ s.1)
+      let s = some_of (at_name a.chassis d) (alike.held_too d (is_some_of (at_name b.chassis d) flows is)) in
+      none-some s.0 (sym none ∙ ap (λ n. at_name a.chassis n) same ∙ s.1)
 
   injected_alike : (p : Name) (packet : inet.Packet) (before then after later : SimOut) (new other : sim.SimState) → before.walks ≡ then.walks
       → IsInjected a p clock packet before after new → IsInjected b p clock packet then later other → Same after later new other
   injected_alike p packet before then after later new other walks (IsInjected.through c flows steps effects home held walked told) (IsInjected.through d more others last there kept again said) =
       let same : c ≡ d = same_Some c d (sym home ∙ alike.bindings p ∙ there) in
-      let one = alike.walks c flows more held (ap (λ n. named b.chassis n) same ∙ kept) (Vif p) clock packet steps others effects last walked again in
+      let one = alike.walks c flows more held (ap (λ n. at_name b.chassis n) same ∙ kept) (Vif p) clock packet steps others effects last walked again in
       told_alike c (start_at.Port p) steps effects before then after later new other walks told (told_as c d (start_at.Port p) steps others effects last then later other same one said)
   injected_alike p packet before then after later new other walks (IsInjected.through c flows steps effects home held walked told) (IsInjected.nowhere d there none said) =
       absurd (both_held c d flows (same_Some c d (sym home ∙ alike.bindings p ∙ there)) held none)
@@ -170,7 +170,7 @@ module _ (a b : sim.SimState) (alike : AreAlike a b) (n : ℕ) (keep : Bool) whe
       let same = one_carried g.bytes v i o packet w j p own (subst (λ (x : WaitingFrame). Carries x.bytes v i o packet) frame carried) carries in
       let entry : Tunnel v i o ≡ Tunnel w j p = λ t. Tunnel (same.vnis t) (same.in_keys t) (same.out_keys t) in
       let moved : IsWalkOf flows (Tunnel w j p) clock own steps effects = subst (λ x. IsWalkOf flows (Tunnel w j p) clock x steps effects) same.packets (subst (λ e. IsWalkOf flows e clock packet steps effects) entry walked) in
-      let one = alike.walks f.to flows more held (ap (λ c. named b.chassis c) to ∙ kept) (Tunnel w j p) clock own steps others effects last moved again in
+      let one = alike.walks f.to flows more held (ap (λ c. at_name b.chassis c) to ∙ kept) (Tunnel w j p) clock own steps others effects last moved again in
       told_alike (arrived a n keep) (arrived b n keep) (arrived_still a b alike n keep) f.to (start_at.Frame n) steps effects before then after later new other walks told
       (told_as (arrived a n keep) (arrived b n keep) (arrived_still a b alike n keep) f.to g.to (start_at.Frame n) steps others effects last then later other to one said)
   arrives_alike before then after later new other walks (IsArrived.through f flows v i o packet steps effects waits held carried walked told) (IsArrived.gone g waits_too none said) =

@@ -37,7 +37,7 @@ use Rattle.world_core.specs.Picks.{Fate, was_refused, was_accepted, Happens, Run
 use Rattle.world_core.specs.Refusing.{refusal, refusal_of_record}
 use Rattle.world_core.specs.Sound.{IsValid}
 use Rattle.world_core.specs.State.{State, event_count, finished}
-use Rattle.world_core.specs.Step.{Step, Does, most_arrivals}
+use Rattle.world_core.specs.Step.{NetworkStep, Does, most_arrivals}
 use Rattle.world_core.specs.Unbuilt.{is_unbuilt_port}
 use Rattle.world_core.proofs.Kept.{switch_valid, port_valid}
 use Rattle.world_core.proofs.Refusals.{is_built, is_new}
@@ -223,13 +223,13 @@ does_with m (Unread fault) effects others after later left more valid h k e = ab
 does_with m NotBuilt effects others after later left more valid h k e = absurd h
 
 -- so an event does
-pub step_with : (m : State) (event : Event) (effects others : List NetEffect) (after later : State) (left more : List Pick) → IsValid m.net → Step m event effects after → Step m event others later
+pub step_with : (m : State) (event : Event) (effects others : List NetEffect) (after later : State) (left more : List Pick) → IsValid m.net → NetworkStep m event effects after → NetworkStep m event others later
     → picks_of effects ++ left ≡ picks_of others ++ more → Same effects others after later left more
 step_with m event effects others after later left more valid h k e =
     let d = does_with m event effects others h.mid k.mid left more valid h.does k.does e in
     record { effects_are = d.effects_are; state = h.state ∙ ap finished d.state ∙ sym k.state; rest = d.rest }
 
-pub same_step : (m : State) (event : Event) (effects others : List NetEffect) (after later : State) → IsValid m.net → Step m event effects after → Step m event others later → picks_of effects ≡ picks_of others
+pub same_step : (m : State) (event : Event) (effects others : List NetEffect) (after later : State) → IsValid m.net → NetworkStep m event effects after → NetworkStep m event others later → picks_of effects ≡ picks_of others
     → (effects ≡ others) × (after ≡ later)
 same_step m event effects others after later valid h k e = let s = step_with m event effects others after later [] [] valid h k (ap (λ ps. ps ++ []) e) in (s.effects_are, s.state)
 
@@ -269,7 +269,7 @@ does_valid m (Packet p frame) effects after valid admitted allowed h =
 does_valid m (Unread fault) effects after valid admitted allowed h = absurd h
 does_valid m NotBuilt effects after valid admitted allowed h = absurd h
 
-pub step_valid : (m : State) (event : Event) (effects : List NetEffect) (after : State) → IsValid m.net → IsAdmitted event → refusal m event ≡ None → Step m event effects after → IsValid after.net
+pub step_valid : (m : State) (event : Event) (effects : List NetEffect) (after : State) → IsValid m.net → IsAdmitted event → refusal m event ≡ None → NetworkStep m event effects after → IsValid after.net
 step_valid m event effects after valid admitted allowed h = subst (λ (s : State). IsValid s.net) (sym h.state) (does_valid m event effects h.mid valid admitted allowed h.does)
 
 -- ---- runs

@@ -19,7 +19,7 @@ use Rattle.world_core.specs.Effects.{effects_of}
 use Rattle.world_core.specs.Sound.{IsValid}
 use Rattle.world_core.specs.State.{State}
 use Rattle.world_core.specs.Step.{Enters, Arrives, Drains, sent_on, with_kept}
-use Rattle.world_core.specs.Visit.{End, leaves, is_dropped, crosses, is_lost, Origin, Goes, HasTarget, Target, one, Visit, sent_to, arrival}
+use Rattle.world_core.specs.Visit.{End, leaves, is_dropped, crosses, is_lost, SentFrom, Goes, HasTarget, Target, one, Visit, sent_to, arrival}
 
 -- the same effects, and the same state
 pub record AreOne (effects others : List NetEffect) (after later : State) : Type 0 where
@@ -49,7 +49,7 @@ one_target net valid switch mac _ _ (HasTarget.nobody single none empty) (HasTar
 one_target net valid switch mac _ _ (HasTarget.nobody single none empty) (HasTarget.unknown_to also never some) = absurd (some empty)
 one_target net valid switch mac _ _ (HasTarget.nobody single none empty) (HasTarget.nobody also never void) = refl
 
-one_goes : (m : State) → IsValid m.net → (from : Origin) (packet : inet.Packet) (ends others : List End) → Goes m from packet ends → Goes m from packet others → ends ≡ others
+one_goes : (m : State) → IsValid m.net → (from : SentFrom) (packet : inet.Packet) (ends others : List End) → Goes m from packet ends → Goes m from packet others → ends ≡ others
 one_goes m valid from packet ends others (Goes.bad_source g e) (Goes.bad_source h f) = e ∙ sym f
 one_goes m valid from packet ends others (Goes.bad_source g e) (Goes.tagged single h f) = absurd (false≢true (sym single ∙ g))
 one_goes m valid from packet ends others (Goes.bad_source g e) (Goes.sent single h target has f) = absurd (false≢true (sym single ∙ g))
@@ -66,9 +66,9 @@ one_visit m valid p packet chassis home ends others v w =
     let port : v.port ≡ w.port = same_Some v.port w.port (sym v.there ∙ w.there) in
     let switch : v.switch ≡ w.switch = same_Some v.switch w.switch (sym v.on ∙ ap (λ (q : SwitchPort). at m.net.switches q.switch) port ∙ w.on) in
     let same : chassis ≡ home = same_Some chassis home (sym v.home ∙ w.home) in
-    let from : Origin = record { chassis = home; switch = record { name = w.port.switch; birth = w.switch.birth }; port = record { name = p; birth = w.port.birth } } in
+    let from : SentFrom = record { chassis = home; switch = record { name = w.port.switch; birth = w.switch.birth }; port = record { name = p; birth = w.port.birth } } in
     let goes : Goes m from packet ends =
-    subst (λ (o : Origin). Goes m o packet ends)
+    subst (λ (o : SentFrom). Goes m o packet ends)
     (λ i. record { chassis = same i; switch = record { name = (port i).switch; birth = (switch i).birth }; port = record { name = p; birth = (port i).birth } })
     v.goes in
     (same, one_goes m valid from packet ends others goes w.goes)

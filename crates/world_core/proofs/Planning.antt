@@ -7,7 +7,7 @@ use Rattle.ovn_base.specs.declared.address.Birth.{Birth}
 use Rattle.ovn_base.specs.declared.name.Name.{Name}
 use Rattle.ovn_base.specs.names.ByName.{at}
 use Rattle.tunnel_keys.specs.Causes.{HasKeys}
-use Rattle.tunnel_keys.specs.Edits.{IsEdit}
+use Rattle.tunnel_keys.specs.Edits.{IsKeyEdit}
 use Rattle.tunnel_keys.specs.Keys.{free_datapath_keys, free_port_keys, taken_datapaths, taken_ports}
 use Rattle.tunnel_keys.specs.Owners.{ports_in}
 use Rattle.tunnel_keys.specs.declared.owner.DatapathKey.{DatapathKey}
@@ -36,10 +36,10 @@ module _ (m : State) (have : HaveKeys m.net m.keys) (born : AreBorn m) where
 
   -- ---- the edit fits
 
-  pub switch_fits : (name : Name) → at m.net.switches name ≡ None → IsEdit m.keys (Datapath name next ∷ []) []
+  pub switch_fits : (name : Name) → at m.net.switches name ≡ None → IsKeyEdit m.keys (Datapath name next ∷ []) []
   switch_fits name absent = datapath_fits m.keys have.hold name next (datapath_new m.keys (event_count m) born.keys next (omega arith) name) (datapath_bare m.keys (event_count m) born.keys next (omega arith) name) (no_datapath_key m.net m.keys have name absent)
 
-  pub port_fits : (switch name : Name) → IsSome (at m.net.switches switch) → at m.net.ports name ≡ None → IsEdit m.keys (Port switch name next ∷ []) []
+  pub port_fits : (switch name : Name) → IsSome (at m.net.switches switch) → at m.net.ports name ≡ None → IsKeyEdit m.keys (Port switch name next ∷ []) []
   port_fits switch name there absent =
       let record' = some_of (at m.net.switches switch) there in
       let own = have.datapath_has switch record'.0 record'.1 in

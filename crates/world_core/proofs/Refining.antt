@@ -83,15 +83,15 @@ module _ (k : State) (zones : List (Name × ℕ)) (z new : sim.SimState) (h : Ar
   new_next : new.next ≡ (sent_on k ends).next
   new_next = ap (λ (s : sim.SimState). s.next) told.state ∙ next_named k.keys z h.names chassis from z.next ends effects numbers ∙ ap (λ n. n + length (crossings_in ends)) h.next
 
-  flows_then : (c : Name) (flows : List Flow) → sim.named z.chassis c ≡ Some flows → AreFlowsOf (sent_on k ends) zones c flows
+  flows_then : (c : Name) (flows : List Flow) → sim.at_name z.chassis c ≡ Some flows → AreFlowsOf (sent_on k ends) zones c flows
   flows_then c flows is = h.flows c flows is
 
   pub told_held : AreHeld (sent_on k ends) zones new
   told_held = record {
-    bindings = λ q. ap (λ (s : sim.SimState). sim.named s.bindings q) told.state ∙ h.bindings q;
+    bindings = λ q. ap (λ (s : sim.SimState). sim.at_name s.bindings q) told.state ∙ h.bindings q;
     names = subst (λ (s : sim.SimState). HaveOwnersNames k.keys s) (sym told.state) (record { datapaths = h.names.datapaths; ports = h.names.ports });
-    held = λ c. subst (λ (s : sim.SimState). IsSome (sim.named s.chassis c) ↔ Among c k.chassis) (sym told.state) (h.held c);
-    flows = λ c flows is. flows_then c flows (sym (ap (λ (s : sim.SimState). sim.named s.chassis c) told.state) ∙ is);
+    held = λ c. subst (λ (s : sim.SimState). IsSome (sim.at_name s.chassis c) ↔ Among c k.chassis) (sym told.state) (h.held c);
+    flows = λ c flows is. flows_then c flows (sym (ap (λ (s : sim.SimState). sim.at_name s.chassis c) told.state) ∙ is);
     waiting = new_waiting;
     next = new_next;
   }

@@ -8,7 +8,7 @@ use Rattle.std.proofs.lemmas.Option.{same_Some}
 use Rattle.chassis_sim.specs.Changing.{AreReplaced, come, coming_and_going, gone, IsApplied}
 use Rattle.chassis_sim.specs.Settings.{set_in_turn}
 use Rattle.chassis_sim.specs.State as sim
-use Rattle.chassis_sim.specs.State.{named, same_pair}
+use Rattle.chassis_sim.specs.State.{at_name, same_pair}
 use Rattle.chassis_sim.specs.declared.change.SimChange.{SimChange}
 use Rattle.flow_table.specs.declared.flow.Flow.{Flow}
 use Rattle.switch_engine.specs.Proper.{IsProper}
@@ -61,34 +61,34 @@ module _ {T : Type 0} (flows_of : T → List Flow) where
 
   module _ (m : State) (zones : List (Name × ℕ)) (old new : sim.SimState) (change : SimChange T) (added : keys_of change.added ≡ m.chassis)
       (all : AllByRecursion (λ e. AreFlowsOf m zones e.0 (flows_of e.1)) change.added) (none_go : change.removed ≡ []) (none_change : change.tables ≡ []) (made : IsApplied flows_of old change new) where
-    flows_then : (c : Name) → named new.chassis c ≡ then' change.added c (named old.chassis c)
+    flows_then : (c : Name) → at_name new.chassis c ≡ then' change.added c (at_name old.chassis c)
     flows_then c =
         let is = made.chassis c in
-        let before : is.0 ≡ named old.chassis c = unchanged c is.0 none_change is.1 in
+        let before : is.0 ≡ at_name old.chassis c = unchanged c is.0 none_change is.1 in
         is.2 ∙ (λ i. set_in_turn same_name (goes i) c (before i))
       where
-        unchanged : (c : Name) (between : Option (List Flow)) → change.tables ≡ [] → AreReplaced (named change.tables c) (named old.chassis c) between → between ≡ named old.chassis c
-        unchanged c between none is = subst (λ l. AreReplaced (named l c) (named old.chassis c) between) none is
+        unchanged : (c : Name) (between : Option (List Flow)) → change.tables ≡ [] → AreReplaced (at_name change.tables c) (at_name old.chassis c) between → between ≡ at_name old.chassis c
+        unchanged c between none is = subst (λ l. AreReplaced (at_name l c) (at_name old.chassis c) between) none is
 
         goes : coming_and_going flows_of change ≡ map (come flows_of) change.added
         goes = ap (λ l. map gone l ++ map (come flows_of) change.added) none_go
 
-    pub all_held : (c : Name) → Among c m.chassis → IsSome (named new.chassis c)
-    all_held c among = elim (come_or_not change.added c (named old.chassis c)) [
-      | inl r ↦ is_some_of (named new.chassis c) (flows_of r.entry.1) (flows_then c ∙ r.flows_are)
+    pub all_held : (c : Name) → Among c m.chassis → IsSome (at_name new.chassis c)
+    all_held c among = elim (come_or_not change.added c (at_name old.chassis c)) [
+      | inl r ↦ is_some_of (at_name new.chassis c) (flows_of r.entry.1) (flows_then c ∙ r.flows_are)
       | inr r ↦ absurd (r.0 (subst (λ l. Among c l) (sym added) among))
     ]
 
-    pub all_flows : (c : Name) (flows : List Flow) → Among c m.chassis → named new.chassis c ≡ Some flows → AreFlowsOf m zones c flows
-    all_flows c flows among is = elim (come_or_not change.added c (named old.chassis c)) [
+    pub all_flows : (c : Name) (flows : List Flow) → Among c m.chassis → at_name new.chassis c ≡ Some flows → AreFlowsOf m zones c flows
+    all_flows c flows among is = elim (come_or_not change.added c (at_name old.chassis c)) [
       | inl r ↦
           let same : flows_of r.entry.1 ≡ flows = same_Some (flows_of r.entry.1) flows (sym (flows_then c ∙ r.flows_are) ∙ is) in
           subst (λ d. AreFlowsOf m zones d flows) r.own (subst (λ fs. AreFlowsOf m zones r.entry.0 fs) same (among_all (λ e. AreFlowsOf m zones e.0 (flows_of e.1)) r.entry change.added all r.among))
       | inr r ↦ absurd (r.0 (subst (λ l. Among c l) (sym added) among))
     ]
 
-    pub others_stay : (c : Name) → ¬ Among c m.chassis → named new.chassis c ≡ named old.chassis c
-    others_stay c apart = elim (come_or_not change.added c (named old.chassis c)) [
+    pub others_stay : (c : Name) → ¬ Among c m.chassis → at_name new.chassis c ≡ at_name old.chassis c
+    others_stay c apart = elim (come_or_not change.added c (at_name old.chassis c)) [
       | inl r ↦ absurd (apart (subst (λ l. Among c l) added (subst (λ d. Among d (keys_of change.added)) r.own (key_among change.added r.entry r.among))))
       | inr r ↦ flows_then c ∙ r.1
     ]
@@ -120,12 +120,12 @@ settled_names (w ∷ ws) keys s names = names
 -- bindings and names are those of the state, no chassis went, the frames are spelled as before, and all tables were made anew
 pub held_again : (m mid : State) (zones : List (Name × ℕ)) (bound : List (Name × Option Name)) (names : List (ℕ × ℕ × Name)) (between new : WorldView) → AreHeld m zones between.sim → between.state ≡ finished mid
     → IsRecompiled bound names between new → ((c : Name) → Among c m.chassis → Among c mid.chassis) → mid.waiting ≡ m.waiting → mid.next ≡ m.next → map (frame_of_crossing mid.keys) m.waiting ≡ map (frame_of_crossing m.keys) m.waiting
-    → ((q : Name) → named new.sim.bindings q ≡ at mid.bindings q) → HaveOwnersNames mid.keys new.sim → AreHeld (finished mid) between.zones new.sim
+    → ((q : Name) → at_name new.sim.bindings q ≡ at mid.bindings q) → HaveOwnersNames mid.keys new.sim → AreHeld (finished mid) between.zones new.sim
 held_again m mid zones bound names between new held is made stay waiting next frames bindings called = record {
   bindings = bindings;
   names = settled_names mid.waiting mid.keys new.sim called;
   held = λ c. (forward c, backward c);
-  flows = λ c flows has. subst (λ w. AreFlowsOf w between.zones c flows) state_is (subst (λ (v : WorldView). AreFlowsOf v.state v.zones c flows) made.kept (made.flows c flows (inside c (forward c (is_some_of (named new.sim.chassis c) flows has))) has));
+  flows = λ c flows has. subst (λ w. AreFlowsOf w between.zones c flows) state_is (subst (λ (v : WorldView). AreFlowsOf v.state v.zones c flows) made.kept (made.flows c flows (inside c (forward c (is_some_of (at_name new.sim.chassis c) flows has))) has));
   waiting =
       made.waiting ∙ held.waiting ∙ sym frames ∙ ap (λ ws. map (frame_of_crossing mid.keys) ws) (sym waiting)
       ∙ settled_frames mid.waiting mid.keys;
@@ -141,10 +141,10 @@ held_again m mid zones bound names between new held is made stay waiting next fr
     inside : (c : Name) → Among c mid.chassis → Among c new.state.chassis
     inside c among = subst (λ l. Among c l) (sym chassis_are) among
 
-    backward : (c : Name) → Among c mid.chassis → IsSome (named new.sim.chassis c)
+    backward : (c : Name) → Among c mid.chassis → IsSome (at_name new.sim.chassis c)
     backward c among = made.held c (inside c among)
 
-    forward : (c : Name) → IsSome (named new.sim.chassis c) → Among c mid.chassis
+    forward : (c : Name) → IsSome (at_name new.sim.chassis c) → Among c mid.chassis
     forward c has = elim (among_or_not c mid.chassis) [
       | inl among ↦ among
       | inr apart ↦ stay c ((held.held c).0 (subst (λ o. IsSome o) (made.others c (λ among. apart (subst (λ l. Among c l) chassis_are among))) has))

@@ -13,7 +13,7 @@ use Rattle.inet_packet.specs.declared.regs.At.{At}
 use Rattle.inet_packet.specs.declared.regs.At.TheVariants.{Local, Tunnel}
 use Rattle.inet_packet.specs.declared.regs.Regs.{Regs}
 use Rattle.inet_packet.specs.Fields.{ether_type}
-use Rattle.inet_packet.specs.Fits.{Fits, EntryFits, CubeFits}
+use Rattle.inet_packet.specs.Fits.{BitsFit, EntryFits, CubeFits}
 use Rattle.world_core.specs.Crossing.{group_key}
 use Rattle.world_core.specs.declared.crossing.Group.{Group}
 use Rattle.inet_packet.specs.Cubes.{any, exactly, everything}
@@ -21,13 +21,13 @@ use Rattle.world_core.specs.Rows.{of_a_group, arrived_is, on_entry, on_tunnel, o
 
 -- ---- one field
 
-pub any_fits : (n : ℕ) → Fits any n
+pub any_fits : (n : ℕ) → BitsFit any n
 any_fits n = and_zero_r n
 
-pub exactly_fits : (width n m : ℕ) → n < 2 ^ width → m ≡ n → Fits (exactly width n) m
+pub exactly_fits : (width n m : ℕ) → n < 2 ^ width → m ≡ n → BitsFit (exactly width n) m
 exactly_fits width n m small same = ap (λ k. bit_and k (2 ^ width - 1)) same ∙ and_all n width small
 
-pub exactly_is : (width n m : ℕ) → m < 2 ^ width → Fits (exactly width n) m → m ≡ n
+pub exactly_is : (width n m : ℕ) → m < 2 ^ width → BitsFit (exactly width n) m → m ≡ n
 exactly_is width n m small fits = sym (and_all m width small) ∙ fits
 
 -- ---- the cubes of rows
@@ -38,8 +38,8 @@ asking entry datapath from to word source address kind =
     record everything { at = entry; dp = datapath; in_port = from; out_port = to; flags = word; eth_src = source; eth_dst = address; eth_type = kind }
 
 module _ (regs : Regs) (packet : Packet) where
-  asking_fits : (entry : Option At) (datapath from to word source address kind : Bits) → EntryFits entry regs.at → Fits datapath regs.dp → Fits from regs.in_port → Fits to regs.out_port → Fits word regs.flags.0
-      → Fits source (mac_number packet.src) → Fits address (mac_number packet.dst) → Fits kind (ether_type packet.body) → CubeFits (asking entry datapath from to word source address kind) regs packet
+  asking_fits : (entry : Option At) (datapath from to word source address kind : Bits) → EntryFits entry regs.at → BitsFit datapath regs.dp → BitsFit from regs.in_port → BitsFit to regs.out_port → BitsFit word regs.flags.0
+      → BitsFit source (mac_number packet.src) → BitsFit address (mac_number packet.dst) → BitsFit kind (ether_type packet.body) → CubeFits (asking entry datapath from to word source address kind) regs packet
   asking_fits entry datapath from to word source address kind e d f t w s a k = record {
     entry = e;
     place = record { dp_fits = d; in_port_fits = f; out_port_fits = t; next_fits = any_fits _ };
@@ -52,22 +52,22 @@ module _ (regs : Regs) (packet : Packet) where
     arp = record { arp_op_fits = any_fits _; arp_spa_fits = any_fits _; arp_tpa_fits = any_fits _; arp_sha_fits = any_fits _; arp_tha_fits = any_fits _ };
   }
 
-  any_from : Fits any regs.in_port
+  any_from : BitsFit any regs.in_port
   any_from = any_fits regs.in_port
 
-  any_to : Fits any regs.out_port
+  any_to : BitsFit any regs.out_port
   any_to = any_fits regs.out_port
 
-  any_word : Fits any regs.flags.0
+  any_word : BitsFit any regs.flags.0
   any_word = any_fits regs.flags.0
 
-  any_source : Fits any (mac_number packet.src)
+  any_source : BitsFit any (mac_number packet.src)
   any_source = any_fits (mac_number packet.src)
 
-  any_address : Fits any (mac_number packet.dst)
+  any_address : BitsFit any (mac_number packet.dst)
   any_address = any_fits (mac_number packet.dst)
 
-  any_kind : Fits any (ether_type packet.body)
+  any_kind : BitsFit any (ether_type packet.body)
   any_kind = any_fits (ether_type packet.body)
 
   pub everything_fits : CubeFits everything regs packet
@@ -81,7 +81,7 @@ module _ (regs : Regs) (packet : Packet) where
 
   -- those of one datapath
   module _ (dp : ℕ) (small : dp < 2 ^ 24) (on : regs.dp ≡ dp) where
-    on_fits : Fits (exactly 24 dp) regs.dp
+    on_fits : BitsFit (exactly 24 dp) regs.dp
     on_fits = exactly_fits 24 dp regs.dp small on
 
     pub datapath_fits : CubeFits (on_datapath dp) regs packet
@@ -92,10 +92,10 @@ module _ (regs : Regs) (packet : Packet) where
         asking_fits None (exactly 24 dp) any any any any (exactly 48 (mac_number mac)) any tt on_fits any_from any_to any_word any_source
         (exactly_fits 48 (mac_number mac) (mac_number packet.dst) mac.below (ap (λ m. mac_number m) to)) any_kind
 
-    pub from_group_fits : Fits of_a_group (mac_number packet.src) → CubeFits (from_a_group dp) regs packet
+    pub from_group_fits : BitsFit of_a_group (mac_number packet.src) → CubeFits (from_a_group dp) regs packet
     from_group_fits s = asking_fits None (exactly 24 dp) any any any of_a_group any any tt on_fits any_from any_to any_word s any_address any_kind
 
-    pub to_group_fits : Fits of_a_group (mac_number packet.dst) → CubeFits (to_a_group dp) regs packet
+    pub to_group_fits : BitsFit of_a_group (mac_number packet.dst) → CubeFits (to_a_group dp) regs packet
     to_group_fits a = asking_fits None (exactly 24 dp) any any any any of_a_group any tt on_fits any_from any_to any_word any_source a any_kind
 
     pub tag_fits : ether_type packet.body ≡ 0x8100 → CubeFits (with_tag dp) regs packet
@@ -105,7 +105,7 @@ module _ (regs : Regs) (packet : Packet) where
 
     -- and of one exit
     module _ (key : ℕ) (short : key < 2 ^ 16) (aimed : regs.out_port ≡ key) where
-      to_fits : Fits (exactly 16 key) regs.out_port
+      to_fits : BitsFit (exactly 16 key) regs.out_port
       to_fits = exactly_fits 16 key regs.out_port short aimed
 
       pub exit_fits : CubeFits (on_exit dp key) regs packet
@@ -137,10 +137,10 @@ module _ (regs : Regs) (packet : Packet) where
   pub fits_datapath : (dp : ℕ) → regs.dp < 2 ^ 24 → CubeFits (on_datapath dp) regs packet → regs.dp ≡ dp
   fits_datapath dp small fits = exactly_is 24 dp regs.dp small fits.place.dp_fits
 
-  pub fits_from_group : (dp : ℕ) → regs.dp < 2 ^ 24 → CubeFits (from_a_group dp) regs packet → (regs.dp ≡ dp) × Fits of_a_group (mac_number packet.src)
+  pub fits_from_group : (dp : ℕ) → regs.dp < 2 ^ 24 → CubeFits (from_a_group dp) regs packet → (regs.dp ≡ dp) × BitsFit of_a_group (mac_number packet.src)
   fits_from_group dp small fits = (exactly_is 24 dp regs.dp small fits.place.dp_fits, fits.ether.eth_src_fits)
 
-  pub fits_to_group : (dp : ℕ) → regs.dp < 2 ^ 24 → CubeFits (to_a_group dp) regs packet → (regs.dp ≡ dp) × Fits of_a_group (mac_number packet.dst)
+  pub fits_to_group : (dp : ℕ) → regs.dp < 2 ^ 24 → CubeFits (to_a_group dp) regs packet → (regs.dp ≡ dp) × BitsFit of_a_group (mac_number packet.dst)
   fits_to_group dp small fits = (exactly_is 24 dp regs.dp small fits.place.dp_fits, fits.ether.eth_dst_fits)
 
   pub fits_tag : (dp : ℕ) → regs.dp < 2 ^ 24 → ether_type packet.body < 2 ^ 16 → CubeFits (with_tag dp) regs packet → (regs.dp ≡ dp) × (ether_type packet.body ≡ 0x8100)

@@ -28,7 +28,7 @@ use Rattle.world_core.specs.declared.crossing.Group.{Group}
 use Rattle.world_core.specs.Homes.{members_at}
 use Rattle.world_core.specs.Naming.{IsNumbered, HasPortKey}
 use Rattle.world_core.specs.Stages.{Basis, IsDatapath, IsPort, IsHere, homes_of}
-use Rattle.world_core.specs.Visit.{End, leaves, is_dropped, crosses, Origin, crossing_to, sent_home, sent_to, group}
+use Rattle.world_core.specs.Visit.{End, leaves, is_dropped, crosses, SentFrom, crossing_to, sent_home, sent_to, group}
 use Rattle.world_core.proofs.Comes.{Setting, basis_of, copy_at, Comes, comes_by}
 use Rattle.world_core.proofs.Found.{some_of}
 use Rattle.world_core.proofs.Groups.{IsMember, of_group, copies_leave}
@@ -53,7 +53,7 @@ module _ (s : Setting) (p : Name) (ours : SwitchPort) (dp entered : ℕ) (from :
   b = basis_of s
 
   -- from where the packet is sent
-  abbrev pub origin : Origin
+  abbrev pub origin : SentFrom
   origin = record { chassis = s.chassis; switch = identity ours.switch from.on.switch.birth; port = identity p ours.birth }
 
   -- the effects are the ends, in numbers

@@ -8,7 +8,7 @@ use Rattle.inet_packet.specs.declared.packet.Packet.{Packet}
 use Rattle.inet_packet.specs.declared.regs.Regs.{Regs}
 use Rattle.flow_table.specs.declared.flow.Flow.{Flow}
 use Rattle.flow_table.specs.declared.flow.FlowOp.TheVariants.{Go, Frame}
-use Rattle.switch_engine.specs.Actions.{Outcome, outcome, going_on, with_effect, frame_to, gone_on}
+use Rattle.switch_engine.specs.Actions.{FlowOutcome, outcome, going_on, with_effect, frame_to, gone_on}
 use Rattle.switch_engine.specs.declared.carried.Carried.{Carried}
 use Rattle.switch_engine.specs.declared.effect.Effect.{Effect}
 use Rattle.switch_engine.specs.declared.effect.Effect.TheVariants as effect
@@ -28,7 +28,7 @@ use Rattle.world_core.proofs.RowFits.{everything_fits, exit_fits, group_fits, fi
 
 -- ---- what the row of a group does
 
-abbrev spread : Carried → List Name → Outcome
+abbrev spread : Carried → List Name → FlowOutcome
 spread copy homes = record { effects = map (λ home. frame_to home copy) homes; itself = gone_on 33 copy ∷ []; made = [] }
 
 spreads : (entry : Entry) (now : ℕ) (copy : Carried) (homes : List Name) → outcome entry now (map (λ home. Frame home) homes ++ Go 33 ∷ []) copy ≡ spread copy homes
@@ -109,7 +109,7 @@ module _ (s : Setting) (entry : Entry) (packet : Packet) (last : ℕ) (regs : Re
         where
           brings : (homes : List Name) → homes_of b a group ≡ homes → After s entry copy P (spread_row d also homes)
           brings homes are =
-              subst (λ (o : Outcome). Comes s.flows entry s.time (going_on o) (λ more. P (o.effects ++ more))) (sym (spreads entry s.time copy homes))
+              subst (λ (o : FlowOutcome). Comes s.flows entry s.time (going_on o) (λ more. P (o.effects ++ more))) (sym (spreads entry s.time copy homes))
               (subst (λ l. From s entry 32 33 regs packet (λ more. P (map (λ home. frame_to home copy) l ++ more))) are rest)
       out_32 f t (RemoteRow.stay e) =
           absurd (t.unbeaten (spread_row dp group (homes_of b a group)) (TableFlow.in_remote (RemoteRow.spread a dp group on_switch refl)) refl

@@ -5,7 +5,7 @@ use Rattle.std.proofs.lemmas.Option.{none-some}
 use Rattle.ovn_base.proofs.AmongLaws.{among_none}
 use Rattle.ovn_base.specs.declared.name.Name.{Name}
 use Rattle.chassis_sim.specs.State as sim
-use Rattle.chassis_sim.specs.State.{named, nothing_held}
+use Rattle.chassis_sim.specs.State.{at_name, nothing_held}
 use Rattle.nb_records.specs.Network.{Network, empty_network}
 use Rattle.switch_engine.specs.declared.walk.Walk.{Walk}
 use Rattle.world_core.specs.declared.crossing.Crossing.{Crossing}
@@ -97,7 +97,7 @@ new_held : AreHeld empty [] new_world.sim
 new_held = record {
   bindings = λ q. refl;
   names = record { datapaths = λ a k e. absurd (none-some k e); ports = λ q p k e f. absurd (none-some p e) };
-  held = λ c. (λ h. let s = some_of (named new_world.sim.chassis c) h in absurd (none-some s.0 s.1), λ h. absurd (among_none c h));
+  held = λ c. (λ h. let s = some_of (at_name new_world.sim.chassis c) h in absurd (none-some s.0 s.1), λ h. absurd (among_none c h));
   flows = λ c flows e. absurd (none-some flows e);
   waiting = refl;
   next = refl;

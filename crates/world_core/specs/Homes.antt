@@ -21,13 +21,13 @@ abbrev pub is_at : List (Name × Name) → Name → Name → Bool
 is_at bindings q chassis = is_home (at bindings q) chassis
 
 -- the port is in the group of its switch
-abbrev pub is_in : Group → SwitchPort → Bool
-is_in Flood port = true
-is_in Unknown port = takes_unknown port.addresses
+abbrev pub is_group_member : Group → SwitchPort → Bool
+is_group_member Flood port = true
+is_group_member Unknown port = takes_unknown port.addresses
 
 -- the members of a group of the switch, in order of name
 abbrev pub members : Network → Name → Group → List Name
-members net switch group = keys_of (filter (λ e. same_name e.1.switch switch && is_in group e.1) net.ports)
+members net switch group = keys_of (filter (λ e. same_name e.1.switch switch && is_group_member group e.1) net.ports)
 
 -- those of them that are at home on the chassis
 abbrev pub members_at : Network → List (Name × Name) → Name → Group → Name → List Name

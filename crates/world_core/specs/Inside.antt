@@ -22,5 +22,5 @@ seen_of w = record {
 }
 
 -- a world that was not left half done is sound
-pub record IsKept (w : Inside) : Type 0 where
+pub record IsSoundOnceWhole (w : Inside) : Type 0 where
   pub sound : w.whole ≡ true → IsSound (seen_of w)

@@ -23,7 +23,7 @@ matched walks = sum_by (λ walk. length walk.steps) walks
 pub record IsAccepted (old : WorldView) (event : Event) (before after : List ℕ) (new : WorldView) : Type 0 where
   pub admitted : refusal old.state event ≡ None
   pub effects : List NetEffect
-  pub step : net.Step old.state event effects new.state
+  pub step : net.NetworkStep old.state event effects new.state
   pub passed : Passes old.sim event (record { effects = effects; walks = new.walks }) new.sim
   pub zones : new.zones ≡ zones_after old.state.bindings old.zones event
   pub text : after ≡ before ++ accepted_lines (event_count old.state + 1) effects (matched new.walks)

@@ -6,7 +6,7 @@ use Rattle.event_lines.specs.Picks.{Pick, picks_of}
 use Rattle.switch_engine.specs.declared.effect.NetEffect.{NetEffect}
 use Rattle.world_core.specs.Refusing.{refusal}
 use Rattle.world_core.specs.State.{State}
-use Rattle.world_core.specs.Step.{Step}
+use Rattle.world_core.specs.Step.{NetworkStep}
 
 -- what became of an event
 pub data Fate : Type 0 where
@@ -17,7 +17,7 @@ pub data Fate : Type 0 where
 -- is picked; or it is a step of the network, and the picks are those that its effects name.
 pub data Happens (m : State) (event : Event) (picks : List Pick) (fate : Fate) (after : State) : Type 0 where
   refuses : (why : Refusal) → refusal m event ≡ Some why → picks ≡ [] → fate ≡ was_refused why → after ≡ record m { refused = m.refused + 1 } → Happens m event picks fate after
-  accepts : (effects : List NetEffect) → refusal m event ≡ None → Step m event effects after → picks ≡ picks_of effects → fate ≡ was_accepted effects → Happens m event picks fate after
+  accepts : (effects : List NetEffect) → refusal m event ≡ None → NetworkStep m event effects after → picks ≡ picks_of effects → fate ≡ was_accepted effects → Happens m event picks fate after
 
 -- the first of some events is taken with the first of the picks, and the others with those that are left
 pub record HappensFirst (m : State) (event : Event) (picks : List Pick) (fates : List Fate) (Others : State → List Pick → List Fate → Type 0) : Type 0 where

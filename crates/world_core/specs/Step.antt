@@ -38,13 +38,13 @@ pub record Enters (m : State) (p : Name) (frame : List ℕ) (effects : List NetE
   pub state : after ≡ sent_on m ends
 
 -- what waits, without the crossing of the number
-abbrev pub without : List (ℕ × Crossing) → ℕ → List (ℕ × Crossing)
-without waiting n = remove_entry (is_at (nat_cmp n)) waiting
+abbrev pub without_crossing : List (ℕ × Crossing) → ℕ → List (ℕ × Crossing)
+without_crossing waiting n = remove_entry (is_at (nat_cmp n)) waiting
 
 -- the crossing waits on where it is kept
 abbrev pub with_kept : Bool → State → ℕ → State
 with_kept true m n = m
-with_kept false m n = record m { waiting = without m.waiting n }
+with_kept false m n = record m { waiting = without_crossing m.waiting n }
 
 -- the crossing of number n arrives, and waits on where it is kept
 pub record Arrives (m : State) (n : ℕ) (keep : Bool) (effects : List NetEffect) (after : State) : Type 0 where
@@ -104,7 +104,7 @@ Does m (Unread fault) effects after = ⊥
 Does m NotBuilt effects after = ⊥
 
 -- an accepted event, its effects, and the state after it: where no crossing waits then, no key is retired
-pub record Step (m : State) (event : Event) (effects : List NetEffect) (after : State) : Type 0 where
+pub record NetworkStep (m : State) (event : Event) (effects : List NetEffect) (after : State) : Type 0 where
   pub mid : State
   pub does : Does m event effects mid
   pub state : after ≡ finished mid

@@ -5,7 +5,7 @@ use Rattle.ovn_base.specs.names.SameName.{same_name}
 use Rattle.ovn_base.specs.declared.name.Name.{Name}
 use Rattle.chassis_sim.specs.Changing.{given_name}
 use Rattle.chassis_sim.specs.Settings.{AreSet}
-use Rattle.chassis_sim.specs.State.{named, same_pair, nothing_held}
+use Rattle.chassis_sim.specs.State.{at_name, same_pair, nothing_held}
 use Rattle.flow_table.specs.declared.flow.Flow.{Flow}
 use Rattle.edit_reader.specs.declared.event.Event.{Event}
 use Rattle.event_lines.specs.Text.{StartsWith}
@@ -26,9 +26,9 @@ use Rattle.std.specs.Prelude.{map}
 -- the chassis of a state hold exactly its flows; ports are bound and keys are named as is said, and nothing else changed
 pub record IsRecompiled (bound : List (Name × Option Name)) (names : List (ℕ × ℕ × Name)) (old new : WorldView) : Type 0 where
   pub kept : new ≡ record old { sim = new.sim }
-  pub held : (c : Name) → Among c new.state.chassis → IsSome (named new.sim.chassis c)
-  pub flows : (c : Name) (flows : List Flow) → Among c new.state.chassis → named new.sim.chassis c ≡ Some flows → AreFlowsOf new.state new.zones c flows
-  pub others : (c : Name) → ¬ Among c new.state.chassis → named new.sim.chassis c ≡ named old.sim.chassis c
+  pub held : (c : Name) → Among c new.state.chassis → IsSome (at_name new.sim.chassis c)
+  pub flows : (c : Name) (flows : List Flow) → Among c new.state.chassis → at_name new.sim.chassis c ≡ Some flows → AreFlowsOf new.state new.zones c flows
+  pub others : (c : Name) → ¬ Among c new.state.chassis → at_name new.sim.chassis c ≡ at_name old.sim.chassis c
   pub bindings : AreSet same_name bound old.sim.bindings new.sim.bindings
   pub names_are : AreSet same_pair (map given_name names) old.sim.names new.sim.names
   pub waiting : new.sim.waiting ≡ old.sim.waiting
@@ -46,7 +46,7 @@ pub record IsTaken (w : WorldView) : Type 0 where
 
 -- what an accepted event leaves, and how many flows its packets matched
 pub record IsDone (old : WorldView) (event : Event) (effects : List NetEffect) (walks : List Walk) (count : ℕ) (new : WorldView) : Type 0 where
-  pub step : net.Step old.state event effects new.state
+  pub step : net.NetworkStep old.state event effects new.state
   pub passed : Passes old.sim event (record { effects = effects; walks = walks }) new.sim
   pub counts : count ≡ matched walks
   pub zones : new.zones ≡ zones_after old.state.bindings old.zones event

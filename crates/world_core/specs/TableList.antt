@@ -12,7 +12,7 @@ use Rattle.nb_records.specs.declared.record.SwitchPort.{SwitchPort}
 use Rattle.world_core.specs.Addresses.{macs_in}
 use Rattle.world_core.specs.declared.crossing.Group.{Group}
 use Rattle.world_core.specs.declared.crossing.Group.TheVariants.{Flood, Unknown}
-use Rattle.world_core.specs.Homes.{is_at, is_in}
+use Rattle.world_core.specs.Homes.{is_at, is_group_member}
 use Rattle.world_core.specs.Numbers.{datapath_number, port_number}
 use Rattle.world_core.specs.Rows.{entry_row, arrival_row, pass_row, bad_source_row, vlan_row, flood_row, address_row, unknown_row, remote_row, spread_row, stay_row, home_row, copies_row, return_row, leave_row, output_row}
 use Rattle.world_core.specs.Stages.{Basis, members_here, homes_of, has_unknown}
@@ -97,7 +97,7 @@ table_flows b =
 -- the record is one of the group
 abbrev pub is_record_in : Group → Option SwitchPort → Bool
 is_record_in group None = false
-is_record_in group (Some port) = is_in group port
+is_record_in group (Some port) = is_group_member group port
 
 abbrev pub group_among : Basis → Group → List (Name × ℕ) → List (Name × ℕ)
 group_among b group ports = filter (λ e. is_record_in group (at b.net.ports e.0)) ports

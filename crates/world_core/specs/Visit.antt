@@ -60,24 +60,24 @@ pub data End : Type 0 where
   is_lost : ℕ → End
 
 -- from where a packet is sent: the chassis, the switch, and the port of entry
-pub record Origin : Type 0 where
+pub record SentFrom : Type 0 where
   pub chassis : Name
   pub switch : Identity
   pub port : Identity
 
 -- the packet, crossing to another chassis
-abbrev pub crossing_to : Origin → Packet → Aim → Name → Crossing
+abbrev pub crossing_to : SentFrom → Packet → Aim → Name → Crossing
 crossing_to from packet aim home = record { datapath = from.switch; in_port = from.port; aim = aim; home = home; frame = frame_of packet }
 
 -- a packet sent to one port: it is bound nowhere; or it is the port of entry; or the packet leaves by it; or crosses to its home
-abbrev pub sent_home : Origin → Packet → Name → SwitchPort → Option Name → List End
+abbrev pub sent_home : SentFrom → Packet → Name → SwitchPort → Option Name → List End
 sent_home from packet q port None = is_dropped from.switch.name q Unbound ∷ []
 sent_home from packet q port (Some home) =
     cond (same_name home from.chassis) (cond (same_name q from.port.name) (is_dropped from.switch.name q Loopback ∷ []) (leaves q packet ∷ []))
     (crosses (crossing_to from packet (ToPort (record { name = q; birth = port.birth })) home) ∷ [])
 
 -- to a group: it crosses to each other chassis that has a member, in order of name, and then leaves by the members here but the port of entry
-abbrev pub sent_to : State → Origin → Packet → Target → List End
+abbrev pub sent_to : State → SentFrom → Packet → Target → List End
 sent_to m from packet none = is_dropped from.switch.name from.port.name UnknownAddress ∷ []
 sent_to m from packet (one q port) = sent_home from packet q port (at m.bindings q)
 sent_to m from packet (group g) =
@@ -85,7 +85,7 @@ sent_to m from packet (group g) =
     ++ map (λ q. leaves q packet) (filter (λ q. not (same_name q from.port.name)) (members_at m.net m.bindings from.switch.name g from.chassis))
 
 -- a packet that enters a switch: one from a group's address or with a tag is dropped, any other is sent to its target
-pub data Goes (m : State) (from : Origin) (packet : Packet) (ends : List End) : Type 0 where
+pub data Goes (m : State) (from : SentFrom) (packet : Packet) (ends : List End) : Type 0 where
   bad_source : is_multicast_mac packet.src ≡ true → ends ≡ is_dropped from.switch.name from.port.name BadSource ∷ [] → Goes m from packet ends
   tagged : is_multicast_mac packet.src ≡ false → ether_type packet.body ≡ 0x8100 → ends ≡ is_dropped from.switch.name from.port.name Vlan ∷ [] → Goes m from packet ends
   sent : is_multicast_mac packet.src ≡ false → ether_type packet.body ≢ 0x8100 → (target : Target) → HasTarget m.net from.switch.name packet.dst target → ends ≡ sent_to m from packet target → Goes m from packet ends

@@ -44,8 +44,8 @@ EntryLaw =
     → AreVisit m p packet c effects
 
 -- how the frame of a crossing comes in
-abbrev pub entry_of : Keys → Crossing → Entry
-entry_of keys x = Tunnel (datapath_key keys x.datapath) (port_key keys x.in_port) (aim_key keys x.aim)
+abbrev pub tunnel_entry_of : Keys → Crossing → Entry
+tunnel_entry_of keys x = Tunnel (datapath_key keys x.datapath) (port_key keys x.in_port) (aim_key keys x.aim)
 
 -- whatever walk the packet of a crossing takes from its frame, through exactly the flows of the chassis to which it goes, its effects
 -- are those of the crossing's arrival
@@ -62,7 +62,7 @@ ArrivalLaw =
     → IsWhole packet
     → frame_of packet ≡ x.frame
     → (steps : List Step) (effects : List Effect)
-    → IsWalkOf flows (entry_of m.keys x) now packet steps effects
+    → IsWalkOf flows (tunnel_entry_of m.keys x) now packet steps effects
     → AllZip (IsNumbered m.keys) (arrival m n x packet) effects
 
 -- through whatever lists of exactly the flows of one chassis, a packet takes one walk

@@ -5,7 +5,7 @@ use Rattle.ovn_base.specs.names.ByName.{at}
 use Rattle.ovn_base.specs.declared.name.Name.{Name}
 use Rattle.chassis_sim.specs.InNames.{name_of}
 use Rattle.chassis_sim.specs.State as sim
-use Rattle.chassis_sim.specs.State.{named}
+use Rattle.chassis_sim.specs.State.{at_name}
 use Rattle.chassis_sim.specs.declared.underlay.WaitingFrame.{WaitingFrame}
 use Rattle.flow_table.specs.declared.flow.Flow.{Flow}
 use Rattle.switch_engine.specs.declared.walk.Walk.{Walk}
@@ -40,10 +40,10 @@ frame_of_crossing keys w = (w.0, record { to = w.1.home; bytes = spelled keys w.
 
 -- The simulated chassis are those of the state: each holds exactly its flows, and the frames that wait are those of the crossings.
 pub record AreHeld (m : State) (zones : List (Name × ℕ)) (s : sim.SimState) : Type 0 where
-  pub bindings : (q : Name) → named s.bindings q ≡ at m.bindings q
+  pub bindings : (q : Name) → at_name s.bindings q ≡ at m.bindings q
   pub names : HaveOwnersNames m.keys s
-  pub held : (c : Name) → IsSome (named s.chassis c) ↔ Among c m.chassis
-  pub flows : (c : Name) (flows : List Flow) → named s.chassis c ≡ Some flows → AreFlowsOf m zones c flows
+  pub held : (c : Name) → IsSome (at_name s.chassis c) ↔ Among c m.chassis
+  pub flows : (c : Name) (flows : List Flow) → at_name s.chassis c ≡ Some flows → AreFlowsOf m zones c flows
   pub waiting : s.waiting ≡ map (frame_of_crossing m.keys) m.waiting
   pub next : s.next ≡ m.next
 

@@ -12,14 +12,14 @@ ghost use Rattle.world_core.specs.Picks.{Fate, Run};
 ghost use Rattle.world_core.specs.WorldView.{IsSound, WorldView};
 ghost use Rattle.world_core.specs.Sound.{IsValid};
 ghost use Rattle.world_core.specs.State.{State};
-ghost use Rattle.world_core.specs.Step.{Step};
+ghost use Rattle.world_core.specs.Step.{NetworkStep};
 
 /// An event and what was picked for it determine its effects and the state after it. So events and picks determine a run:
 /// which events are refused and why, the effects of the others, and the states. In sound worlds of one state and with the
 /// same zones, an event also matches the same flows.
 pub fn one_run()
     ensures step { (m : State) (event : Event) (effects others : List NetEffect) (after later : State)
-        → IsValid m.net → Step m event effects after → Step m event others later
+        → IsValid m.net → NetworkStep m event effects after → NetworkStep m event others later
         → picks_of effects ≡ picks_of others → (effects ≡ others) × (after ≡ later) }
     ensures run { (m : State) (events : List Event) (picks : List Pick) (fates others : List Fate) (last end : State)
         → IsValid m.net → AllByRecursion IsAdmitted events

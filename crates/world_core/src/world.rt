@@ -2,7 +2,7 @@
 ghost use Rattle.std.specs.Prelude.{◌-◌, ◌≡◌, ◌+◌, ◌<◌, ◌^◌, ◌++◌, ◌↔◌, [], ◌∷◌, Some, false, min, length, slice_get, IsTrue, IfOk, OnOk, OnErr, List};
 ghost use Rattle.std.specs.Option.{option_copied};
 ghost use Rattle.ovn_base.specs.lists.Once.{EachOnce};
-ghost use Rattle.chassis_sim.specs.State.{flow_at, named};
+ghost use Rattle.chassis_sim.specs.State.{flow_at, at_name};
 ghost use Rattle.flow_table.specs.declared.flow.Flow.{Flow};
 ghost use Rattle.event_lines.specs.Lines.{refused_line};
 ghost use Rattle.event_lines.specs.Text.{StartsWith};
@@ -70,11 +70,11 @@ impl Model for World {
 
     ghost Value = { WorldView };
 
-    ghost use Rattle.world_core.specs.Inside.{seen_of, IsKept};
+    ghost use Rattle.world_core.specs.Inside.{seen_of, IsSoundOnceWhole};
 
     ghost view = { seen_of };
 
-    ghost invariant = { IsKept };
+    ghost invariant = { IsSoundOnceWhole };
 }
 
 impl World {
@@ -130,7 +130,7 @@ impl World {
     /// chassis is there.
     pub fn chassis_flow(&self, chassis: &Name, index: usize) -> Option<&Flow>
         ensures flow { option_copied result ≡ flow_at self.now.sim chassis.now index }
-        ensures once { (flows : List Flow) → named self.now.sim.chassis chassis.now ≡ Some flows → EachOnce flows }
+        ensures once { (flows : List Flow) → at_name self.now.sim.chassis chassis.now ≡ Some flows → EachOnce flows }
     {
         self.sim.flow(chassis, index)
     }

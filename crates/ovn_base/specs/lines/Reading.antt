@@ -20,8 +20,8 @@ pub record Reading : Type 0 where
   pub faulted : Bool
 
 -- how many bytes were taken
-abbrev pub taken : Reading → ℕ
-taken m = m.given + length m.held
+abbrev pub bytes_taken : Reading → ℕ
+bytes_taken m = m.given + length m.held
 
 -- the bytes that are still to be taken: none once the end was seen
 abbrev pub rest_of : Bool → Option (List ℕ) → Option (List ℕ)
@@ -44,6 +44,6 @@ Gives End old new before after = (before ≡ []) × (after ≡ []) × (new.given
 
 -- A call stopped, and the bytes that were taken by then have no line that is ended; `left` is what was not taken.
 pub record Stops (old new : Reading) (before left : List ℕ) : Type 0 where
-  pub later : old.given ≤ taken new
-  pub none : (n : ℕ) → n + old.given ≡ taken new → lines_within n before ≡ []
-  pub count : old.given + length before ≡ taken new + length left
+  pub later : old.given ≤ bytes_taken new
+  pub none : (n : ℕ) → n + old.given ≡ bytes_taken new → lines_within n before ≡ []
+  pub count : old.given + length before ≡ bytes_taken new + length left

@@ -4,7 +4,7 @@ ghost use Rattle.ovn_base.specs.names.ByName.{at, put};
 ghost use Rattle.nb_records.specs.declared.record.Op.TheVariants.{Add};
 ghost use Rattle.nb_records.specs.declared.record.Record.TheVariants as record_of;
 ghost use Rattle.tunnel_keys.specs.Causes.{HasKeys};
-ghost use Rattle.tunnel_keys.specs.Edits.{IsAfter, IsEdit};
+ghost use Rattle.tunnel_keys.specs.Edits.{IsAfter, IsKeyEdit};
 ghost use Rattle.tunnel_keys.specs.declared.owner.DatapathKey.{DatapathKey};
 ghost use Rattle.tunnel_keys.specs.declared.owner.PortKey.{PortKey};
 ghost use Rattle.ovn_base.specs.declared.limits.TheConstants.{MAX_DATAPATHS, MAX_PORTS};
@@ -27,7 +27,7 @@ use tunnel_keys::store::{KeyPlan, KeyStore};
 
 // The keys after owners come, for all of whom there are keys.
 fn keys_with(keys: &mut KeyStore, added: &[KeyOwner]) -> Result<KeyPlan, NoMemory>
-    requires fits { IsEdit keys.old added.now [] }
+    requires fits { IsKeyEdit keys.old added.now [] }
     requires enough { HasKeys keys.old added.now [] }
     ensures kept { keys.new ≡ keys.old }
     ensures after { IfOk result (IsAfter keys.old added.now []) }

@@ -6,7 +6,7 @@ use Rattle.ovn_base.specs.declared.name.Name.{Name}
 use Rattle.flow_table.specs.declared.flow.Flow.{Flow}
 use Rattle.switch_engine.proofs.Lists.{all_append, all_right}
 use Rattle.chassis_sim.specs.Changing.{AllAreDeltas, AreReady, IsDeltaOfAny, IsReadyFor}
-use Rattle.chassis_sim.specs.State.{named}
+use Rattle.chassis_sim.specs.State.{at_name}
 use Rattle.chassis_sim.specs.Tables.{flows_held}
 use Rattle.chassis_sim.proofs.Lookups.{take_more, split_at, once_before}
 use Rattle.chassis_sim.proofs.Replacing.{all_kept}
@@ -20,8 +20,8 @@ prepare_one-requires g c =
     let table = c.deltas-item.result in
     let first = flows_held flows c.args.held.now.entries in
     let split = subst (AllAreDeltas first) (split_at deltas i table c.deltas-test.true c.deltas-item.is) c.requires.deltas in
-    let here = all_right (λ (t : Name × Delta Flow). IsDeltaOfAny t.1 (named first t.0)) (take i deltas) (table ∷ drop (suc i) deltas) split in
-    subst (λ chassis. IsDeltaOfAny table.1 (named chassis table.0)) (sym c.deltas.invariant.flows) here.0
+    let here = all_right (λ (t : Name × Delta Flow). IsDeltaOfAny t.1 (at_name first t.0)) (take i deltas) (table ∷ drop (suc i) deltas) split in
+    subst (λ chassis. IsDeltaOfAny table.1 (at_name chassis table.0)) (sym c.deltas.invariant.flows) here.0
 
 pub deltas-preserved : goal.deltas-preserved
 deltas-preserved g c =
@@ -38,6 +38,6 @@ deltas-preserved g c =
     record {
       flows = c.prepare_one.ensures.flows ∙ c.deltas.invariant.flows;
       ready = subst (AreReady ready new) (sym (ap (λ n. take n deltas) (add-one i) ∙ take_more deltas i table c.deltas-test.true c.deltas-item.is))
-          (all_append (λ (t : Name × Delta Flow). IsReadyFor ready t.1 (named new t.0)) before (table ∷ []) still (c.in_ok-prepare_one.ensures.ready, tt));
+          (all_append (λ (t : Name × Delta Flow). IsReadyFor ready t.1 (at_name new t.0)) before (table ∷ []) still (c.in_ok-prepare_one.ensures.ready, tt));
       spare = c.prepare_one.ensures.spare ∙ c.deltas.invariant.spare;
     }

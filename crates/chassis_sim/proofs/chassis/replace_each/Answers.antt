@@ -4,7 +4,7 @@ use Rattle.ovn_base.specs.lists.Once.{EachOnce}
 use Rattle.ovn_base.specs.names.SameName.{same_name}
 use Rattle.ovn_base.specs.declared.name.Name.{Name}
 use Rattle.chassis_sim.specs.Changing.{AreReplaced, AreReady, IsReadyFor}
-use Rattle.chassis_sim.specs.State.{named}
+use Rattle.chassis_sim.specs.State.{at_name}
 use Rattle.chassis_sim.specs.Tables.{flows_held}
 use Rattle.chassis_sim.proofs.Lookups.{seen_same}
 use Rattle.chassis_sim.proofs.Replacing.{one_more, all_kept}
@@ -21,11 +21,11 @@ deltas-preserved g c =
     let all = subst (AreReady ready c.deltas.held.entries) steps c.deltas.invariant.ready in
     let old = flows_held flows c.deltas.held.entries in
     let new = flows_held flows c.replace_one.new.held.entries in
-    let others : (other : Name) → same_name name other ≡ false → named new other ≡ named old other = λ other apart. seen_same flows c.deltas.held.entries c.replace_one.new.held.entries other (c.replace_one.ensures.others other apart) in
+    let others : (other : Name) → same_name name other ≡ false → at_name new other ≡ at_name old other = λ other apart. seen_same flows c.deltas.held.entries c.replace_one.new.held.entries other (c.replace_one.ensures.others other apart) in
     record {
       once = once.1;
       ready = all_kept (IsReadyFor ready) c.deltas.held.entries c.replace_one.new.held.entries name c.replace_one.ensures.others rest once.0 all.1;
       replaced = λ other after h. c.deltas.invariant.replaced other after
-          (subst (λ l. AreReplaced (named l other) (named old other) after) (sym steps) (one_more (name, c.in-Some.delta) rest old new once.0 c.replace_one.ensures.replaced others other after h));
+          (subst (λ l. AreReplaced (at_name l other) (at_name old other) after) (sym steps) (one_more (name, c.in-Some.delta) rest old new once.0 c.replace_one.ensures.replaced others other after h));
       spare = c.replace_one.ensures.spare ∙ c.deltas.invariant.spare;
     }

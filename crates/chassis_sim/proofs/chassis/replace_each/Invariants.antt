@@ -5,7 +5,7 @@ use Rattle.ovn_base.specs.lists.Once.{EachOnce}
 use Rattle.ovn_base.specs.declared.name.Name.{Name}
 use Rattle.flow_table.specs.declared.flow.Flow.{Flow}
 use Rattle.chassis_sim.specs.Changing.{AreReplaced, AreReady}
-use Rattle.chassis_sim.specs.State.{named}
+use Rattle.chassis_sim.specs.State.{at_name}
 use Rattle.chassis_sim.specs.Tables.{flows_held}
 use Rattle.chassis_sim.proofs.chassis.replace_each.Given as goal
 
@@ -17,6 +17,6 @@ invariant-deltas g l =
     record {
       once : EachOnce (keys_of left);
       ready : AreReady g.T.Lookup.ready l.held.entries left;
-      replaced : (name : Name) (after : Option (List Flow)) → AreReplaced (named left name) (named (flows_held flows l.held.entries) name) after → AreReplaced (named l.fn.deltas name) (named (flows_held flows l.fn.held.entries) name) after;
+      replaced : (name : Name) (after : Option (List Flow)) → AreReplaced (at_name left name) (at_name (flows_held flows l.held.entries) name) after → AreReplaced (at_name l.fn.deltas name) (at_name (flows_held flows l.fn.held.entries) name) after;
       spare : spare l.held ≡ spare l.fn.held;
     }

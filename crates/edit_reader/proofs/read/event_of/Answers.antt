@@ -6,7 +6,7 @@ use Rattle.ovn_base.specs.declared.name.Name.{Name}
 use Rattle.nb_records.specs.declared.record.Op.{Op}
 use Rattle.nb_records.specs.declared.record.Op.TheVariants.{Add}
 use Rattle.edit_reader.specs.declared.event.Event.TheVariants.{Edit}
-use Rattle.edit_reader.specs.Reads.{IsEdit, IsEntry}
+use Rattle.edit_reader.specs.Reads.{IsEdit, IsPacketForm}
 use Rattle.edit_reader.specs.Reads.IsForm.{edits, adds_chassis, binds, sends, injects, delivers, loses, repeats}
 use Rattle.edit_reader.specs.Reads.Reads.{is_form}
 use Rattle.edit_reader.proofs.Found.{found, none}
@@ -26,11 +26,11 @@ returns-in-Some-bound c = is_form (binds _ _ c.in-Some-bound.ensures refl)
 
 pub returns-in-Some-2 : goal.returns-in-Some-2
 returns-in-Some-2 c =
-    is_form (sends _ _ (found (λ (entry : Name × List ℕ). IsEntry (codes "packet") (view c.args.value.now) entry.0 entry.1) _ c.in_ok-entry.ensures c.in-Some-2.entry c.in-Some-2.is) refl)
+    is_form (sends _ _ (found (λ (entry : Name × List ℕ). IsPacketForm (codes "packet") (view c.args.value.now) entry.0 entry.1) _ c.in_ok-entry.ensures c.in-Some-2.entry c.in-Some-2.is) refl)
 
 pub returns-in-Some-3 : goal.returns-in-Some-3
 returns-in-Some-3 c =
-    is_form (injects _ _ (found (λ (entry : Name × List ℕ). IsEntry (codes "inject") (view c.args.value.now) entry.0 entry.1) _ c.in_ok-entry-2.ensures c.in-Some-3.entry c.in-Some-3.is) refl)
+    is_form (injects _ _ (found (λ (entry : Name × List ℕ). IsPacketForm (codes "inject") (view c.args.value.now) entry.0 entry.1) _ c.in_ok-entry-2.ensures c.in-Some-3.entry c.in-Some-3.is) refl)
 
 pub returns-in-Some-numbered : goal.returns-in-Some-numbered
 returns-in-Some-numbered c = is_form (delivers _ c.in-Some-numbered.ensures refl)
@@ -47,8 +47,8 @@ returns c =
       edit = none (IsEdit (view c.args.value.now)) _ c.in_ok-row.ensures c.in_default.is;
       chassis = c.in_default-added_chassis.ensures;
       bind = c.in_default-bound.ensures;
-      packet = none (λ (entry : Name × List ℕ). IsEntry (codes "packet") (view c.args.value.now) entry.0 entry.1) _ c.in_ok-entry.ensures c.in_default-2.is;
-      inject = none (λ (entry : Name × List ℕ). IsEntry (codes "inject") (view c.args.value.now) entry.0 entry.1) _ c.in_ok-entry-2.ensures c.in_default-3.is;
+      packet = none (λ (entry : Name × List ℕ). IsPacketForm (codes "packet") (view c.args.value.now) entry.0 entry.1) _ c.in_ok-entry.ensures c.in_default-2.is;
+      inject = none (λ (entry : Name × List ℕ). IsPacketForm (codes "inject") (view c.args.value.now) entry.0 entry.1) _ c.in_ok-entry-2.ensures c.in_default-3.is;
       deliver = c.in_default-numbered.ensures;
       lose = c.in_default-numbered-2.ensures;
       repeat = c.in_default-numbered-3.ensures;

@@ -2,7 +2,7 @@ use Rattle.std.specs.Prelude.{Result}
 use Rattle.std.proofs.Common.{subst}
 use Rattle.match_language.specs.declared.expr.Expr.{Expr}
 use Rattle.match_language.specs.declared.fault.MatchFault.{MatchFault}
-use Rattle.match_language.specs.Faults.{Gives}
+use Rattle.match_language.specs.Faults.{GivesExpr}
 use Rattle.match_language.proofs.Found.{gives_found}
 use Rattle.match_language.proofs.Only.{whole_only}
 use Rattle.match_language.proofs.Nested.{found_fits}
@@ -13,7 +13,7 @@ pub returns-clause-found : goal.returns-clause-found
 returns-clause-found c = gives_found c.args.way c.args.text.now c.whole.result c.whole.ensures
 
 pub returns-clause-only : goal.returns-clause-only
-returns-clause-only c = λ x h. subst (λ (r : Result Expr MatchFault). Gives c.whole.result r) (whole_only c.args.way c.args.text.now x h) c.whole.ensures
+returns-clause-only c = λ x h. subst (λ (r : Result Expr MatchFault). GivesExpr c.whole.result r) (whole_only c.args.way c.args.text.now x h) c.whole.ensures
 
 pub returns-clause-fits : goal.returns-clause-fits
 returns-clause-fits c = found_fits c.args.way c.args.text.now c.whole.result (gives_found c.args.way c.args.text.now c.whole.result c.whole.ensures)

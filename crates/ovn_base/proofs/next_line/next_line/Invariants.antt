@@ -1,7 +1,7 @@
 use Rattle.std.proofs.Common.{◌≡◌, ◌≢◌, ◌+◌, ◌-◌, ◌≤◌, ◌^◌, false, true, cond, [], length, take}
 use Rattle.std.specs.Io.KnownBytes.{IsAtEnd}
 use Rattle.ovn_base.specs.lines.Lines.{HasNoFeed, ended_lines}
-use Rattle.ovn_base.specs.lines.Reading.{taken}
+use Rattle.ovn_base.specs.lines.Reading.{bytes_taken}
 use Rattle.ovn_base.proofs.LineSearch.{Going}
 use Rattle.ovn_base.proofs.next_line.next_line.Given as goal
 
@@ -19,4 +19,4 @@ invariant-line g l = record {
 }
 
 abbrev pub decreases-line : goal.decreases-line
-decreases-line g l = (2 ^ 40 - taken l.buf) + cond l.buf.ended 0 1
+decreases-line g l = (2 ^ 40 - bytes_taken l.buf) + cond l.buf.ended 0 1

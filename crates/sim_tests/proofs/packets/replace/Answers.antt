@@ -11,7 +11,7 @@ use Rattle.flow_table.specs.declared.flow.Flow.{Flow}
 use Rattle.flow_table.specs.declared.tables.Tables.{Tables}
 use Rattle.switch_engine.specs.Proper.{IsProper}
 use Rattle.chassis_sim.specs.Changing.{AllAreDeltas, IsDeltaOfAny}
-use Rattle.chassis_sim.specs.State.{named}
+use Rattle.chassis_sim.specs.State.{at_name}
 use Rattle.sim_tests.proofs.OneFlow.{one_proper}
 use Rattle.sim_tests.proofs.packets.replace.Goals as goal
 
@@ -25,7 +25,7 @@ prepare-requires-clause-once c = subst (λ (l : List (Name × Delta Flow)). Each
 pub prepare-requires-clause-deltas : goal.prepare-requires-clause-deltas
 prepare-requires-clause-deltas c =
     let held = c.args.sim.now.state.chassis in
-    subst (AllAreDeltas held) (sym c.in_ok-one.ensures) (of_any c.args.comes c.args.goes c.in_ok-delta.delta c.in_ok-delta.ensures.added c.in_ok-delta.ensures.removed (named held c.args.chassis), tt)
+    subst (AllAreDeltas held) (sym c.in_ok-one.ensures) (of_any c.args.comes c.args.goes c.in_ok-delta.delta c.in_ok-delta.ensures.added c.in_ok-delta.ensures.removed (at_name held c.args.chassis), tt)
 
 pub apply-requires-clause-proper : goal.apply-requires-clause-proper
 apply-requires-clause-proper c = record {

@@ -2,7 +2,7 @@ use Rattle.std.proofs.Common.{length, take, arith, ◌∙◌, ap}
 use Rattle.ovn_base.specs.names.ByName.{in_order}
 use Rattle.tunnel_keys.specs.Owners.{datapaths_in}
 use Rattle.tunnel_keys.specs.Keys.{free_in, taken_datapaths}
-use Rattle.tunnel_keys.specs.Giving.{with_keys, datapath_key}
+use Rattle.tunnel_keys.specs.Giving.{with_keys, new_datapath_key}
 use Rattle.tunnel_keys.proofs.FreeKeys.{take_short, with_keys_take}
 use Rattle.tunnel_keys.proofs.giving.give_datapath_keys.Goals as goal
 
@@ -13,9 +13,9 @@ returns-clause-given c =
     let all = free_in c.args.range (taken_datapaths c.args.live.now.entries c.args.retired.now) in
     let count = c.len.ensures.len ∙ ap length c.in_ok-arrivals.ensures in
     c.in_ok-given.ensures
-    ∙ ap (λ ks. with_keys datapath_key c.in_ok-arrivals.arrivals.entries ks) (c.as_slice-3.ensures ∙ free ∙ ap (λ n. take n all) count)
-    ∙ ap (λ es. with_keys datapath_key es (take (length (in_order (datapaths_in c.args.added.now))) all)) c.in_ok-arrivals.ensures
-    ∙ with_keys_take datapath_key (in_order (datapaths_in c.args.added.now)) all
+    ∙ ap (λ ks. with_keys new_datapath_key c.in_ok-arrivals.arrivals.entries ks) (c.as_slice-3.ensures ∙ free ∙ ap (λ n. take n all) count)
+    ∙ ap (λ es. with_keys new_datapath_key es (take (length (in_order (datapaths_in c.args.added.now))) all)) c.in_ok-arrivals.ensures
+    ∙ with_keys_take new_datapath_key (in_order (datapaths_in c.args.added.now)) all
 
 pub returns-clause-enough : goal.returns-clause-enough
 returns-clause-enough c =

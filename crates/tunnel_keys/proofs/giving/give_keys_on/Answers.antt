@@ -2,7 +2,7 @@ use Rattle.std.proofs.Common.{◌<◌, length, take, arith, sym, ◌∙◌, ap, 
 use Rattle.std.specs.List.{AllByRecursion}
 use Rattle.ovn_base.specs.names.ByName.{in_order}
 use Rattle.tunnel_keys.specs.Keys.{free_in}
-use Rattle.tunnel_keys.specs.Giving.{with_keys, port_key, taken_on}
+use Rattle.tunnel_keys.specs.Giving.{with_keys, new_port_key, taken_on}
 use Rattle.tunnel_keys.proofs.FreeKeys.{take_short, with_keys_take, taken_below}
 use Rattle.tunnel_keys.proofs.giving.give_keys_on.Goals as goal
 
@@ -17,7 +17,7 @@ returns-clause-given c =
     let all = free_in c.args.range (taken_on c.args.live.now c.args.retired.now c.args.datapath.now) in
     let free = c.in_ok-free.ensures ∙ ap (λ t. take c.len.result (free_in c.args.range t)) (c.as_slice.ensures ∙ c.in_ok-taken.ensures) in
     let count = c.len.ensures.len ∙ ap length c.in_ok-arrivals.ensures in
-    let make = port_key c.args.datapath.now.name in
+    let make = new_port_key c.args.datapath.now.name in
     c.in_ok-given.ensures
     ∙ ap (λ ks. with_keys make c.in_ok-arrivals.arrivals.entries ks) (c.as_slice-2.ensures ∙ free ∙ ap (λ n. take n all) count)
     ∙ ap (λ es. with_keys make es (take (length (in_order c.args.added.now)) all)) c.in_ok-arrivals.ensures

@@ -1,7 +1,7 @@
 use Rattle.std.proofs.Common.{◌≡◌, sym, ap, subst, ◌∙◌, refl}
 use Rattle.ovn_base.specs.declared.name.Name.{Name}
 use Rattle.chassis_sim.specs.Changing.{IsApplied, AreReady}
-use Rattle.chassis_sim.specs.State.{SimView, SimState, named}
+use Rattle.chassis_sim.specs.State.{SimView, SimState, at_name}
 use Rattle.chassis_sim.specs.Tables.{flows_held}
 use Rattle.chassis_sim.proofs.ChassisLaws.{changed, changed_proper}
 use Rattle.chassis_sim.proofs.sim.Sim.apply.Goals as goal

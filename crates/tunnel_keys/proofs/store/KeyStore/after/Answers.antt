@@ -3,7 +3,7 @@ use Rattle.std.proofs.lemmas.Result.{err_from_is_err_and}
 use Rattle.ovn_base.specs.lists.Among.{Among}
 use Rattle.ovn_base.specs.names.ByName.{put_all}
 use Rattle.tunnel_keys.specs.Keys.{Keys}
-use Rattle.tunnel_keys.specs.Edits.{IsEdit, IsAfter}
+use Rattle.tunnel_keys.specs.Edits.{IsKeyEdit, IsAfter}
 use Rattle.tunnel_keys.specs.Causes.{IsCause, HasKeys}
 use Rattle.tunnel_keys.proofs.After.{IsRetired, datapath_cause, port_cause, datapaths_sorted, made_after, made_has}
 use Rattle.tunnel_keys.proofs.Ordered.{held_datapath_exact, held_port_exact}
@@ -13,7 +13,7 @@ use Rattle.tunnel_keys.proofs.store.KeyStore.after.Goals as goal
 pub returns-in_err-more-clause-fault : goal.returns-in_err-more-clause-fault
 returns-in_err-more-clause-fault c =
     let before : Keys = record { datapath_range = c.self.inside.datapath_range; port_range = c.self.inside.port_range; datapaths = c.self.inside.datapaths.entries; ports = c.self.inside.ports.entries; retired_datapaths = c.self.inside.retired_datapaths; retired_ports = c.self.inside.retired_ports } in
-    let edit : IsEdit before c.args.added.now c.args.removed.now = subst (λ k. IsEdit k c.args.added.now c.args.removed.now) (sym c.self.view_is) c.requires in
+    let edit : IsKeyEdit before c.args.added.now c.args.removed.now = subst (λ k. IsKeyEdit k c.args.added.now c.args.removed.now) (sym c.self.view_is) c.requires in
     let retired : IsRetired before c.args.removed.now c.in_ok-staying.staying.entries c.in_ok-ports.ports.entries c.in_ok-gone.gone c.in_ok-gone_ports.gone_ports =
     record { staying = c.in_ok-staying.ensures; staying_ports = c.in_ok-ports.ensures; retired = c.in_ok-gone.ensures; retired_ports = c.in_ok-gone_ports.ensures } in
     let p = err_from_is_err_and c.from_residual-in_err-more.result c.from_residual-in_err-more.ensures.1 in
@@ -22,7 +22,7 @@ returns-in_err-more-clause-fault c =
 pub returns-in_err-more-2-clause-fault : goal.returns-in_err-more-2-clause-fault
 returns-in_err-more-2-clause-fault c =
     let before : Keys = record { datapath_range = c.self.inside.datapath_range; port_range = c.self.inside.port_range; datapaths = c.self.inside.datapaths.entries; ports = c.self.inside.ports.entries; retired_datapaths = c.self.inside.retired_datapaths; retired_ports = c.self.inside.retired_ports } in
-    let edit : IsEdit before c.args.added.now c.args.removed.now = subst (λ k. IsEdit k c.args.added.now c.args.removed.now) (sym c.self.view_is) c.requires in
+    let edit : IsKeyEdit before c.args.added.now c.args.removed.now = subst (λ k. IsKeyEdit k c.args.added.now c.args.removed.now) (sym c.self.view_is) c.requires in
     let retired : IsRetired before c.args.removed.now c.in_ok-staying.staying.entries c.in_ok-ports.ports.entries c.in_ok-gone.gone c.in_ok-gone_ports.gone_ports =
     record { staying = c.in_ok-staying.ensures; staying_ports = c.in_ok-ports.ensures; retired = c.in_ok-gone.ensures; retired_ports = c.in_ok-gone_ports.ensures } in
     let made = c.in_ok-datapaths.ensures ∙ ap (λ es. put_all c.in_ok-staying.staying.entries es) c.in_ok-more.ensures.given in
@@ -38,7 +38,7 @@ in_order-requires-2 c = record { exact = held_port_exact }
 pub invariant_of-result : goal.invariant_of-result
 invariant_of-result c =
     let before : Keys = record { datapath_range = c.self.inside.datapath_range; port_range = c.self.inside.port_range; datapaths = c.self.inside.datapaths.entries; ports = c.self.inside.ports.entries; retired_datapaths = c.self.inside.retired_datapaths; retired_ports = c.self.inside.retired_ports } in
-    let edit : IsEdit before c.args.added.now c.args.removed.now = subst (λ k. IsEdit k c.args.added.now c.args.removed.now) (sym c.self.view_is) c.requires in
+    let edit : IsKeyEdit before c.args.added.now c.args.removed.now = subst (λ k. IsKeyEdit k c.args.added.now c.args.removed.now) (sym c.self.view_is) c.requires in
     let retired : IsRetired before c.args.removed.now c.in_ok-staying.staying.entries c.in_ok-ports.ports.entries c.in_ok-gone.gone c.in_ok-gone_ports.gone_ports =
     record { staying = c.in_ok-staying.ensures; staying_ports = c.in_ok-ports.ensures; retired = c.in_ok-gone.ensures; retired_ports = c.in_ok-gone_ports.ensures } in
     let made = c.in_ok-datapaths.ensures ∙ ap (λ es. put_all c.in_ok-staying.staying.entries es) c.in_ok-more.ensures.given in
@@ -55,7 +55,7 @@ invariant_of-result c =
 pub returns-clause-after : goal.returns-clause-after
 returns-clause-after c =
     let before : Keys = record { datapath_range = c.self.inside.datapath_range; port_range = c.self.inside.port_range; datapaths = c.self.inside.datapaths.entries; ports = c.self.inside.ports.entries; retired_datapaths = c.self.inside.retired_datapaths; retired_ports = c.self.inside.retired_ports } in
-    let edit : IsEdit before c.args.added.now c.args.removed.now = subst (λ k. IsEdit k c.args.added.now c.args.removed.now) (sym c.self.view_is) c.requires in
+    let edit : IsKeyEdit before c.args.added.now c.args.removed.now = subst (λ k. IsKeyEdit k c.args.added.now c.args.removed.now) (sym c.self.view_is) c.requires in
     let retired : IsRetired before c.args.removed.now c.in_ok-staying.staying.entries c.in_ok-ports.ports.entries c.in_ok-gone.gone c.in_ok-gone_ports.gone_ports =
     record { staying = c.in_ok-staying.ensures; staying_ports = c.in_ok-ports.ensures; retired = c.in_ok-gone.ensures; retired_ports = c.in_ok-gone_ports.ensures } in
     let made = c.in_ok-datapaths.ensures ∙ ap (λ es. put_all c.in_ok-staying.staying.entries es) c.in_ok-more.ensures.given in
@@ -70,7 +70,7 @@ returns-clause-after c =
 pub returns-clause-enough : goal.returns-clause-enough
 returns-clause-enough c =
     let before : Keys = record { datapath_range = c.self.inside.datapath_range; port_range = c.self.inside.port_range; datapaths = c.self.inside.datapaths.entries; ports = c.self.inside.ports.entries; retired_datapaths = c.self.inside.retired_datapaths; retired_ports = c.self.inside.retired_ports } in
-    let edit : IsEdit before c.args.added.now c.args.removed.now = subst (λ k. IsEdit k c.args.added.now c.args.removed.now) (sym c.self.view_is) c.requires in
+    let edit : IsKeyEdit before c.args.added.now c.args.removed.now = subst (λ k. IsKeyEdit k c.args.added.now c.args.removed.now) (sym c.self.view_is) c.requires in
     let retired : IsRetired before c.args.removed.now c.in_ok-staying.staying.entries c.in_ok-ports.ports.entries c.in_ok-gone.gone c.in_ok-gone_ports.gone_ports =
     record { staying = c.in_ok-staying.ensures; staying_ports = c.in_ok-ports.ensures; retired = c.in_ok-gone.ensures; retired_ports = c.in_ok-gone_ports.ensures } in
     let made = c.in_ok-datapaths.ensures ∙ ap (λ es. put_all c.in_ok-staying.staying.entries es) c.in_ok-more.ensures.given in

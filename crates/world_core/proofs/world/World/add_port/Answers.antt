@@ -4,7 +4,7 @@ use Rattle.ovn_base.specs.declared.address.Birth.{Birth}
 use Rattle.nb_records.specs.declared.record.Op.TheVariants.{Add}
 use Rattle.nb_records.specs.declared.record.Record.TheVariants as record_of
 use Rattle.switch_engine.specs.declared.effect.NetEffect.TheVariants as effect
-use Rattle.tunnel_keys.specs.Edits.{GivesKeys, IsEdit}
+use Rattle.tunnel_keys.specs.Edits.{GivesKeys, IsKeyEdit}
 use Rattle.tunnel_keys.specs.Keys.{Keys}
 use Rattle.tunnel_keys.specs.declared.owner.KeyOwner.TheVariants.{Port}
 use Rattle.world_core.specs.Consistent.{IsConsistent}
@@ -45,7 +45,7 @@ apply-requires c =
     record {
       added = Port p.switch p.name birth ∷ [];
       removed = [];
-      fits = subst (λ k. IsEdit k (Port p.switch p.name birth ∷ []) []) (sym c.keys_with.ensures.kept) (port_fits m old.keys old.born p.switch p.name on absent);
+      fits = subst (λ k. IsKeyEdit k (Port p.switch p.name birth ∷ []) []) (sym c.keys_with.ensures.kept) (port_fits m old.keys old.born p.switch p.name on absent);
       gives = subst (λ k. GivesKeys k (Port p.switch p.name birth ∷ []) [] c.in_ok-plan.plan) (sym c.keys_with.ensures.kept) c.in_ok-plan.ensures.after.gives;
     }
 

@@ -4,7 +4,7 @@ use Rattle.ovn_base.specs.declared.address.Birth.{Birth}
 use Rattle.nb_records.specs.declared.record.Op.TheVariants.{Add}
 use Rattle.nb_records.specs.declared.record.Record.TheVariants as record_of
 use Rattle.switch_engine.specs.declared.effect.NetEffect.TheVariants as effect
-use Rattle.tunnel_keys.specs.Edits.{GivesKeys, IsEdit}
+use Rattle.tunnel_keys.specs.Edits.{GivesKeys, IsKeyEdit}
 use Rattle.tunnel_keys.specs.Keys.{Keys}
 use Rattle.tunnel_keys.specs.declared.owner.KeyOwner.TheVariants.{Datapath}
 use Rattle.world_core.specs.Consistent.{IsConsistent}
@@ -40,7 +40,7 @@ apply-requires c =
     record {
       added = Datapath name birth ∷ [];
       removed = [];
-      fits = subst (λ k. IsEdit k (Datapath name birth ∷ []) []) (sym c.keys_with.ensures.kept) (switch_fits m old.keys old.born name absent);
+      fits = subst (λ k. IsKeyEdit k (Datapath name birth ∷ []) []) (sym c.keys_with.ensures.kept) (switch_fits m old.keys old.born name absent);
       gives = subst (λ k. GivesKeys k (Datapath name birth ∷ []) [] c.in_ok-plan.plan) (sym c.keys_with.ensures.kept) c.in_ok-plan.ensures.after.gives;
     }
 
