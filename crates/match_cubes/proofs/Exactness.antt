@@ -20,8 +20,8 @@ use Rattle.match_language.specs.declared.field.Field.{Field}
 use Rattle.match_language.specs.declared.field.Field.TheVariants as f
 use Rattle.match_language.specs.Constants.{prefix_mask}
 use Rattle.match_language.specs.Tables.{is_port_field}
-use Rattle.match_cubes.specs.declared.sets.SetEntry.{SetEntry}
-use Rattle.match_cubes.specs.declared.sets.SetEntry.TheVariants as entry
+use Rattle.ovn_base.specs.declared.address.SetEntry.{SetEntry}
+use Rattle.ovn_base.specs.declared.address.SetEntry.TheVariants as entry
 use Rattle.match_cubes.specs.Ternary.{fits, under, any_bits, turned_bits, meet_bits, meets}
 use Rattle.match_cubes.specs.Asked.{number_in, bit_width, all_packets, is_in_cube, in_one, meet}
 use Rattle.match_cubes.specs.Inwards.{meaning}

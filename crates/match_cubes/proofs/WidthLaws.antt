@@ -14,8 +14,8 @@ use Rattle.match_language.specs.declared.expr.Value.{Value}
 use Rattle.match_language.specs.declared.expr.Value.TheVariants as v
 use Rattle.match_language.specs.declared.field.Field.{Field}
 use Rattle.match_language.specs.Constants.{prefix_mask}
-use Rattle.match_cubes.specs.declared.sets.SetEntry.{SetEntry}
-use Rattle.match_cubes.specs.declared.sets.SetEntry.TheVariants as entry
+use Rattle.ovn_base.specs.declared.address.SetEntry.{SetEntry}
+use Rattle.ovn_base.specs.declared.address.SetEntry.TheVariants as entry
 use Rattle.match_cubes.specs.Ternary.{under, any_bits, turned_bits, meet_bits, meets}
 use Rattle.match_cubes.specs.Asked.{bit_width, all_packets, meet}
 use Rattle.match_cubes.specs.Points.{Setting, entry_bits, key_bits, port_bits, points_of, points}

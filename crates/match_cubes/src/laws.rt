@@ -1,15 +1,13 @@
 //! Laws of matches and packets, each on a function that does nothing: call it, and its clause is a fact of the call.
-ghost use Rattle.std.specs.Prelude.{◌≡◌, ◌↔◌, ℕ, true};
+ghost use Rattle.std.specs.Prelude.{◌≡◌, ℕ, true};
 ghost use Rattle.inet_packet.specs.Whole.{IsWhole};
 ghost use Rattle.match_language.specs.Nesting.{FitsLevels};
 ghost use Rattle.match_cubes.specs.Prefixes.{AreLargest};
 ghost use Rattle.match_cubes.specs.Suited.{are_suited, HasFieldsInRange};
 
-use crate::sets::SetEntry;
 use inet_packet::packet::Packet;
 use match_language::expr::{Expr, Rel};
 use match_language::field::Direction;
-use ovn_base::address::{exact_cidr, exact_mac};
 
 /// What the grammar lets stand has cubes: what `parse` gives meets the condition of `cubes`.
 #[tactic(auto, using(crate::proofs::SuitedLaws::fits_suited))]
@@ -28,11 +26,3 @@ pub fn whole_is_in_range()
 pub fn ranges_are_largest()
     ensures { (w : ℕ) (rel : Rel) (v : ℕ) → AreLargest w rel v }
 {}
-
-/// Entries of sets are equal exactly where they are the same.
-pub fn exact_set_entry()
-    ensures { (a b : SetEntry) → (⟦<SetEntry as PartialEq>⟧.eq a b ≡ true) ↔ (a ≡ b) }
-{
-    exact_cidr();
-    exact_mac();
-}

@@ -2,17 +2,10 @@
 ghost use Rattle.std.specs.Prelude.{◌≡◌, ◌<◌, ◌^◌, IfOk, length, slice_get, option_copied};
 ghost use Rattle.match_cubes.specs.Points as spec;
 
-use ovn_base::address::{Cidr, Mac};
+pub use ovn_base::address::SetEntry;
 use ovn_base::list::List;
 use ovn_base::memory::NoMemory;
 use ovn_base::name::Name;
-
-/// An entry of an address set.
-#[derive(Clone, Copy, PartialEq, Eq, Hash, Debug)]
-pub enum SetEntry {
-    Ip(Cidr),
-    Ether(Mac),
-}
 
 /// What the names of address sets and port groups stand for.
 #[derive(Clone, PartialEq, Eq, Hash, Debug, Drop)]

@@ -103,6 +103,13 @@ pub struct Backend {
     pub port: u16,
 }
 
+/// An entry of an address set: the IPv4 addresses of a prefix, or one Ethernet address.
+#[derive(Clone, Copy, PartialEq, Eq, Hash, Debug)]
+pub enum SetEntry {
+    Ip(Cidr),
+    Ether(Mac),
+}
+
 impl Mac {
     /// The address as a number of 48 bits, its first byte the highest.
     pub fn number(&self) -> u64
@@ -169,6 +176,15 @@ pub fn exact_backend()
     ensures order { (a b : Backend) → (is_at (⟦<Backend as Ord>⟧.cmp a) b ≡ true) ↔ (a ≡ b) }
     ensures clone { (a b : Backend) → ⟦<Backend as Clone>⟧.is_clone a b → b ≡ a }
 {}
+
+/// Equal entries of address sets are the same, by `==` and by a clone.
+pub fn exact_set_entry()
+    ensures equal { (a b : SetEntry) → (⟦<SetEntry as PartialEq>⟧.eq a b ≡ true) ↔ (a ≡ b) }
+    ensures clone { (a b : SetEntry) → ⟦<SetEntry as Clone>⟧.is_clone a b → b ≡ a }
+{
+    exact_cidr();
+    exact_mac();
+}
 
 #[cfg(test)]
 mod tests {
