@@ -1,4 +1,4 @@
-//! Laws of `==` of expressions, each on a function that does nothing: call it, and its clause is a fact of the call.
+//! Laws of `==` and of clones of expressions, each on a function that does nothing: call it, and its clause is a fact of the call.
 ghost use Rattle.std.specs.Prelude.{◌≡◌, ◌↔◌, true};
 
 use crate::expr::{Expr, Rel, Value};
@@ -25,14 +25,16 @@ pub fn exact_rel()
     ensures { (a b : Rel) → (⟦<Rel as PartialEq>⟧.eq a b ≡ true) ↔ (a ≡ b) }
 {}
 
-/// Values are equal exactly where they are the same.
+/// Values are equal exactly where they are the same, by `==` and by a clone.
 pub fn exact_value()
-    ensures { (a b : Value) → (⟦<Value as PartialEq>⟧.eq a b ≡ true) ↔ (a ≡ b) }
+    ensures equal { (a b : Value) → (⟦<Value as PartialEq>⟧.eq a b ≡ true) ↔ (a ≡ b) }
+    ensures clone { (a b : Value) → ⟦<Value as Clone>⟧.is_clone a b → b ≡ a }
 {}
 
-/// Expressions are equal exactly where they are the same.
+/// Expressions are equal exactly where they are the same, by `==` and by a clone.
 pub fn exact_expr()
-    ensures { (a b : Expr) → (⟦<Expr as PartialEq>⟧.eq a b ≡ true) ↔ (a ≡ b) }
+    ensures equal { (a b : Expr) → (⟦<Expr as PartialEq>⟧.eq a b ≡ true) ↔ (a ≡ b) }
+    ensures clone { (a b : Expr) → ⟦<Expr as Clone>⟧.is_clone a b → b ≡ a }
 {
     exact_predicate();
     exact_field();

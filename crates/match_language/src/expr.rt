@@ -7,7 +7,7 @@ use ovn_base::boxed::Boxed;
 use ovn_base::list::{Bytes, List};
 use ovn_base::memory::NoMemory;
 use ovn_base::name::Name;
-use std::alloc::Global;
+use std::alloc::{AllocError, Global};
 
 /// An expression over a packet and its ports.
 #[derive(PartialEq, Eq, Hash, Debug, Drop)]
@@ -40,7 +40,7 @@ pub enum Rel {
 }
 
 /// A value beside which a field stands.
-#[derive(PartialEq, Eq, Hash, Debug, Drop)]
+#[derive(Clone, PartialEq, Eq, Hash, Debug, Drop)]
 pub enum Value {
     /// A number, of which the bits of the mask count.
     Number { bits: u64, mask: u64 },
@@ -111,7 +111,7 @@ fn copy_all(alloc: Global, terms: &[Expr]) -> Result<List<Expr>, NoMemory>
 {
     let mut all = List::new(alloc);
     for term in terms {
-        all.push(term.copy(alloc)?)?;
+        all.push(term.copy()?)?;
     }
     Ok(all)
 }
@@ -119,20 +119,28 @@ fn copy_all(alloc: Global, terms: &[Expr]) -> Result<List<Expr>, NoMemory>
 impl Expr {
     /// An equal expression in memory of its own.
     #[cycle(copies)]
-    pub fn copy(&self, alloc: Global) -> Result<Expr, NoMemory>
+    pub fn copy(&self) -> Result<Expr, NoMemory>
         ensures { IfOk result (λ x. x ≡ self.now) }
     {
         match self {
             Expr::Const(truth) => Ok(Expr::Const(*truth)),
             Expr::Is(predicate) => Ok(Expr::Is(*predicate)),
-            Expr::Not(term) => Ok(Expr::Not(Boxed::new(alloc, term.get().copy(alloc)?)?)),
-            Expr::All(terms) => Ok(Expr::All(copy_all(alloc, terms.as_slice())?)),
-            Expr::Any(terms) => Ok(Expr::Any(copy_all(alloc, terms.as_slice())?)),
+            Expr::Not(term) => Ok(Expr::Not(Boxed::new(term.allocator(), term.get().copy()?)?)),
+            Expr::All(terms) => Ok(Expr::All(copy_all(terms.allocator(), terms.as_slice())?)),
+            Expr::Any(terms) => Ok(Expr::Any(copy_all(terms.allocator(), terms.as_slice())?)),
             Expr::Compare { field, rel, values } => Ok(Expr::Compare {
                 field: *field,
                 rel: *rel,
-                values: copy_values(alloc, values.as_slice())?,
+                values: copy_values(values.allocator(), values.as_slice())?,
             }),
         }
+    }
+}
+
+impl Clone for Expr {
+    ghost is_clone = { λ a b. b ≡ a };
+
+    fn clone(&self) -> Result<Self, AllocError> {
+        self.copy().map_err(|_| AllocError)
     }
 }
