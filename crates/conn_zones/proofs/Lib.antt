@@ -1,0 +1,10 @@
+-- Lemmas.
+pub mod Lists
+pub mod ChangeLaws
+pub mod FreeLaws
+pub mod PlaceLaws
+pub mod GivingLaws
+pub mod ZoneLists
+pub mod Rezoned
+pub mod Determined
+pub mod ForCallers

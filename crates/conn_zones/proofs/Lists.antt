@@ -1,0 +1,121 @@
+-- Lists without repeats, and lists in order of name.
+use Rattle.std.specs.Prelude.{◌≡◌, ◌≤◌, ◌+◌, suc, Bool, true, false, cond, List, [], ◌∷◌, ◌++◌, length, map, filter, Some, refl}
+use mathlib.Core.Path.{sym, ap, subst, ◌∙◌}
+use mathlib.Core.Logic.{inl, inr}
+use native.Mathlib.Omega.{arith}
+use Rattle.std.specs.Cmp.Lexicographic.{slice_cmp}
+use Rattle.std.specs.List.Sorted.{IsStrictlySortedBy}
+use Rattle.std.specs.Ordering.{nat_cmp}
+use Rattle.std.specs.declared.cmp.Ordering.TheVariants.{Less}
+use Rattle.std.proofs.lemmas.Cmp.{nat_list_cmp_total}
+use Rattle.std.proofs.lemmas.List.{length-append}
+use Rattle.ovn_base.specs.declared.name.Name.{Name}
+use Rattle.ovn_base.specs.lists.Among.{Among, here, there}
+use Rattle.ovn_base.specs.lists.Once.{EachOnce}
+use Rattle.ovn_base.specs.names.ByName.{at, IsByName}
+use Rattle.ovn_base.proofs.AmongLaws.{among_none, among_cases, among_append, among_left, among_right, among_map, map_among, among_filter, filter_among, among_split}
+use Rattle.ovn_base.proofs.ByNameLaws.{at_among, among_at, above_among, below_apart}
+
+module _ {X : Type 0} where
+  -- two lists that have nothing in common
+  pub once_append : (xs ys : List X) → EachOnce xs → EachOnce ys → ((x : X) → Among x xs → ¬ Among x ys) → EachOnce (xs ++ ys)
+  once_append [] ys h k apart = k
+  once_append (x ∷ xs) ys h k apart = (
+    λ m. elim (among_append x xs ys m) [ inl a ↦ h.0 a | inr b ↦ apart x here b ],
+    once_append xs ys h.1 k (λ z m. apart z (there m)),
+  )
+
+  -- without one of them
+  between : (x z : X) (before after : List X) → Among z (before ++ x ∷ after) → ¬ (z ≡ x) → Among z (before ++ after)
+  between x z before after m other = elim (among_append z before (x ∷ after) m) [
+    | inl a ↦ among_left z before after a
+    | inr b ↦ elim (among_cases z x after b) [ inl same ↦ absurd (other same) | inr c ↦ among_right z before after c ]
+  ]
+
+  -- a list without repeats is no longer than one that has all its elements
+  pub once_few : (xs ys : List X) → EachOnce xs → ((x : X) → Among x xs → Among x ys) → length xs ≤ length ys
+  once_few [] ys once h = omega arith
+  once_few (x ∷ xs) ys once h =
+      let s = among_split x ys (h x here) in
+      let fewer = once_few xs (s.0 ++ s.1) once.1 (λ z m. between x z s.0 s.1 (subst (λ l. Among z l) s.2 (h z (there m))) (λ same. once.0 (subst (λ y. Among y xs) same m))) in
+      let long : length ys ≡ length s.0 + suc (length s.1) = ap (λ (l : List X). length l) s.2 ∙ length-append s.0 (x ∷ s.1) in
+      let short = length-append s.0 s.1 in
+      omega (arith, fewer, long, short)
+
+module _ {X Y : Type 0} (f : X → Y) (test : X → Bool) where
+  -- those that pass a test
+  pub once_filter : (xs : List X) → EachOnce (map f xs) → EachOnce (map f (filter test xs))
+  once_filter [] h = tt
+  once_filter (x ∷ xs) h = by (test x) (once_filter xs h.1)
+    where
+      by : (b : Bool) → EachOnce (map f (filter test xs)) → EachOnce (map f (cond b (x ∷ filter test xs) (filter test xs)))
+      by true rest = (
+        λ m. let r = map_among f (f x) (filter test xs) m in
+            let kept = filter_among test r.0 xs r.1 in
+            h.0 (subst (λ y. Among y (map f xs)) (sym r.2) (among_map f r.0 xs kept.0)),
+        rest,
+      )
+      by false rest = rest
+
+module _ {X : Type 0} where
+  -- ---- lists in order of name
+
+  pub first_below : (e : Name × X) (es : List (Name × X)) → IsByName (e ∷ es) → (f : Name × X) → Among f es → slice_cmp nat_cmp e.0 f.0 ≡ Less
+  unfolding IsStrictlySortedBy
+  first_below e es s f m = above_among e.0 f.0 f.1 es s.0 m
+
+  pub rest_sorted : (e : Name × X) (es : List (Name × X)) → IsByName (e ∷ es) → IsByName es
+  unfolding IsStrictlySortedBy
+  rest_sorted e es s = s.1
+
+  -- no two are each below the other
+  not_both : (e f : Name × X) → slice_cmp nat_cmp e.0 f.0 ≡ Less → ¬ (slice_cmp nat_cmp f.0 e.0 ≡ Less)
+  not_both e f h k = below_apart e.0 e.0 (nat_list_cmp_total.trans e.0 f.0 e.0 h k) refl
+
+  same_first : (e f : Name × X) (es fs : List (Name × X)) → IsByName (e ∷ es) → IsByName (f ∷ fs) → Among e (f ∷ fs) → Among f (e ∷ es) → e ≡ f
+  same_first e f es fs s t m n = elim (among_cases e f fs m) [
+    | inl same ↦ same
+    | inr behind ↦ elim (among_cases f e es n) [
+      | inl same ↦ sym same
+      | inr also ↦ absurd (not_both f e (first_below f fs t e behind) (first_below e es s f also))
+    ]
+  ]
+
+  behind_too : (e f : Name × X) (es fs : List (Name × X)) → e ≡ f → IsByName (e ∷ es) → (g : Name × X) → Among g es → Among g (f ∷ fs) → Among g fs
+  behind_too e f es fs same s g m n = elim (among_cases g f fs n) [
+    | inl first ↦ absurd (below_apart e.0 g.0 (first_below e es s g m) (ap (λ (x : Name × X). x.0) (first ∙ sym same)))
+    | inr k ↦ k
+  ]
+
+  same_entries : (es fs : List (Name × X)) → IsByName es → IsByName fs → ((e : Name × X) → Among e es → Among e fs) → ((e : Name × X) → Among e fs → Among e es) → es ≡ fs
+  same_entries [] [] s t there_too here_too = refl
+  same_entries [] (f ∷ fs) s t there_too here_too = absurd (among_none f (here_too f here))
+  same_entries (e ∷ es) [] s t there_too here_too = absurd (among_none e (there_too e here))
+  same_entries (e ∷ es) (f ∷ fs) s t there_too here_too =
+      let same = same_first e f es fs s t (there_too e here) (here_too f here) in
+      let rest = same_entries es fs (rest_sorted e es s) (rest_sorted f fs t)
+      (λ g m. behind_too e f es fs same s g m (there_too g (there m)))
+      (λ g m. behind_too f e fs es (sym same) t g m (here_too g (there m))) in
+      λ i. same i ∷ rest i
+
+  -- those in which the same is found are the same
+  pub same_found : (es fs : List (Name × X)) → IsByName es → IsByName fs → ((n : Name) (v : X) → at es n ≡ Some v → at fs n ≡ Some v) → ((n : Name) (v : X) → at fs n ≡ Some v → at es n ≡ Some v) → es ≡ fs
+  same_found es fs s t there_too here_too =
+      same_entries es fs s t
+      (λ e m. at_among fs e.0 e.1 (there_too e.0 e.1 (among_at e.0 e.1 es s m)))
+      (λ e m. at_among es e.0 e.1 (here_too e.0 e.1 (among_at e.0 e.1 fs t m)))
+
+  -- what is found among those that pass a test
+  pub found_kept : (test : Name × X → Bool) (es : List (Name × X)) → IsByName es → (n : Name) (v : X) → at (filter test es) n ≡ Some v → (at es n ≡ Some v) × (test (n, v) ≡ true)
+  found_kept test es s n v h = let m = filter_among test (n, v) es (at_among (filter test es) n v h) in (among_at n v es s m.0, m.1)
+
+  pub kept_found : (test : Name × X → Bool) (es : List (Name × X)) → IsByName (filter test es) → (n : Name) (v : X) → at es n ≡ Some v → test (n, v) ≡ true → at (filter test es) n ≡ Some v
+  kept_found test es s n v h e = among_at n v (filter test es) s (among_filter test (n, v) es (at_among es n v h) e)
+
+  -- images of entries that tell their names stand once
+  pub once_named : {Y : Type 0} (f : Name × X → Y) → ((d e : Name × X) → f d ≡ f e → d.0 ≡ e.0) → (es : List (Name × X)) → IsByName es → EachOnce (map f es)
+  once_named f tells [] s = tt
+  once_named f tells (e ∷ es) s = (
+    λ m. let r = map_among f (f e) es m in below_apart e.0 r.0.0 (first_below e es s r.0 r.1) (sym (tells e r.0 r.2)),
+    once_named f tells es (rest_sorted e es s),
+  )

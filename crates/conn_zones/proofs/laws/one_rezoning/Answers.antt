@@ -1,0 +1,5 @@
+use Rattle.conn_zones.proofs.Determined.{one_result}
+use Rattle.conn_zones.proofs.laws.one_rezoning.Goals as goal
+
+pub returns : goal.returns
+returns c = one_result

@@ -1,0 +1,129 @@
+//! How zones get numbers.
+ghost use Rattle.std.specs.Prelude.{◌≡◌, ◌++◌, ◌∷◌, ◌<◌, ◌≤◌, [], IfOk, OnOk, cond, length};
+ghost use Rattle.std.specs.List.Sorted.{IsNonDecreasing, IsPermutation};
+ghost use Rattle.ovn_base.specs.lists.Among.{Among};
+ghost use Rattle.ovn_base.specs.names.SameName.{same_name};
+ghost use Rattle.conn_zones.specs.declared.numbers.TheConstants.{MAX_ZONE};
+ghost use Rattle.conn_zones.specs.Rezoning.{IsLeastFree};
+ghost use Rattle.conn_zones.specs.Giving.{put_place, numbers_in, numbers_of, IsGivenOne, AreGiven, HaveNumbers};
+
+use crate::numbers::{ZoneNumbers, ZonePlace, ZoneUse};
+use ovn_base::list::List;
+use ovn_base::memory::NoMemory;
+use ovn_base::name::Name;
+use std::alloc::Global;
+use std::collections::BTreeMap;
+
+// Puts the number behind the others, if it is one of the chassis.
+fn push_number(taken: &mut List<u16>, place: &ZonePlace, chassis: &Name) -> Result<(), NoMemory>
+    ensures { OnOk result (taken.new ≡ taken.old ++ cond (same_name place.now.chassis chassis.now) (place.now.number ∷ []) []) }
+{
+    if place.chassis == *chassis {
+        taken.push(place.number)?;
+        return Ok(());
+    }
+    Ok(())
+}
+
+// Puts the numbers of the chassis behind the others.
+fn push_numbers(
+    taken: &mut List<u16>,
+    places: &BTreeMap<Name, ZonePlace>,
+    chassis: &Name,
+) -> Result<(), NoMemory>
+    ensures { OnOk result (taken.new ≡ taken.old ++ numbers_in places.now.entries chassis.now) }
+{
+    'places: for (_, place) in places {
+        push_number(taken, place, chassis)?;
+    }
+    Ok(())
+}
+
+// The numbers of the chassis.
+fn numbers_of(alloc: Global, numbers: &ZoneNumbers, chassis: &Name) -> Result<List<u16>, NoMemory>
+    ensures { IfOk result (λ l. l ≡ numbers_of numbers.now chassis.now) }
+{
+    let mut taken = List::new(alloc);
+    push_numbers(&mut taken, &numbers.ports, chassis)?;
+    push_numbers(&mut taken, &numbers.dnat, chassis)?;
+    push_numbers(&mut taken, &numbers.snat, chassis)?;
+    Ok(taken)
+}
+
+// The numbers, the least first.
+fn in_rising_order(alloc: Global, numbers: &[u16]) -> Result<Vec<u16>, NoMemory>
+    ensures rising { IfOk result (λ v. IsNonDecreasing v.items) }
+    ensures same { IfOk result (λ v. IsPermutation numbers.now v.items) }
+{
+    let mut rising = Vec::from_slice(alloc, numbers)?;
+    rising.sort_unstable();
+    Ok(rising)
+}
+
+// The least number from 1 on that isn't one of these, which rise.
+fn least_free(rising: &[u16]) -> u16
+    requires rising { IsNonDecreasing rising.now }
+    requires few { length rising.now < MAX_ZONE }
+    ensures least { IsLeastFree (λ m. Among m rising.now) result }
+    ensures few { result ≤ MAX_ZONE }
+{
+    let mut free = 1;
+    'rising: for number in rising {
+        if free < *number {
+            return free;
+        }
+        if free == *number {
+            free += 1;
+        }
+    }
+    free
+}
+
+impl ZoneNumbers {
+    // Gives the zone this place.
+    fn put(&mut self, zone: &ZoneUse, place: ZonePlace) -> Result<(), NoMemory>
+        ensures { OnOk result (self.new ≡ put_place self.old zone.now place) }
+    {
+        match zone {
+            ZoneUse::Port(name) => self.ports.insert(*name, place)?,
+            ZoneUse::Dnat(name) => self.dnat.insert(*name, place)?,
+            ZoneUse::Snat(name) => self.snat.insert(*name, place)?,
+        };
+        Ok(())
+    }
+}
+
+// Gives the zone the least number that is free on the chassis.
+fn give(
+    alloc: Global,
+    numbers: &mut ZoneNumbers,
+    zone: &ZoneUse,
+    chassis: &Name,
+) -> Result<(), NoMemory>
+    requires { length (numbers_of numbers.old chassis.now) < MAX_ZONE }
+    ensures { OnOk result (IsGivenOne numbers.old zone.now chassis.now numbers.new) }
+{
+    let taken = numbers_of(alloc, numbers, chassis)?;
+    let rising = in_rising_order(alloc, taken.as_slice())?;
+    let number = least_free(rising.as_slice());
+    let place = ZonePlace {
+        chassis: *chassis,
+        number,
+    };
+    numbers.put(zone, place)
+}
+
+// Gives each of the zones in turn the least number that is free on its chassis.
+pub(crate) fn give_each(
+    alloc: Global,
+    numbers: &mut ZoneNumbers,
+    zones: &[(ZoneUse, Name)],
+) -> Result<(), NoMemory>
+    requires { HaveNumbers numbers.old zones.now }
+    ensures { OnOk result (AreGiven numbers.old zones.now numbers.new) }
+{
+    'zones: for (zone, chassis) in zones {
+        give(alloc, numbers, zone, chassis)?;
+    }
+    Ok(())
+}
