@@ -1,0 +1,10 @@
+//! Tests of lists of connections from outside them: tuples of frames, connections both ways, their ends, and frames before and
+//! after translation.
+#![tactic(auto)]
+
+#[cfg(test)]
+mod frames;
+#[cfg(test)]
+mod lists;
+#[cfg(test)]
+mod tracker;
