@@ -7,8 +7,8 @@ use Rattle.serde_json.specs.View.{view, items_of, items_view}
 use Rattle.serde_json.specs.declared.value.Value.{Value}
 use Rattle.ovn_base.specs.declared.address.Ip4.{Ip4}
 use Rattle.ovn_base.specs.declared.address.Mac.{Mac}
-use Rattle.nb_records.specs.declared.record.PortAddress.{PortAddress}
-use Rattle.nb_records.specs.declared.record.PortAddress.TheVariants.{Ether, Unknown}
+use Rattle.nb_records.specs.declared.switch.PortAddress.{PortAddress}
+use Rattle.nb_records.specs.declared.switch.PortAddress.TheVariants.{Ether, Unknown, Router}
 use Rattle.edit_reader.specs.Reads.{SpellsEther, SpellsEntry, IsAddressList}
 use Rattle.edit_reader.proofs.Shapes.{same_array}
 
@@ -16,6 +16,7 @@ use Rattle.edit_reader.proofs.Shapes.{same_array}
 pub no_entry : (text : List ℕ) → ¬ (text ≡ codes "unknown") → ((ether : Mac × List Ip4) → ¬ SpellsEther text ether.0 ether.1) → (entry : PortAddress) → ¬ SpellsEntry text entry
 no_entry text apart none (Ether mac ips) h = none (mac, ips) h
 no_entry text apart none Unknown h = apart h
+no_entry text apart none Router h = h
 
 -- the values are texts, and spell the addresses
 pub record AreRead (vs : List Value) (addresses : List PortAddress) : Type 0 where

@@ -14,13 +14,13 @@ use Rattle.ovn_base.specs.declared.address.Mac.{Mac}
 use Rattle.ovn_base.specs.declared.address.Ip4.{Ip4}
 use Rattle.ovn_base.specs.declared.address.Birth.{Birth}
 use Rattle.ovn_base.proofs.AddressLemmas.{same_mac, same_ip4}
-use Rattle.nb_records.specs.declared.record.Switch.{Switch}
-use Rattle.nb_records.specs.declared.record.SwitchPort.{SwitchPort}
-use Rattle.nb_records.specs.declared.record.PortAddress.{PortAddress}
-use Rattle.nb_records.specs.declared.record.PortAddress.TheVariants.{Ether, Unknown}
+use Rattle.nb_records.specs.declared.switch.Switch.{Switch}
+use Rattle.nb_records.specs.declared.switch.SwitchPort.{SwitchPort}
+use Rattle.nb_records.specs.declared.switch.PortAddress.{PortAddress}
+use Rattle.nb_records.specs.declared.switch.PortAddress.TheVariants.{Ether, Unknown, Router}
 use Rattle.nb_records.specs.declared.record.Record.{Record}
 use Rattle.nb_records.specs.declared.record.Record.TheVariants as kind
-use Rattle.nb_records.specs.declared.record.Op.TheVariants.{Add}
+use Rattle.nb_records.specs.declared.change.Op.TheVariants.{Add}
 use Rattle.edit_reader.specs.declared.event.Event.{Event}
 use Rattle.edit_reader.specs.declared.event.Event.TheVariants.{Edit, Bind, AddChassis, Inject, Deliver, Lose, Repeat, Drain, Packet}
 use Rattle.edit_reader.specs.Reads.{SpellsEntry, AreListed, object_with, port_object, AddsSwitch, AddsPort, Adds, IsEdit, IsChassis, IsBind, IsPacketForm, IsOfFrame, IsDrain, IsForm, Reads, ReadsLine}
@@ -53,6 +53,9 @@ same_entry text (Ether mac ips) (Ether other others) h k =
 same_entry text (Ether mac ips) Unknown h k = absurd (not_unknown text mac ips k h)
 same_entry text Unknown (Ether mac ips) h k = absurd (not_unknown text mac ips h k)
 same_entry text Unknown Unknown h k = refl
+same_entry text Router b h k = absurd h
+same_entry text (Ether mac ips) Router h k = absurd k
+same_entry text Unknown Router h k = absurd k
 
 same_entries : (texts : List (List ℕ)) (a b : List PortAddress) → AllZip SpellsEntry texts a → AllZip SpellsEntry texts b → a ≡ b
 same_entries [] [] [] h k = refl
@@ -101,7 +104,16 @@ same_port d a b h k =
     let switch = same_text a.switch b.switch parts.1 in
     let birth = same_birth a.birth b.birth h.unborn k.unborn in
     let addresses = same_lists k.list a.addresses b.addresses (subst (λ l. AreListed l a.addresses) parts.2 h.lists) k.lists in
-    λ i. record { name = name i; birth = birth i; switch = switch i; addresses = addresses i }
+    λ i. record {
+      name = name i;
+      birth = birth i;
+      switch = switch i;
+      kind = (h.defaults.kind ∙ sym k.defaults.kind) i;
+      router_port = (h.defaults.router_port ∙ sym k.defaults.router_port) i;
+      addresses = addresses i;
+      port_security = (h.defaults.port_security ∙ sym k.defaults.port_security) i;
+      enabled = (h.defaults.enabled ∙ sym k.defaults.enabled) i;
+    }
 
 one_kind : (d : Data) (a : Switch) (b : SwitchPort) → AddsSwitch d a → ¬ AddsPort d b
 one_kind d a b h k = by k.list (sym h.members ∙ k.has_port.members)
@@ -115,6 +127,33 @@ same_row d (kind.Switch a) (kind.Switch b) h k = ap kind.Switch (same_switch d a
 same_row d (kind.Switch a) (kind.SwitchPort b) h k = absurd (one_kind d a b h k)
 same_row d (kind.SwitchPort a) (kind.Switch b) h k = absurd (one_kind d b a k h)
 same_row d (kind.SwitchPort a) (kind.SwitchPort b) h k = ap kind.SwitchPort (same_port d a b h k)
+same_row d (kind.Router a) b h k = absurd h
+same_row d (kind.RouterPort a) b h k = absurd h
+same_row d (kind.AddressSet a) b h k = absurd h
+same_row d (kind.PortGroup a) b h k = absurd h
+same_row d (kind.Acl a) b h k = absurd h
+same_row d (kind.Route a) b h k = absurd h
+same_row d (kind.Nat a) b h k = absurd h
+same_row d (kind.LoadBalancer a) b h k = absurd h
+same_row d (kind.StaticMac a) b h k = absurd h
+same_row d (kind.Switch x) (kind.Router b) h k = absurd k
+same_row d (kind.Switch x) (kind.RouterPort b) h k = absurd k
+same_row d (kind.Switch x) (kind.AddressSet b) h k = absurd k
+same_row d (kind.Switch x) (kind.PortGroup b) h k = absurd k
+same_row d (kind.Switch x) (kind.Acl b) h k = absurd k
+same_row d (kind.Switch x) (kind.Route b) h k = absurd k
+same_row d (kind.Switch x) (kind.Nat b) h k = absurd k
+same_row d (kind.Switch x) (kind.LoadBalancer b) h k = absurd k
+same_row d (kind.Switch x) (kind.StaticMac b) h k = absurd k
+same_row d (kind.SwitchPort x) (kind.Router b) h k = absurd k
+same_row d (kind.SwitchPort x) (kind.RouterPort b) h k = absurd k
+same_row d (kind.SwitchPort x) (kind.AddressSet b) h k = absurd k
+same_row d (kind.SwitchPort x) (kind.PortGroup b) h k = absurd k
+same_row d (kind.SwitchPort x) (kind.Acl b) h k = absurd k
+same_row d (kind.SwitchPort x) (kind.Route b) h k = absurd k
+same_row d (kind.SwitchPort x) (kind.Nat b) h k = absurd k
+same_row d (kind.SwitchPort x) (kind.LoadBalancer b) h k = absurd k
+same_row d (kind.SwitchPort x) (kind.StaticMac b) h k = absurd k
 
 -- ---- events
 

@@ -1,5 +1,5 @@
 -- Which event a JSON value asks for.
-use Rattle.std.specs.Prelude.{◌≡◌, ◌≢◌, ◌≤◌, ◌+◌, ◌*◌, ◌==◌, ℕ, List, [], ◌∷◌, length, map, codes, slice_index, Option, Some, None, Ok}
+use Rattle.std.specs.Prelude.{◌≡◌, ◌≢◌, ◌≤◌, ◌+◌, ◌*◌, ◌==◌, ℕ, true, List, [], ◌∷◌, length, map, codes, slice_index, Option, Some, None, Ok}
 use Rattle.std.specs.List.{AllZip, slice_split}
 use Rattle.std.specs.Str.{IsUtf8}
 use Rattle.ovn_base.specs.declared.limits.TheConstants.{MIN_FRAME, MAX_FRAME}
@@ -13,13 +13,14 @@ use Rattle.ovn_base.specs.addresses.AddressText.{SpellsMac, SpellsIp4}
 use Rattle.ovn_base.specs.declared.name.Name.{Name}
 use Rattle.ovn_base.specs.declared.address.Mac.{Mac}
 use Rattle.ovn_base.specs.declared.address.Ip4.{Ip4}
-use Rattle.nb_records.specs.declared.record.Switch.{Switch}
-use Rattle.nb_records.specs.declared.record.SwitchPort.{SwitchPort}
-use Rattle.nb_records.specs.declared.record.PortAddress.{PortAddress}
-use Rattle.nb_records.specs.declared.record.PortAddress.TheVariants.{Ether, Unknown}
+use Rattle.nb_records.specs.declared.switch.Switch.{Switch}
+use Rattle.nb_records.specs.declared.switch.SwitchPort.{SwitchPort}
+use Rattle.nb_records.specs.declared.switch.PortAddress.{PortAddress}
+use Rattle.nb_records.specs.declared.switch.PortKind.TheVariants as port_kind
+use Rattle.nb_records.specs.declared.switch.PortAddress.TheVariants.{Ether, Unknown, Router}
 use Rattle.nb_records.specs.declared.record.Record.{Record}
 use Rattle.nb_records.specs.declared.record.Record.TheVariants as kind
-use Rattle.nb_records.specs.declared.record.Op.TheVariants.{Add}
+use Rattle.nb_records.specs.declared.change.Op.TheVariants.{Add}
 use Rattle.edit_reader.specs.declared.event.Event.{Event}
 use Rattle.edit_reader.specs.declared.event.Event.TheVariants.{Edit, Bind, AddChassis, Inject, Deliver, Lose, Repeat, Drain, Packet, NotBuilt}
 
@@ -62,6 +63,7 @@ pub record SpellsEther (text : List ℕ) (mac : Mac) (ips : List Ip4) : Type 0 w
 abbrev pub SpellsEntry : List ℕ → PortAddress → Type 0
 SpellsEntry text (Ether mac ips) = SpellsEther text mac ips
 SpellsEntry text Unknown = text ≡ codes "unknown"
+SpellsEntry text Router = ⊥
 
 -- the value is an array of texts, and they are these entries
 pub record IsAddressList (d : Data) (addresses : List PortAddress) : Type 0 where
@@ -95,17 +97,26 @@ pub record HasPort (d : Data) (name switch : Name) (list : Option Data) : Type 0
   pub is_name : IsName name
   pub is_switch_name : IsName switch
 
+-- what the operation doesn't say of the port is as it is by default
+pub record HasDefaults (port : SwitchPort) : Type 0 where
+  pub kind : port.kind ≡ port_kind.Virtual
+  pub router_port : port.router_port ≡ None
+  pub port_security : port.port_security ≡ []
+  pub enabled : port.enabled ≡ true
+
 -- such an operation: the port, before its birth is known
 pub record AddsPort (d : Data) (port : SwitchPort) : Type 0 where
   pub list : Option Data
   pub has_port : HasPort d port.name port.switch list
   pub unborn : port.birth.0 ≡ 0
   pub lists : AreListed list port.addresses
+  pub defaults : HasDefaults port
 
 -- the operation adds the record
 abbrev pub Adds : Data → Record → Type 0
 Adds d (kind.Switch switch) = AddsSwitch d switch
 Adds d (kind.SwitchPort port) = AddsPort d port
+Adds d _ = ⊥
 
 -- 14 to 9,216 bytes of a type other than IPv4 and ARP
 pub record IsPlainFrame (frame : List ℕ) : Type 0 where

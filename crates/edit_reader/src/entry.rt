@@ -7,7 +7,7 @@ ghost use Rattle.edit_reader.specs.Finds.{Finds};
 ghost use Rattle.edit_reader.specs.Reads.{AreListed, IsAddressList, SpellsEntry, SpellsEther, pieces_left};
 
 use crate::members::{items_of, text_of};
-use nb_records::record::PortAddress;
+use nb_records::switch::PortAddress;
 use ovn_base::address::{Ip4, Mac};
 use ovn_base::list::List;
 use ovn_base::memory::NoMemory;

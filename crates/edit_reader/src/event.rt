@@ -1,7 +1,8 @@
 //! What a line asks for.
 ghost use Rattle.std.specs.Prelude.{◌≡◌, IfOk};
 
-use nb_records::record::Op;
+use nb_records::change::Op;
+use nb_records::exact::exact_op;
 use ovn_base::list::{Bytes, List};
 use ovn_base::memory::NoMemory;
 use ovn_base::name::Name;
@@ -81,7 +82,10 @@ impl Event {
         ensures { IfOk result (λ event. event ≡ self.now) }
     {
         match self {
-            Event::Edit(ops) => Ok(Event::Edit(ops.copy()?)),
+            Event::Edit(ops) => {
+                exact_op();
+                Ok(Event::Edit(ops.copy()?))
+            }
             Event::Bind { port, chassis } => Ok(Event::Bind {
                 port: *port,
                 chassis: *chassis,

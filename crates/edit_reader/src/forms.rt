@@ -13,7 +13,8 @@ use crate::members::{
     three_members, two_members,
 };
 use hex::FromHexError;
-use nb_records::record::{Record, Switch, SwitchPort};
+use nb_records::record::Record;
+use nb_records::switch::{PortKind, Switch, SwitchPort};
 use ovn_base::address::Birth;
 use ovn_base::limits::{MAX_FRAME, MIN_FRAME};
 use ovn_base::list::{Bytes, List};
@@ -92,7 +93,11 @@ fn added_port(alloc: Global, op: &Value) -> Result<Option<SwitchPort>, NoMemory>
         name,
         birth: Birth(0),
         switch,
+        kind: PortKind::Virtual,
+        router_port: None,
         addresses,
+        port_security: List::new(alloc),
+        enabled: true,
     }))
 }
 

@@ -7,7 +7,7 @@ ghost use Rattle.edit_reader.specs.declared.event.Event.{Event};
 
 use crate::event::{Event, ReadError, ReadRefusal};
 use crate::forms::{added_chassis, bound, edited, entered, is_drain, numbered};
-use nb_records::record::Op;
+use nb_records::change::Op;
 use ovn_base::list::List;
 use ovn_base::memory::NoMemory;
 use serde_json::Value;

@@ -1,6 +1,8 @@
 use crate::event::{Event, ReadError, ReadRefusal};
 use crate::read::read_event;
-use nb_records::record::{Op, PortAddress, Record, Switch, SwitchPort};
+use nb_records::change::Op;
+use nb_records::record::Record;
+use nb_records::switch::{PortAddress, PortKind, Switch, SwitchPort};
 use ovn_base::address::{Birth, Ip4, Mac};
 use ovn_base::list::List;
 use ovn_base::memory::NoMemory;
@@ -26,20 +28,20 @@ fn port(alloc: Global, called: &[u8], last: u8) -> Result<Record, NoMemory> {
         mac: Mac([10, 0, 0, 0, 0, last]),
         ips,
     })?;
-    Ok(Record::SwitchPort(SwitchPort {
-        name: name(called)?,
-        birth: Birth(0),
-        switch: name(b"s0")?,
-        addresses,
-    }))
+    Ok(port_with(name(called)?, name(b"s0")?, addresses))
 }
 
 fn port_with(name: Name, switch: Name, addresses: List<PortAddress>) -> Record {
+    let port_security = List::new(addresses.allocator());
     Record::SwitchPort(SwitchPort {
         name,
         birth: Birth(0),
         switch,
+        kind: PortKind::Virtual,
+        router_port: None,
         addresses,
+        port_security,
+        enabled: true,
     })
 }
 

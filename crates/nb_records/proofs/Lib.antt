@@ -1,1 +1,3 @@
 -- Lemmas.
+pub mod Served
+pub mod Tests

@@ -1,7 +1,15 @@
-//! The northbound records, ordered by name.
+//! The northbound records, each kind in order of name, and what follows from them.
 #![tactic(auto)]
 
+pub mod answers;
+pub mod balancer;
+pub mod change;
+pub mod exact;
+pub mod kinds;
 pub mod record;
 pub mod records;
+pub mod router;
+pub mod rule;
+pub mod switch;
 #[cfg(test)]
 mod tests;

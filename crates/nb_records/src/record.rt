@@ -1,85 +1,26 @@
-//! The kinds of records, and the operations of an edit.
+//! Records of any kind.
 ghost use Rattle.std.specs.Prelude.{◌≡◌, IfOk};
 
-use ovn_base::address::{Birth, Ip4, Mac};
-use ovn_base::list::List;
+use crate::balancer::LoadBalancer;
+use crate::router::{Nat, Route, Router, RouterPort, StaticMac};
+use crate::rule::{Acl, AddressSet, PortGroup};
+use crate::switch::{Switch, SwitchPort};
 use ovn_base::memory::NoMemory;
-use ovn_base::name::Name;
-
-/// A logical switch.
-#[derive(Clone, Copy, PartialEq, Eq, Debug)]
-pub struct Switch {
-    pub name: Name,
-    pub birth: Birth,
-}
-
-/// A port of a switch, with the addresses of what is behind it.
-#[derive(Clone, PartialEq, Eq, Debug, Drop)]
-pub struct SwitchPort {
-    pub name: Name,
-    pub birth: Birth,
-    /// The name of the port's switch.
-    pub switch: Name,
-    pub addresses: List<PortAddress>,
-}
-
-/// An entry of a port's addresses.
-#[derive(Clone, PartialEq, Eq, Debug, Drop)]
-pub enum PortAddress {
-    /// An Ethernet address, with the IPv4 addresses that it answers for.
-    Ether { mac: Mac, ips: List<Ip4> },
-    /// The port also gets what goes to an address that no port of the switch has.
-    Unknown,
-}
 
 /// A record of any kind.
 #[derive(Clone, PartialEq, Eq, Debug, Drop)]
 pub enum Record {
     Switch(Switch),
+    Router(Router),
+    RouterPort(RouterPort),
     SwitchPort(SwitchPort),
-}
-
-/// The kinds of records, in the order in which they are listed.
-#[derive(Clone, Copy, PartialEq, Eq, PartialOrd, Ord, Debug)]
-pub enum Kind {
-    Switch,
-    SwitchPort,
-}
-
-/// An operation of an edit.
-#[derive(Clone, PartialEq, Eq, Debug, Drop)]
-pub enum Op {
-    /// The record comes. Its birth is set when the edit is taken.
-    Add(Record),
-}
-
-impl PortAddress {
-    /// An equal entry in memory of its own.
-    pub fn copy(&self) -> Result<PortAddress, NoMemory>
-        ensures { IfOk result (λ a. a ≡ self.now) }
-    {
-        match self {
-            PortAddress::Ether { mac, ips } => Ok(PortAddress::Ether {
-                mac: *mac,
-                ips: ips.copy()?,
-            }),
-            PortAddress::Unknown => Ok(PortAddress::Unknown),
-        }
-    }
-}
-
-impl SwitchPort {
-    /// An equal port in memory of its own.
-    pub fn copy(&self) -> Result<SwitchPort, NoMemory>
-        ensures { IfOk result (λ p. p ≡ self.now) }
-    {
-        Ok(SwitchPort {
-            name: self.name,
-            birth: self.birth,
-            switch: self.switch,
-            addresses: self.addresses.copy()?,
-        })
-    }
+    AddressSet(AddressSet),
+    PortGroup(PortGroup),
+    Acl(Acl),
+    Route(Route),
+    Nat(Nat),
+    LoadBalancer(LoadBalancer),
+    StaticMac(StaticMac),
 }
 
 impl Record {
@@ -89,18 +30,16 @@ impl Record {
     {
         match self {
             Record::Switch(switch) => Ok(Record::Switch(*switch)),
+            Record::Router(router) => Ok(Record::Router(*router)),
+            Record::RouterPort(port) => Ok(Record::RouterPort(port.copy()?)),
             Record::SwitchPort(port) => Ok(Record::SwitchPort(port.copy()?)),
-        }
-    }
-}
-
-impl Op {
-    /// An equal operation in memory of its own.
-    pub fn copy(&self) -> Result<Op, NoMemory>
-        ensures { IfOk result (λ op. op ≡ self.now) }
-    {
-        match self {
-            Op::Add(record) => Ok(Op::Add(record.copy()?)),
+            Record::AddressSet(set) => Ok(Record::AddressSet(set.copy()?)),
+            Record::PortGroup(group) => Ok(Record::PortGroup(group.copy()?)),
+            Record::Acl(rule) => Ok(Record::Acl(rule.copy()?)),
+            Record::Route(route) => Ok(Record::Route(*route)),
+            Record::Nat(row) => Ok(Record::Nat(*row)),
+            Record::LoadBalancer(balancer) => Ok(Record::LoadBalancer(balancer.copy()?)),
+            Record::StaticMac(binding) => Ok(Record::StaticMac(*binding)),
         }
     }
 }

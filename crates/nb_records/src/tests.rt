@@ -1,6 +1,10 @@
-use crate::record::{Op, PortAddress, Record, Switch, SwitchPort};
+use crate::answers::answers;
+use crate::balancer::{BalancerProtocol, LoadBalancer, Vip};
+use crate::kinds::Kind;
+use crate::record::Record;
 use crate::records::Records;
-use ovn_base::address::{Birth, Ip4, Mac};
+use crate::router::{Nat, NatKind, Router, RouterPort};
+use ovn_base::address::{Backend, Birth, Cidr, Ip4, Mac};
 use ovn_base::list::List;
 use ovn_base::memory::NoMemory;
 use ovn_base::name::Name;
@@ -11,67 +15,114 @@ fn name(text: &[u8]) -> Result<Name, NoMemory> {
     Name::read(text).ok_or(NoMemory)
 }
 
-fn port(alloc: Global, called: &[u8], last: u8) -> Result<SwitchPort, NoMemory> {
-    let mut ips = List::new(alloc);
-    ips.push(Ip4(0x0a000000 + last as u32))?;
-    let mut addresses = List::new(alloc);
-    addresses.push(PortAddress::Ether {
-        mac: Mac([10, 0, 0, 0, 0, last]),
-        ips,
-    })?;
-    addresses.push(PortAddress::Unknown)?;
-    Ok(SwitchPort {
-        name: name(called)?,
-        birth: Birth(1),
-        switch: name(b"s0")?,
-        addresses,
-    })
+// 172.16.0.0/24 is the network of the port `ge` of the gateway router `g0`.
+const OWN: Ip4 = Ip4(0xac1000fe);
+
+const EXTERNAL: Ip4 = Ip4(0xac100064);
+
+const OUTSIDE: Ip4 = Ip4(0xc0000201);
+
+fn port(alloc: Global) -> Result<Record, NoMemory> {
+    let mut networks = List::new(alloc);
+    networks.push(Cidr { addr: OWN, len: 24 })?;
+    Ok(Record::RouterPort(RouterPort {
+        name: name(b"ge")?,
+        birth: Birth(2),
+        router: name(b"g0")?,
+        mac: Mac([0x0a, 0, 0, 0, 1, 0xfe]),
+        networks,
+        peer: None,
+    }))
 }
 
-fn records(alloc: Global) -> Result<Records, NoMemory> {
+fn nat(called: &[u8], external_ip: Ip4) -> Result<Record, NoMemory> {
+    Ok(Record::Nat(Nat {
+        name: name(called)?,
+        birth: Birth(2),
+        router: name(b"g0")?,
+        kind: NatKind::DnatAndSnat,
+        external_ip,
+        logical_ip: Cidr {
+            addr: Ip4(0x0a000001),
+            len: 32,
+        },
+    }))
+}
+
+fn gateway(alloc: Global) -> Result<Records, NoMemory> {
     let mut records = Records::new(alloc)?;
-    records.put(Record::SwitchPort(port(alloc, b"p2", 2)?))?;
-    records.put(Record::SwitchPort(port(alloc, b"p1", 9)?))?;
-    records.put(Record::Switch(Switch {
-        name: name(b"s0")?,
-        birth: Birth(3),
+    records.put(Record::Router(Router {
+        name: name(b"g0")?,
+        birth: Birth(2),
+        chassis: Some(name(b"hv1")?),
     }))?;
-    records.put(Record::SwitchPort(port(alloc, b"p1", 1)?))?;
+    records.put(port(alloc)?)?;
+    records.put(nat(b"n0", EXTERNAL)?)?;
+    records.put(nat(b"n1", OUTSIDE)?)?;
     Ok(records)
 }
 
 #[test]
-fn finds_what_was_put(rt: HostRuntime) -> Result<(), Fail> {
-    let records = records(rt.alloc())?;
-    assert_eq!(rt; records.switches().len(), 1);
-    assert_eq!(rt; records.switch_ports().len(), 2);
-    assert!(rt;
-        records
-            .switch(&name(b"s0")?)
-            .is_some_and(|s| s.birth == Birth(3))
-    );
-    assert!(rt; records.switch(&name(b"p1")?).is_none());
-    let first = port(rt.alloc(), b"p1", 1)?;
-    assert!(rt;
-        records
-            .switch_port(&name(b"p1")?)
-            .is_some_and(|p| *p == first)
-    );
-    assert!(rt; records.switch_port(&name(b"s0")?).is_none());
+fn a_router_port_answers_for_what_lies_in_its_networks(rt: HostRuntime) -> Result<(), Fail> {
+    let records = gateway(rt.alloc())?;
+    let ge = name(b"ge")?;
+    assert!(rt; answers(&records, &ge, OWN));
+    assert!(rt; answers(&records, &ge, EXTERNAL));
+    assert!(rt; !answers(&records, &ge, OUTSIDE));
+    assert!(rt; !answers(&records, &ge, Ip4(0xac100009)));
+    assert!(rt; !answers(&records, &name(b"gi")?, OWN));
     Ok(())
 }
 
 #[test]
-fn copies_are_equal(rt: HostRuntime) -> Result<(), Fail> {
-    let copied = records(rt.alloc())?.copy()?;
-    assert_eq!(rt; copied.switches().len(), 1);
-    let second = port(rt.alloc(), b"p2", 2)?.copy()?;
-    assert!(rt;
-        copied
-            .switch_port(&name(b"p2")?)
-            .is_some_and(|p| *p == second)
-    );
-    let op = Op::Add(Record::SwitchPort(second));
-    assert!(rt; op.copy()? == op);
+fn a_removed_row_is_gone(rt: HostRuntime) -> Result<(), Fail> {
+    let mut records = gateway(rt.alloc())?;
+    assert!(rt; records.remove(Kind::Nat, &name(b"n0")?));
+    assert!(rt; records.nat(&name(b"n0")?).is_none());
+    assert!(rt; records.nat(&name(b"n1")?).is_some());
+    Ok(())
+}
+
+#[test]
+fn a_backend_is_offline_while_it_is_marked(rt: HostRuntime) -> Result<(), Fail> {
+    let mut records = Records::new(rt.alloc())?;
+    let lb = name(b"lb")?;
+    let backend = Backend {
+        ip: Ip4(0x0a000002),
+        port: 8080,
+    };
+    records.mark(&lb, backend, false)?;
+    let copied = records.copy()?;
+    records.mark(&lb, backend, true)?;
+    assert!(rt; records.is_online(&lb, backend));
+    assert!(rt; !copied.is_online(&lb, backend));
+    Ok(())
+}
+
+#[test]
+fn a_copied_record_is_equal(rt: HostRuntime) -> Result<(), Fail> {
+    let alloc = rt.alloc();
+    let mut backends = List::new(alloc);
+    backends.push(Backend {
+        ip: Ip4(0x0a000002),
+        port: 8080,
+    })?;
+    let mut vips = List::new(alloc);
+    vips.push(Vip {
+        at: Backend {
+            ip: Ip4(0x0a000064),
+            port: 80,
+        },
+        backends,
+    })?;
+    let balancer = Record::LoadBalancer(LoadBalancer {
+        name: name(b"lb")?,
+        birth: Birth(9),
+        protocol: BalancerProtocol::Tcp,
+        vips,
+        switches: List::new(alloc),
+        routers: List::new(alloc),
+    });
+    assert!(rt; balancer.copy()? == balancer);
     Ok(())
 }

@@ -22,11 +22,11 @@ use Rattle.chassis_sim.proofs.Waiting.{all_found, all_left}
 use Rattle.inet_packet.specs.declared.packet.Packet as inet
 use Rattle.flow_table.specs.declared.flow.Cause.TheVariants.{Loopback}
 use Rattle.nb_records.specs.Network.{Network, with_record}
-use Rattle.nb_records.specs.declared.record.Op.{Op}
-use Rattle.nb_records.specs.declared.record.Op.TheVariants.{Add}
+use Rattle.nb_records.specs.declared.change.Op.{Op}
+use Rattle.nb_records.specs.declared.change.Op.TheVariants.{Add, Set, Remove, Health}
 use Rattle.nb_records.specs.declared.record.Record.{Record}
 use Rattle.nb_records.specs.declared.record.Record.TheVariants as record_of
-use Rattle.nb_records.specs.declared.record.SwitchPort.{SwitchPort}
+use Rattle.nb_records.specs.declared.switch.SwitchPort.{SwitchPort}
 use Rattle.edit_reader.specs.declared.event.Event.{Event}
 use Rattle.edit_reader.specs.declared.event.Event.TheVariants.{Edit, Bind, AddChassis, Inject, Deliver, Lose, Repeat, Drain, Packet, Unread, NotBuilt}
 use Rattle.event_lines.specs.declared.refusal.Refusal.{Refusal}
@@ -43,7 +43,8 @@ use Rattle.tunnel_keys.specs.declared.owner.PortKey.{PortKey}
 use Rattle.tunnel_keys.proofs.Lists.{in_order_among}
 use Rattle.tunnel_keys.proofs.OwnerLaws.{in_datapaths, in_ports}
 use Rattle.world_core.specs.Crossing.{numbered_from}
-use Rattle.world_core.specs.Editing.{owner_of, owners_of, datapath_effect, port_effect, added_ports, key_effects, accepted, born, with_name}
+use Rattle.world_core.specs.Editing.{owner_of, owners_of, datapath_effect, port_effect, added_ports, key_effects, with_name}
+use Rattle.nb_records.specs.Editing.{accepted, born}
 use Rattle.world_core.specs.Effects.{effects_of, crossings_in}
 use Rattle.world_core.specs.Homes.{is_at as is_bound_to, is_group_member, members, members_at, other_homes}
 use Rattle.world_core.specs.Numbers.{datapath_number, port_number}
@@ -60,13 +61,15 @@ use Rattle.world_core.specs.declared.crossing.Group.TheVariants.{Flood, Unknown}
 
 -- ---- what is named
 
--- the names in a record and in an event are names
+-- the names in a record that is built, and in an event, are names
 abbrev pub IsNamedRecord : Record → Type 0
 IsNamedRecord (record_of.Switch switch) = IsName switch.name
 IsNamedRecord (record_of.SwitchPort port) = IsName port.name × IsName port.switch
+IsNamedRecord _ = ⊥
 
 abbrev pub IsNamedOp : Op → Type 0
 IsNamedOp (Add row) = IsNamedRecord row
+IsNamedOp _ = ⊥
 
 abbrev pub IsNamedEvent : Event → Type 0
 IsNamedEvent (Edit ops) = AllByRecursion IsNamedOp ops
@@ -112,7 +115,7 @@ pub record AreRanged (keys : Keys) : Type 0 where
 
 -- what stays so of a state: names are names, and the ranges of keys numbers of 64 bits
 pub record IsNamedState (m : State) : Type 0 where
-  pub ports : AllByRecursion IsNamedPort m.net.ports
+  pub ports : AllByRecursion IsNamedPort m.net.switch_ports
   pub chassis : AllByRecursion IsName m.chassis
   pub bindings : AllByRecursion HasNamedHome m.bindings
   pub waiting : AllByRecursion IsNamedCrossing m.waiting
@@ -156,13 +159,15 @@ abbrev IsNamedOwner : KeyOwner → Type 0
 IsNamedOwner (Datapath name birth) = IsName name
 IsNamedOwner (Port datapath name birth) = IsName name
 
-owner_named : (row : Record) (n : ℕ) → IsNamedRecord row → IsNamedOwner (owner_of row n)
-owner_named (record_of.Switch switch) n named = named
-owner_named (record_of.SwitchPort port) n named = named.0
+owner_named : (row : Record) (n : ℕ) → IsNamedRecord row → AllByRecursion IsNamedOwner (owner_of row n)
+owner_named (record_of.Switch switch) n named = (named, tt)
+owner_named (record_of.SwitchPort port) n named = (named.0, tt)
+owner_named _ n named = absurd named
 
 owners_named : (ops : List Op) (n : ℕ) → AllByRecursion IsNamedOp ops → AllByRecursion IsNamedOwner (owners_of ops n)
 owners_named [] n named = tt
-owners_named (Add row ∷ ops) n named = (owner_named row n named.0, owners_named ops n named.1)
+owners_named (Add row ∷ ops) n named = all_joined IsNamedOwner (owner_of row n) (owners_of ops n) (owner_named row n named.0) (owners_named ops n named.1)
+owners_named (_ ∷ ops) n named = absurd named.0
 
 module _ (between after : Keys) (owners : List KeyOwner) (ranged : AreRanged between) (named : AllByRecursion IsNamedOwner owners) (gives : GivesKeysAfter between owners after) where
   datapath_line : (o : Name × Birth) → Among o (in_order (datapaths_in owners)) → IsNamedEffect (datapath_effect after o)
@@ -195,18 +200,20 @@ module _ (between after : Keys) (owners : List KeyOwner) (ranged : AreRanged bet
     ports = subst (λ n. n < 2 ^ 64) (sym gives.port_range) ranged.ports;
   }
 
-with_named : (net : Network) (row : Record) (n : ℕ) → AllByRecursion IsNamedPort net.ports → IsNamedRecord row → AllByRecursion IsNamedPort (with_record net (born n row)).ports
+with_named : (net : Network) (row : Record) (n : ℕ) → AllByRecursion IsNamedPort net.switch_ports → IsNamedRecord row → AllByRecursion IsNamedPort (with_record net (born n row)).switch_ports
 with_named net (record_of.Switch switch) n named fine = named
-with_named net (record_of.SwitchPort port) n named fine = all_put IsNamedPort net.ports port.name (record port { birth = record { 0 = n } }) named fine
+with_named net (record_of.SwitchPort port) n named fine = all_put IsNamedPort net.switch_ports port.name (record port { birth = record { 0 = n } }) named fine
+with_named net _ n named fine = absurd fine
 
-accepted_named : (net : Network) (ops : List Op) (n : ℕ) → AllByRecursion IsNamedPort net.ports → AllByRecursion IsNamedOp ops → AllByRecursion IsNamedPort (accepted net ops n).ports
+accepted_named : (net : Network) (ops : List Op) (n : ℕ) → AllByRecursion IsNamedPort net.switch_ports → AllByRecursion IsNamedOp ops → AllByRecursion IsNamedPort (accepted net ops n).switch_ports
 accepted_named net [] n named fine = named
 accepted_named net (Add row ∷ ops) n named fine = accepted_named (with_record net (born n row)) ops n (with_named net row n named fine.0) fine.1
+accepted_named net (_ ∷ ops) n named fine = absurd fine.0
 
 -- ---- packets
 
-port_named : (m : State) (q : Name) (port : SwitchPort) → IsNamedState m → at m.net.ports q ≡ Some port → IsNamedPort (q, port)
-port_named m q port named there' = among_all IsNamedPort (q, port) m.net.ports named.ports (at_among m.net.ports q port there')
+port_named : (m : State) (q : Name) (port : SwitchPort) → IsNamedState m → at m.net.switch_ports q ≡ Some port → IsNamedPort (q, port)
+port_named m q port named there' = among_all IsNamedPort (q, port) m.net.switch_ports named.ports (at_among m.net.switch_ports q port there')
 
 home_named : (m : State) (q chassis : Name) → IsNamedState m → at m.bindings q ≡ Some chassis → IsName chassis
 home_named m q chassis named bound = among_all HasNamedHome (q, chassis) m.bindings named.bindings (at_among m.bindings q chassis bound)
@@ -215,9 +222,9 @@ member_named : (m : State) (switch : Name) (group : Group) (chassis q : Name) �
 member_named m switch group chassis q named among =
     let test : Name × SwitchPort → Bool = λ e. same_name e.1.switch switch && is_group_member group e.1 in
     let one = filter_among (λ n. is_bound_to m.bindings n chassis) q (members m.net switch group) among in
-    let entry = map_among (λ (e : Name × SwitchPort). e.0) q (filter test m.net.ports) one.0 in
-    let kept = filter_among test entry.0 m.net.ports entry.1 in
-    subst IsName (sym entry.2) (among_all IsNamedPort entry.0 m.net.ports named.ports kept.0).0
+    let entry = map_among (λ (e : Name × SwitchPort). e.0) q (filter test m.net.switch_ports) one.0 in
+    let kept = filter_among test entry.0 m.net.switch_ports entry.1 in
+    subst IsName (sym entry.2) (among_all IsNamedPort entry.0 m.net.switch_ports named.ports kept.0).0
 
 module _ (m : State) (named : IsNamedState m) (from : SentFrom) (switch : IsName from.switch.name) (port : IsName from.port.name) (packet : inet.Packet) where
   one_named : (q : Name) (entry : SwitchPort) (home : Option Name) → at m.bindings q ≡ home → IsName q → AreNamedEnds (sent_home from packet q entry home)
@@ -409,18 +416,22 @@ record_cause_named net (record_of.Switch switch) named = test_named _ (Some why.
 record_cause_named net (record_of.SwitchPort port) named =
     test_named (is_unbuilt_port net port) (Some why.NotBuilt) (cond (is_some (at net.switches port.switch)) None (Some (why.NoSuch port.switch))) tt
     (test_named (is_some (at net.switches port.switch)) None (Some (why.NoSuch port.switch)) tt named.1)
+record_cause_named net _ named = tt
 
 entry_cause_named : (m : State) (port : Name) → IsName port → IsNamedCause (refusal_of_entry m port)
 entry_cause_named m port named =
-    test_named (is_some (at m.net.ports port)) (cond (is_some (at m.bindings port)) (cond (too_many_wait m) (Some why.TooManyFrames) None) (Some why.NotBuilt)) (Some (why.NoSuch port))
+    test_named (is_some (at m.net.switch_ports port)) (cond (is_some (at m.bindings port)) (cond (too_many_wait m) (Some why.TooManyFrames) None) (Some why.NotBuilt)) (Some (why.NoSuch port))
     (test_named (is_some (at m.bindings port)) (cond (too_many_wait m) (Some why.TooManyFrames) None) (Some why.NotBuilt) (test_named (too_many_wait m) (Some why.TooManyFrames) None tt tt) tt) named
 
 cause_named : (m : State) (event : Event) → IsNamedEvent event → IsNamedCause (refusal m event)
 cause_named m (Edit []) named = tt
 cause_named m (Edit (Add row ∷ [])) named = record_cause_named m.net row named.0
+cause_named m (Edit (Set k name change ∷ [])) named = tt
+cause_named m (Edit (Remove k name ∷ [])) named = tt
+cause_named m (Edit (Health balancer backend online ∷ [])) named = tt
 cause_named m (Edit (op ∷ next ∷ ops)) named = tt
 cause_named m (Bind port chassis) named =
-    test_named (is_some (at m.net.ports port)) (cond (is_chassis m chassis) None (Some (why.NoSuch chassis))) (Some (why.NoSuch port))
+    test_named (is_some (at m.net.switch_ports port)) (cond (is_chassis m chassis) None (Some (why.NoSuch chassis))) (Some (why.NoSuch port))
     (test_named (is_chassis m chassis) None (Some (why.NoSuch chassis)) tt named.1) named.0
 cause_named m (AddChassis chassis) named =
     test_named (is_chassis m chassis) (Some (why.DuplicateName chassis)) (cond (nat_le 64 (length m.chassis)) (Some why.LimitChassis) None) named

@@ -21,6 +21,7 @@ use Rattle.ovnsim.proofs.Named.{IsNamedRecord, IsNamedEvent, IsNamedState, none_
 record_named : (d : Data) (row : Record) → Adds d row → IsNamedRecord row
 record_named d (kind.Switch switch) h = h.is_name
 record_named d (kind.SwitchPort port) h = (h.has_port.is_name, h.has_port.is_switch_name)
+record_named d _ h = absurd h
 
 form_named : (d : Data) (event : Event) → IsForm d event → IsNamedEvent event
 form_named d event (edits row h e) = subst IsNamedEvent (sym e) (record_named h.op row h.adds, tt)

@@ -11,10 +11,10 @@ use Rattle.ovn_base.specs.declared.address.Birth.{Birth}
 use Rattle.ovn_base.specs.declared.name.Name.{Name}
 use Rattle.ovn_base.specs.names.ByName.{at, put, in_order, IsByName}
 use Rattle.ovn_base.proofs.ByNameLaws.{above_among, at_tail, below_apart, one_or_two}
-use Rattle.nb_records.specs.declared.record.Op.TheVariants.{Add}
+use Rattle.nb_records.specs.declared.change.Op.TheVariants.{Add}
 use Rattle.nb_records.specs.declared.record.Record.TheVariants as record_of
-use Rattle.nb_records.specs.declared.record.Switch.{Switch}
-use Rattle.nb_records.specs.declared.record.SwitchPort.{SwitchPort}
+use Rattle.nb_records.specs.declared.switch.Switch.{Switch}
+use Rattle.nb_records.specs.declared.switch.SwitchPort.{SwitchPort}
 use Rattle.switch_engine.specs.declared.effect.NetEffect.{NetEffect}
 use Rattle.tunnel_keys.specs.Edits.{GivesKeys}
 use Rattle.tunnel_keys.specs.Keys.{Keys, IsKeys}
@@ -89,7 +89,7 @@ module _ (m n : State) (after : Keys) (hold : IsKeys after) where
   -- ---- a port
 
   module _ (p : SwitchPort) (gives : GivesKeys m.keys (Port p.switch p.name (record { 0 = event_count m + 1 }) ∷ []) [] after)
-      (is : n ≡ record m { net = record m.net { ports = put m.net.ports p.name (record p { birth = record { 0 = event_count m + 1 } }) }; keys = after }) where
+      (is : n ≡ record m { net = record m.net { switch_ports = put m.net.switch_ports p.name (record p { birth = record { 0 = event_count m + 1 } }) }; keys = after }) where
     pub edits_port : (effects : List NetEffect) → effects ≡ port_effect after (p.name, record { 0 = event_count m + 1 }) ∷ [] → Edits m (Add (record_of.SwitchPort p) ∷ []) effects n
     edits_port effects named =
         let given = gives.port_given p.switch p.name (record { 0 = event_count m + 1 }) here in
@@ -101,9 +101,9 @@ module _ (m n : State) (after : Keys) (hold : IsKeys after) where
           state = is;
         }
 
-    pub consistent_port : (zones : List (Name × ℕ)) → IsConsistent m zones → at m.net.ports p.name ≡ None → length m.net.ports < 10000 → IsSome (at m.net.switches p.switch) → AreNew m.net p → event_count m < 2 ^ 42
+    pub consistent_port : (zones : List (Name × ℕ)) → IsConsistent m zones → at m.net.switch_ports p.name ≡ None → length m.net.switch_ports < 10000 → IsSome (at m.net.switches p.switch) → AreNew m.net p → event_count m < 2 ^ 42
         → IsConsistent (finished n) zones
     consistent_port zones old absent few on new room =
         subst (λ w. IsConsistent (finished w) zones) (sym is)
         (port_comes m zones old room after hold (record p { birth = record { 0 = event_count m + 1 } }) absent few on
-        (record { stations = new.stations; once = new.once; apart = new.apart; ips_apart = new.ips_apart }) refl gives)
+        (record { plain = new.plain; stations = new.stations; once = new.once; apart = new.apart; ips_apart = new.ips_apart }) refl gives)

@@ -11,7 +11,7 @@ use Rattle.ovn_base.specs.declared.name.Name.{Name}
 use Rattle.ovn_base.specs.declared.ports.Ports.{Ports}
 use Rattle.ovn_base.proofs.AmongLaws.{among_cases, among_none, among_filter, among_map, filter_among, map_among}
 use Rattle.ovn_base.proofs.ByNameLaws.{at_among, among_at}
-use Rattle.nb_records.specs.declared.record.SwitchPort.{SwitchPort}
+use Rattle.nb_records.specs.declared.switch.SwitchPort.{SwitchPort}
 use Rattle.tunnel_keys.specs.Keys.{ports_on}
 use Rattle.tunnel_keys.specs.declared.owner.DatapathKey.{DatapathKey}
 use Rattle.tunnel_keys.specs.declared.owner.Identity.{Identity}
@@ -73,7 +73,7 @@ module _ (m : State) (have : HaveKeys m.net m.keys) (switch : Name) where
     pub is : aim ≡ ToPort id
     pub has : HasPortKey m.keys switch id.name key
     pub port : SwitchPort
-    pub there' : at m.net.ports id.name ≡ Some port
+    pub there' : at m.net.switch_ports id.name ≡ Some port
     pub birth : port.birth ≡ id.birth
 
   pub aims_port : (key : ℕ) → (key ≡ 32768 → ⊥) → (key ≡ 32769 → ⊥) → (aim : Aim) → IsNumberOf m switch key aim → IsPortAim key aim

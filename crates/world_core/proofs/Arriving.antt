@@ -26,8 +26,8 @@ use Rattle.switch_engine.specs.declared.effect.Effect.{Effect}
 use Rattle.switch_engine.specs.declared.effect.Effect.TheVariants as effect
 use Rattle.switch_engine.specs.declared.effect.Entry.{Entry}
 use Rattle.nb_records.specs.Network.{Network}
-use Rattle.nb_records.specs.declared.record.Switch.{Switch}
-use Rattle.nb_records.specs.declared.record.SwitchPort.{SwitchPort}
+use Rattle.nb_records.specs.declared.switch.Switch.{Switch}
+use Rattle.nb_records.specs.declared.switch.SwitchPort.{SwitchPort}
 use Rattle.tunnel_keys.specs.Keys.{IsKeys, held_ports}
 use Rattle.tunnel_keys.specs.Same.{birth_exact, birth_own}
 use Rattle.tunnel_keys.specs.declared.owner.HeldPort.{HeldPort}
@@ -72,14 +72,14 @@ pub is_switch_of : (net : Network) (a : Name) (w : Switch) → at net.switches a
 is_switch_of net a w e = ap (λ o. has_birth (option_map (λ (v : Switch). v.birth) o) w.birth) e ∙ birth_own w.birth
 
 -- and the port
-pub port_of : (net : Network) (id : Identity) → is_port net id ≡ true → (w : SwitchPort) × (at net.ports id.name ≡ Some w) × (w.birth ≡ id.birth)
-port_of net id h = by (at net.ports id.name) refl h
+pub port_of : (net : Network) (id : Identity) → is_port net id ≡ true → (w : SwitchPort) × (at net.switch_ports id.name ≡ Some w) × (w.birth ≡ id.birth)
+port_of net id h = by (at net.switch_ports id.name) refl h
   where
-    by : (o : Option SwitchPort) → at net.ports id.name ≡ o → has_birth (option_map (λ (w : SwitchPort). w.birth) o) id.birth ≡ true → (w : SwitchPort) × (at net.ports id.name ≡ Some w) × (w.birth ≡ id.birth)
+    by : (o : Option SwitchPort) → at net.switch_ports id.name ≡ o → has_birth (option_map (λ (w : SwitchPort). w.birth) o) id.birth ≡ true → (w : SwitchPort) × (at net.switch_ports id.name ≡ Some w) × (w.birth ≡ id.birth)
     by None e is = absurd (false≢true is)
     by (Some w) e is = (w, e, birth_exact w.birth id.birth is)
 
-pub is_port_of : (net : Network) (q : Name) (w : SwitchPort) → at net.ports q ≡ Some w → is_port net (identity q w.birth) ≡ true
+pub is_port_of : (net : Network) (q : Name) (w : SwitchPort) → at net.switch_ports q ≡ Some w → is_port net (identity q w.birth) ≡ true
 is_port_of net q w e = ap (λ o. has_birth (option_map (λ (v : SwitchPort). v.birth) o) w.birth) e ∙ birth_own w.birth
 
 module _ (s : Setting) (n : ℕ) (x : Crossing) (may : MayWait s.m x) (known : Among x.home s.m.chassis) (on_home : s.chassis ≡ x.home) (packet : Packet) where
@@ -270,12 +270,12 @@ module _ (s : Setting) (n : ℕ) (x : Crossing) (may : MayWait s.m x) (known : A
               (λ yes_it.
               let name : q ≡ x.in_port.name = (bytes_decides q x.in_port.name).0 (first_so (same_name q x.in_port.name) (is_port s.m.net x.in_port) yes_it) in
               let w = port_of s.m.net x.in_port (second_so (same_name q x.in_port.name) (is_port s.m.net x.in_port) yes_it) in
-              let port : found.port ≡ w.0 = same_port q found.port w.0 found.there (ap (λ a. at s.m.net.ports a) name ∙ w.1) in
+              let port : found.port ≡ w.0 = same_port q found.port w.0 found.there (ap (λ a. at s.m.net.switch_ports a) name ∙ w.1) in
               let it : identity q found.port.birth ≡ x.in_port = λ i. record { name = name i; birth = (ap (λ (v : SwitchPort). v.birth) port ∙ w.2) i } in
               (Decides-eqb of.0 in_key).1 (sym (port_key_is s.m.keys hold (held_as s q found.port dp of.0 of.1) x.in_port (is_held_as s q found.port dp of.0 of.1) it)));
         }
       where
-        same_port : (a : Name) (v w : SwitchPort) → at s.m.net.ports a ≡ Some v → at s.m.net.ports a ≡ Some w → v ≡ w
+        same_port : (a : Name) (v w : SwitchPort) → at s.m.net.switch_ports a ≡ Some v → at s.m.net.switch_ports a ≡ Some w → v ≡ w
         same_port a v w e f = same_Some v w (sym e ∙ f)
 
     pub to_group : From s entry 0 33 after packet Arrives

@@ -7,8 +7,8 @@ use Rattle.std.specs.declared.cmp.Ordering.TheVariants.{Less, Equal, Greater}
 use Rattle.ovn_base.specs.lists.Among.{Among}
 use Rattle.ovn_base.specs.declared.name.Name.{Name}
 use Rattle.ovn_base.specs.names.ByName.{at, put}
-use Rattle.nb_records.specs.declared.record.Switch.{Switch}
-use Rattle.nb_records.specs.declared.record.SwitchPort.{SwitchPort}
+use Rattle.nb_records.specs.declared.switch.Switch.{Switch}
+use Rattle.nb_records.specs.declared.switch.SwitchPort.{SwitchPort}
 use Rattle.tunnel_keys.specs.Edits.{GivesKeys}
 use Rattle.tunnel_keys.specs.Keys.{Keys, IsKeys}
 use Rattle.tunnel_keys.specs.declared.owner.KeyOwner.{KeyOwner}
@@ -63,18 +63,18 @@ module _ (m : State) (zones : List (Name × ℕ)) (old : IsConsistent m zones) (
           few = omega (arith, room);
         })
 
-    pub port_comes : (p : SwitchPort) → at m.net.ports p.name ≡ None → length m.net.ports < 10000 → IsSome (at m.net.switches p.switch) → AreNew m.net p → p.birth.0 ≡ event_count m + 1
+    pub port_comes : (p : SwitchPort) → at m.net.switch_ports p.name ≡ None → length m.net.switch_ports < 10000 → IsSome (at m.net.switches p.switch) → AreNew m.net p → p.birth.0 ≡ event_count m + 1
         → GivesKeys m.keys (Port p.switch p.name p.birth ∷ []) [] after
-        → IsConsistent (finished (record m { net = record m.net { ports = put m.net.ports p.name p }; keys = after })) zones
+        → IsConsistent (finished (record m { net = record m.net { switch_ports = put m.net.switch_ports p.name p }; keys = after })) zones
     port_comes p absent few on new birth gives =
         let beside = given_beside m.keys (Port p.switch p.name p.birth ∷ []) after gives in
-        let mid = record m { net = record m.net { ports = put m.net.ports p.name p }; keys = after } in
+        let mid = record m { net = record m.net { switch_ports = put m.net.switch_ports p.name p }; keys = after } in
         let n = counted mid in
         finished_consistent mid zones (record {
           valid = port_valid m.net p.name p old.valid absent refl on new;
-          within = record { switches = old.within.switches; ports = omega (arith, few, few_put m.net.ports p.name p) };
+          within = record { switches = old.within.switches; ports = omega (arith, few, few_put m.net.switch_ports p.name p) };
           keys = port_keys m.net m.keys after old.keys hold p beside;
-          bound = bound_kept m n zones old.bound refl (λ q h. some_kept m.net.ports p.name p q h) (λ c h. h) old.bound.chassis_sorted old.bound.few_chassis;
+          bound = bound_kept m n zones old.bound refl (λ q h. some_kept m.net.switch_ports p.name p q h) (λ c h. h) old.bound.chassis_sorted old.bound.few_chassis;
           born = born_port m n old.born (omega arith) (λ h. omega arith) p.name p refl (omega (arith, birth))
               (keys_born m.keys (Port p.switch p.name p.birth ∷ []) [] after (event_count n) old.keys.hold hold gives (born_later m.keys (event_count m) (event_count n) (omega arith) old.born.keys) (λ owner among. in_time owner (Port p.switch p.name p.birth) among birth));
           on_the_way = way_on m n old.born (port_kept m (Port p.switch p.name p.birth ∷ []) after old.keys.hold hold gives n refl refl) old.on_the_way refl refl (omega arith) (λ h. omega arith);
@@ -100,7 +100,7 @@ module _ (m : State) (zones : List (Name × ℕ)) (old : IsConsistent m zones) (
 
   -- ---- a binding
 
-  pub port_bound : (p c : Name) → IsSome (at m.net.ports p) → Among c m.chassis → IsConsistent (finished (record m { bindings = put m.bindings p c })) (put zones p (zone_for m.bindings zones p c))
+  pub port_bound : (p c : Name) → IsSome (at m.net.switch_ports p) → Among c m.chassis → IsConsistent (finished (record m { bindings = put m.bindings p c })) (put zones p (zone_for m.bindings zones p c))
   port_bound p c there known =
       let zone = zone_for m.bindings zones p c in
       let is = zone_is m zones old.bound c p old.within.ports in

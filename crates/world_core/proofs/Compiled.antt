@@ -11,8 +11,8 @@ use Rattle.ovn_base.specs.declared.name.Name.{Name}
 use Rattle.ovn_base.proofs.AmongLaws.{among_append, among_cases, among_none, among_all, among_left, among_right, among_map, map_among, among_flat_map, flat_map_among}
 use Rattle.flow_table.specs.declared.flow.Flow.{Flow}
 use Rattle.ovn_base.proofs.ByNameLaws.{among_at, at_among}
-use Rattle.nb_records.specs.declared.record.Switch.{Switch}
-use Rattle.nb_records.specs.declared.record.SwitchPort.{SwitchPort}
+use Rattle.nb_records.specs.declared.switch.Switch.{Switch}
+use Rattle.nb_records.specs.declared.switch.SwitchPort.{SwitchPort}
 use Rattle.tunnel_keys.specs.declared.owner.DatapathKey.{DatapathKey}
 use Rattle.tunnel_keys.specs.declared.owner.PortKey.{PortKey}
 use Rattle.world_core.specs.Addresses.{macs_in}
@@ -75,7 +75,7 @@ in_switch_part : (b : Basis) (a : Name) (switch : Switch) → at b.net.switches 
 in_switch_part b a switch found None is f m = absurd (among_none f m)
 in_switch_part b a switch found (Some live) is f m = in_switch b a live.key (record { switch = switch; there = found; live = live; has = is; number = refl }) f m
 
-in_port_part : (b : Basis) (q : Name) (port : SwitchPort) (switch : Switch) → at b.net.ports q ≡ Some port → at b.net.switches port.switch ≡ Some switch
+in_port_part : (b : Basis) (q : Name) (port : SwitchPort) (switch : Switch) → at b.net.switch_ports q ≡ Some port → at b.net.switches port.switch ≡ Some switch
     → (datapath : Option DatapathKey) → at b.keys.datapaths port.switch ≡ datapath → (of : Option PortKey) → at b.keys.ports q ≡ of → (f : Flow)
     → Among f (port_part b q port (option_map (λ (k : DatapathKey). k.key) datapath) (option_map (λ (k : PortKey). k.key) of)) → TableFlow b f
 in_port_part b q port switch found beside None dp_is of key_is f m = absurd (among_none f m)
@@ -135,7 +135,7 @@ module _ (b : Basis) (q : Name) (port : SwitchPort) (dp key : ℕ) (on : IsPort 
       subst (λ (o : Option DatapathKey). Among f (port_part b q port (option_map (λ k. k.key) o) (port_number b.keys q))) (sym on.on.has)
       (subst (λ (o : Option PortKey). Among f (port_part b q port (Some on.on.live.key) (option_map (λ k. k.key) o))) (sym on.has) keyed) in
       there (there (there (
-      among_right f (flat_map (of_switch b) b.net.switches) _ (among_flat_map (of_port b) (q, port) f b.net.ports (at_among b.net.ports q port on.there) part))))
+      among_right f (flat_map (of_switch b) b.net.switches) _ (among_flat_map (of_port b) (q, port) f b.net.switch_ports (at_among b.net.switch_ports q port on.there) part))))
 
   port_among : Among f (port_rows dp q port key) → Among f (table_flows b)
   port_among m = unit_among (among_left f (port_rows dp q port key) _ m)
@@ -261,10 +261,10 @@ module _ (b : Basis) (valid : IsValid b.net) where
       let r = flat_map_among (of_switch b) f b.net.switches m in
       in_switch_part b r.0.0 r.0.1 (among_at r.0.0 r.0.1 b.net.switches valid.switches_sorted r.1) (at b.keys.datapaths r.0.0) refl f r.2
 
-  ports_in : (f : Flow) → Among f (flat_map (of_port b) b.net.ports) → TableFlow b f
+  ports_in : (f : Flow) → Among f (flat_map (of_port b) b.net.switch_ports) → TableFlow b f
   ports_in f m =
-      let r = flat_map_among (of_port b) f b.net.ports m in
-      let found : at b.net.ports r.0.0 ≡ Some r.0.1 = among_at r.0.0 r.0.1 b.net.ports valid.ports_sorted r.1 in
+      let r = flat_map_among (of_port b) f b.net.switch_ports m in
+      let found : at b.net.switch_ports r.0.0 ≡ Some r.0.1 = among_at r.0.0 r.0.1 b.net.switch_ports valid.ports_sorted r.1 in
       let switch = some_of (at b.net.switches r.0.1.switch) (valid.on_switch r.0.0 r.0.1 found) in
       in_port_part b r.0.0 r.0.1 switch.0 found switch.1 (at b.keys.datapaths r.0.1.switch) refl (at b.keys.ports r.0.0) refl f r.2
 
@@ -275,7 +275,7 @@ module _ (b : Basis) (valid : IsValid b.net) where
       | inl e ↦ TableFlow.in_remote (RemoteRow.stay e)
       | inr o ↦ elim (among_cases f leave_row _ o) [
         | inl e ↦ TableFlow.in_back (ReturnRow.leave e)
-        | inr r ↦ elim (among_append f (flat_map (of_switch b) b.net.switches) (flat_map (of_port b) b.net.ports) r) [ inl a ↦ switches_in f a | inr p ↦ ports_in f p ]
+        | inr r ↦ elim (among_append f (flat_map (of_switch b) b.net.switches) (flat_map (of_port b) b.net.switch_ports) r) [ inl a ↦ switches_in f a | inr p ↦ ports_in f p ]
       ]
     ]
   ]

@@ -13,8 +13,8 @@ use Rattle.inet_packet.specs.Whole.{IsWhole}
 use Rattle.inet_packet.specs.declared.packet.Packet.{Packet}
 use Rattle.flow_table.specs.declared.flow.Cause.{Cause}
 use Rattle.flow_table.specs.declared.flow.Cause.TheVariants.{UnknownAddress, Loopback, BadSource, Vlan}
-use Rattle.nb_records.specs.declared.record.Switch.{Switch}
-use Rattle.nb_records.specs.declared.record.SwitchPort.{SwitchPort}
+use Rattle.nb_records.specs.declared.switch.Switch.{Switch}
+use Rattle.nb_records.specs.declared.switch.SwitchPort.{SwitchPort}
 use Rattle.tunnel_keys.specs.Keys.{held_datapath, held_ports}
 use Rattle.tunnel_keys.specs.declared.owner.DatapathKey.{DatapathKey}
 use Rattle.tunnel_keys.specs.declared.owner.HeldPort.{HeldPort}
@@ -43,7 +43,7 @@ module _ (m : State) (have : HaveKeys m.net m.keys) where
     pub owner : held.owner ≡ port
     pub on : held.datapath ≡ datapath
 
-  pub key_on : (q a : Name) (port : SwitchPort) (switch : Switch) → at m.net.ports q ≡ Some port → port.switch ≡ a → at m.net.switches a ≡ Some switch
+  pub key_on : (q a : Name) (port : SwitchPort) (switch : Switch) → at m.net.switch_ports q ≡ Some port → port.switch ≡ a → at m.net.switches a ≡ Some switch
       → HasKeyOn (record { name = a; birth = switch.birth }) (record { name = q; birth = port.birth })
   key_on q a port switch is_there of on =
       let k = have.port_has q port is_there in
@@ -64,7 +64,7 @@ module _ (m : State) (have : HaveKeys m.net m.keys) where
 
 -- ---- the crossings of a visit
 
-module _ (m : State) (valid : IsValid m.net) (have : HaveKeys m.net m.keys) (packet : Packet) (whole : IsWhole packet) (p : Name) (chassis : Name) (port : SwitchPort) (there' : at m.net.ports p ≡ Some port) (switch : Switch)
+module _ (m : State) (valid : IsValid m.net) (have : HaveKeys m.net m.keys) (packet : Packet) (whole : IsWhole packet) (p : Name) (chassis : Name) (port : SwitchPort) (there' : at m.net.switch_ports p ≡ Some port) (switch : Switch)
     (on : at m.net.switches port.switch ≡ Some switch) (home : at m.bindings p ≡ Some chassis) where
   abbrev from : SentFrom
   from = record { chassis = chassis; switch = record { name = port.switch; birth = switch.birth }; port = record { name = p; birth = port.birth } }
@@ -99,7 +99,7 @@ module _ (m : State) (valid : IsValid m.net) (have : HaveKeys m.net m.keys) (pac
   IsOwn x = IsSentFrom m p x.home (spelled m.keys x) x
 
   -- to a port of the switch at home elsewhere
-  to_one : (q : Name) (theirs : SwitchPort) (to : Name) → at m.net.ports q ≡ Some theirs → theirs.switch ≡ port.switch → at m.bindings q ≡ Some to → same_name to chassis ≡ false
+  to_one : (q : Name) (theirs : SwitchPort) (to : Name) → at m.net.switch_ports q ≡ Some theirs → theirs.switch ≡ port.switch → at m.bindings q ≡ Some to → same_name to chassis ≡ false
       → IsOwn (crossing_to from packet (ToPort (record { name = q; birth = theirs.birth })) to)
   to_one q theirs to is of bound apart =
       let id : Identity = record { name = q; birth = theirs.birth } in
@@ -114,7 +114,7 @@ module _ (m : State) (valid : IsValid m.net) (have : HaveKeys m.net m.keys) (pac
       aim_name (ToPort id) = id.name
       aim_name (ToGroup g) = []
 
-  to_home : (q : Name) (theirs : SwitchPort) (o : Option Name) → at m.net.ports q ≡ Some theirs → theirs.switch ≡ port.switch → at m.bindings q ≡ o → (x : Crossing) → Among x (crossings_in (sent_home from packet q theirs o)) → IsOwn x
+  to_home : (q : Name) (theirs : SwitchPort) (o : Option Name) → at m.net.switch_ports q ≡ Some theirs → theirs.switch ≡ port.switch → at m.bindings q ≡ o → (x : Crossing) → Among x (crossings_in (sent_home from packet q theirs o)) → IsOwn x
   to_home q theirs None is of bound x among = absurd (among_none x among)
   to_home q theirs (Some to) is of bound x among = by (same_name to chassis) refl (same_name q p) among
     where

@@ -10,10 +10,10 @@ use Rattle.edit_reader.specs.declared.event.Event.{Event}
 use Rattle.edit_reader.specs.declared.event.Event.TheVariants as event_of
 use Rattle.event_lines.specs.declared.refusal.Refusal.TheVariants as why
 use Rattle.nb_records.specs.Network.{Network}
-use Rattle.nb_records.specs.declared.record.Op.TheVariants.{Add}
+use Rattle.nb_records.specs.declared.change.Op.TheVariants.{Add}
 use Rattle.nb_records.specs.declared.record.Record.TheVariants as record_of
-use Rattle.nb_records.specs.declared.record.Switch.{Switch}
-use Rattle.nb_records.specs.declared.record.SwitchPort.{SwitchPort}
+use Rattle.nb_records.specs.declared.switch.Switch.{Switch}
+use Rattle.nb_records.specs.declared.switch.SwitchPort.{SwitchPort}
 use Rattle.ovn_base.specs.lists.Among.{Among, here}
 use Rattle.ovn_base.specs.names.ByName.{at, put}
 use Rattle.ovn_base.specs.names.SameName.{bytes_decides, same_name}
@@ -167,7 +167,7 @@ module _ (old done new : WorldView) (mid : State) (names : List (ℕ × ℕ × N
   port_done p effects edits so =
       let after = edits.keys in
       let one : SwitchPort = record p { birth = birth } in
-      let net : Network = record m.net { ports = put m.net.ports p.name one } in
+      let net : Network = record m.net { switch_ports = put m.net.switch_ports p.name one } in
       let added : List KeyOwner = Port p.switch p.name birth ∷ [] in
       let have = have_then added after net edits.given edits.state in
       let given = (beside added after net edits.given edits.state).port_given p.switch p.name birth here in

@@ -21,7 +21,7 @@ use Rattle.switch_engine.specs.declared.carried.Carried.{Carried}
 use Rattle.switch_engine.specs.declared.effect.Effect.{Effect}
 use Rattle.switch_engine.specs.declared.effect.Effect.TheVariants as effect
 use Rattle.switch_engine.specs.declared.effect.Entry.TheVariants.{Vif}
-use Rattle.nb_records.specs.declared.record.SwitchPort.{SwitchPort}
+use Rattle.nb_records.specs.declared.switch.SwitchPort.{SwitchPort}
 use Rattle.world_core.specs.Addresses.{HasMac}
 use Rattle.world_core.specs.Crossing.{group_key}
 use Rattle.world_core.specs.declared.crossing.Group.TheVariants.{Flood, Unknown}
@@ -246,7 +246,7 @@ module _ (s : Setting) (p : Name) (packet : Packet) (whole : IsWhole packet) (ho
   -- it comes in at a port that is at home here
   pub entering : Comes s.flows (Vif p) s.time (copy ∷ []) IsVisit
   entering =
-      let port = some_of (at s.m.net.ports p) (s.now.bound.port_there p s.chassis home) in
+      let port = some_of (at s.m.net.switch_ports p) (s.now.bound.port_there p s.chassis home) in
       let of = port_is s p port.0 port.1 in
       let zone = zone_here s p home in
       comes_row s (Vif p) copy IsVisit (entry_row p of.0 of.1 zone.0) (TableFlow.in_entry (EntryRow.entry p port.0 of.0 of.1 zone.0 of.2 zone.1 refl)) refl (entry_fits (start_regs (Vif p)) packet p refl)

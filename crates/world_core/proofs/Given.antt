@@ -5,8 +5,8 @@ use Rattle.ovn_base.specs.lists.Among.{here}
 use Rattle.ovn_base.specs.names.ByName.{at, put}
 use Rattle.ovn_base.proofs.ByNameLaws.{put_cases}
 use Rattle.nb_records.specs.Network.{Network}
-use Rattle.nb_records.specs.declared.record.Switch.{Switch}
-use Rattle.nb_records.specs.declared.record.SwitchPort.{SwitchPort}
+use Rattle.nb_records.specs.declared.switch.Switch.{Switch}
+use Rattle.nb_records.specs.declared.switch.SwitchPort.{SwitchPort}
 use Rattle.tunnel_keys.specs.Edits.{GivesKeys, GivesKeysAfter}
 use Rattle.tunnel_keys.specs.Keys.{Keys, IsKeys}
 use Rattle.tunnel_keys.specs.declared.owner.HeldDatapath.{HeldDatapath}
@@ -49,7 +49,7 @@ module _ (net : Network) (keys after : Keys) (have : HaveKeys net keys) (hold : 
     no_retired_ports = none_in_order (λ (h : HeldPort). h.owner) keys.retired_ports after.retired_ports gives.retired_ports have.no_retired_ports;
   }
 
-  pub port_keys : (p : SwitchPort) → GivesKeysAfter keys (Port p.switch p.name p.birth ∷ []) after → HaveKeys (record net { ports = put net.ports p.name p }) after
+  pub port_keys : (p : SwitchPort) → GivesKeysAfter keys (Port p.switch p.name p.birth ∷ []) after → HaveKeys (record net { switch_ports = put net.switch_ports p.name p }) after
   port_keys p gives = record {
     hold = hold;
     datapath_has = λ a switch found. let own = have.datapath_has a switch found in (own.0, gives.datapath_kept a own.0 own.1, own.2);
@@ -57,7 +57,7 @@ module _ (net : Network) (keys after : Keys) (have : HaveKeys net keys) (hold : 
       | inl old ↦ have.datapath_of a k old
       | inr new ↦ absurd (not_port a k.birth p.switch p.name p.birth (the_one (Datapath a k.birth) (Port p.switch p.name p.birth) new))
     ];
-    port_has = λ q port found. elim (put_cases net.ports p.name p q port found) [
+    port_has = λ q port found. elim (put_cases net.switch_ports p.name p q port found) [
       | inl new ↦
           let given = gives.port_given p.switch p.name p.birth here in (
             record { birth = p.birth; datapath = p.switch; key = given.0 },
@@ -68,8 +68,8 @@ module _ (net : Network) (keys after : Keys) (have : HaveKeys net keys) (hold : 
       | inr old ↦ let own = have.port_has q port old.1 in (own.0, gives.port_kept q own.0 own.1, own.2, own.3)
     ];
     port_of = λ q k has. elim (gives.port_cases q k has) [
-      | inl old ↦ some_kept net.ports p.name p q (have.port_of q k old)
-      | inr new ↦ subst (λ n. IsSome (at (put net.ports p.name p) n)) (sym (ap name_in (the_one (Port k.datapath q k.birth) (Port p.switch p.name p.birth) new))) (some_put net.ports p.name p)
+      | inl old ↦ some_kept net.switch_ports p.name p q (have.port_of q k old)
+      | inr new ↦ subst (λ n. IsSome (at (put net.switch_ports p.name p) n)) (sym (ap name_in (the_one (Port k.datapath q k.birth) (Port p.switch p.name p.birth) new))) (some_put net.switch_ports p.name p)
     ];
     datapath_range = gives.datapath_range ∙ have.datapath_range;
     port_range = gives.port_range ∙ have.port_range;

@@ -22,7 +22,7 @@ use Rattle.switch_engine.specs.declared.effect.Effect.{Effect}
 use Rattle.switch_engine.specs.declared.effect.Effect.TheVariants as effect
 use Rattle.switch_engine.specs.declared.effect.Entry.{Entry}
 use Rattle.nb_records.specs.Network.{Network}
-use Rattle.nb_records.specs.declared.record.SwitchPort.{SwitchPort}
+use Rattle.nb_records.specs.declared.switch.SwitchPort.{SwitchPort}
 use Rattle.tunnel_keys.specs.declared.owner.PortKey.{PortKey}
 use Rattle.world_core.specs.declared.crossing.Group.{Group}
 use Rattle.world_core.specs.Homes.{is_home, is_at, is_group_member, members, members_at}
@@ -48,20 +48,20 @@ is_bound_to bindings q chassis e = ap (λ o. is_home o chassis) e ∙ (bytes_dec
 -- a member of a group here is a port of the switch
 pub record IsOfGroup (net : Network) (bindings : List (Name × Name)) (switch chassis q : Name) : Type 0 where
   pub port : SwitchPort
-  pub there : at net.ports q ≡ Some port
+  pub there : at net.switch_ports q ≡ Some port
   pub on : port.switch ≡ switch
   pub home : at bindings q ≡ Some chassis
 
-pub of_group : (net : Network) → IsByName net.ports → (bindings : List (Name × Name)) (switch : Name) (group : Group) (chassis q : Name) → Among q (members_at net bindings switch group chassis) → IsOfGroup net bindings switch chassis q
+pub of_group : (net : Network) → IsByName net.switch_ports → (bindings : List (Name × Name)) (switch : Name) (group : Group) (chassis q : Name) → Among q (members_at net bindings switch group chassis) → IsOfGroup net bindings switch chassis q
 of_group net sorted bindings switch group chassis q m =
     let test : Name × SwitchPort → Bool = λ e. same_name e.1.switch switch && is_group_member group e.1 in
     let one = filter_among (λ n. is_at bindings n chassis) q (members net switch group) m in
-    let named = map_among (λ (e : Name × SwitchPort). e.0) q (filter test net.ports) one.0 in
-    let kept = filter_among test named.0 net.ports named.1 in
-    let entry : Among (q, named.0.1) net.ports = subst (λ n. Among (n, named.0.1) net.ports) (sym named.2) kept.0 in
+    let named = map_among (λ (e : Name × SwitchPort). e.0) q (filter test net.switch_ports) one.0 in
+    let kept = filter_among test named.0 net.switch_ports named.1 in
+    let entry : Among (q, named.0.1) net.switch_ports = subst (λ n. Among (n, named.0.1) net.switch_ports) (sym named.2) kept.0 in
     record {
       port = named.0.1;
-      there = among_at q named.0.1 net.ports sorted entry;
+      there = among_at q named.0.1 net.switch_ports sorted entry;
       on = (bytes_decides named.0.1.switch switch).0 (first_so (same_name named.0.1.switch switch) (is_group_member group named.0.1) kept.1);
       home = bound_to bindings q chassis one.1;
     }

@@ -1,5 +1,5 @@
 -- What stays true of the records, the bindings and the births, when a record comes, a port is bound, a chassis comes.
-use Rattle.std.specs.Prelude.{◌≡◌, ◌≢◌, ◌≤◌, ◌<◌, ◌^◌, ◌⊎◌, ℕ, List, Some, None, Option, IsSome, is_some, length, refl}
+use Rattle.std.specs.Prelude.{◌≡◌, ◌≢◌, ◌≤◌, ◌<◌, ◌^◌, ◌⊎◌, ℕ, true, List, Some, None, Option, IsSome, is_some, length, refl}
 use mathlib.Core.Path.{sym, ap, subst, ◌∙◌}
 use mathlib.Core.Logic.{inl, inr}
 use native.Mathlib.Omega.{arith}
@@ -13,12 +13,13 @@ use Rattle.ovn_base.specs.lists.Once.{EachOnce}
 use Rattle.ovn_base.specs.names.ByName.{at, put, IsByName}
 use Rattle.nb_records.specs.Network.{Network}
 use Rattle.ovn_base.proofs.ByNameLaws.{put_there, put_other, put_cases, put_sorted, one_or_two}
-use Rattle.nb_records.specs.declared.record.Switch.{Switch}
-use Rattle.nb_records.specs.declared.record.SwitchPort.{SwitchPort}
+use Rattle.nb_records.specs.declared.switch.Switch.{Switch}
+use Rattle.nb_records.specs.declared.switch.SwitchPort.{SwitchPort}
 use Rattle.tunnel_keys.specs.Births.{AreKeysBorn}
 use Rattle.tunnel_keys.proofs.Births.{born_later}
 use Rattle.world_core.specs.State.{State, event_count}
 use Rattle.world_core.specs.Addresses.{macs_in, HasMac, HasIp}
+use Rattle.world_core.specs.Built.{is_plain_port}
 use Rattle.world_core.specs.NewPort.{AreNew}
 use Rattle.world_core.specs.Sound.{IsValid, AreBound, AreBorn}
 use Rattle.world_core.proofs.Found.{some_of, is_some_of}
@@ -51,61 +52,72 @@ module _ (net : Network) (name : Name) (switch : Switch) where
     once = valid.once;
     apart = valid.apart;
     ips_apart = valid.ips_apart;
+    built = record {
+      others = ap (λ (w : Network). record w { switches = put net.switches name switch }) valid.built.others;
+      ports = valid.built.ports;
+    };
   }
 
 -- ---- a port comes
 
 module _ (net : Network) (name : Name) (port : SwitchPort) where
-  pub port_valid : IsValid net → at net.ports name ≡ None → port.name ≡ name → IsSome (at net.switches port.switch) → AreNew net port → IsValid (record net { ports = put net.ports name port })
+  pub port_valid : IsValid net → at net.switch_ports name ≡ None → port.name ≡ name → IsSome (at net.switches port.switch) → AreNew net port → IsValid (record net { switch_ports = put net.switch_ports name port })
   port_valid valid absent named on new = record {
     switches_sorted = valid.switches_sorted;
-    ports_sorted = put_sorted net.ports name port valid.ports_sorted;
+    ports_sorted = put_sorted net.switch_ports name port valid.ports_sorted;
     switch_names = valid.switch_names;
-    port_names = λ q p found. elim (put_cases net.ports name port q p found) [
+    port_names = λ q p found. elim (put_cases net.switch_ports name port q p found) [
       | inl is ↦ ap (λ (w : SwitchPort). w.name) is.1 ∙ named ∙ sym is.0
       | inr old ↦ valid.port_names q p old.1
     ];
-    on_switch = λ q p found. elim (put_cases net.ports name port q p found) [
+    on_switch = λ q p found. elim (put_cases net.switch_ports name port q p found) [
       | inl is ↦ subst (λ (w : SwitchPort). IsSome (at net.switches w.switch)) (sym is.1) on
       | inr old ↦ valid.on_switch q p old.1
     ];
-    stations = λ q p mac found m. elim (put_cases net.ports name port q p found) [
+    stations = λ q p mac found m. elim (put_cases net.switch_ports name port q p found) [
       | inl is ↦ new.stations mac (subst (λ (w : SwitchPort). HasMac w.addresses mac) is.1 m)
       | inr old ↦ valid.stations q p mac old.1 m
     ];
-    once = λ q p found. elim (put_cases net.ports name port q p found) [
+    once = λ q p found. elim (put_cases net.switch_ports name port q p found) [
       | inl is ↦ subst (λ (w : SwitchPort). EachOnce (macs_in w.addresses)) (sym is.1) new.once
       | inr old ↦ valid.once q p old.1
     ];
-    apart = λ p q ours theirs mac at_p at_q same has also. elim (put_cases net.ports name port p ours at_p) [
-      | inl is ↦ elim (put_cases net.ports name port q theirs at_q) [
+    apart = λ p q ours theirs mac at_p at_q same has also. elim (put_cases net.switch_ports name port p ours at_p) [
+      | inl is ↦ elim (put_cases net.switch_ports name port q theirs at_q) [
         | inl too ↦ is.0 ∙ sym too.0
         | inr old ↦
             absurd (new.apart q theirs old.1 (sym same ∙ ap (λ (w : SwitchPort). w.switch) is.1) mac also (subst (λ (w : SwitchPort). HasMac w.addresses mac) is.1 has))
       ]
-      | inr old ↦ elim (put_cases net.ports name port q theirs at_q) [
+      | inr old ↦ elim (put_cases net.switch_ports name port q theirs at_q) [
         | inl is ↦ absurd (new.apart p ours old.1 (same ∙ ap (λ (w : SwitchPort). w.switch) is.1) mac has (subst (λ (w : SwitchPort). HasMac w.addresses mac) is.1 also))
         | inr too ↦ valid.apart p q ours theirs mac old.1 too.1 same has also
       ]
     ];
-    ips_apart = λ p q ours theirs ip at_p at_q same has also. elim (put_cases net.ports name port p ours at_p) [
-      | inl is ↦ elim (put_cases net.ports name port q theirs at_q) [
+    ips_apart = λ p q ours theirs ip at_p at_q same has also. elim (put_cases net.switch_ports name port p ours at_p) [
+      | inl is ↦ elim (put_cases net.switch_ports name port q theirs at_q) [
         | inl too ↦ is.0 ∙ sym too.0
         | inr old ↦
             absurd (new.ips_apart q theirs old.1 (sym same ∙ ap (λ (w : SwitchPort). w.switch) is.1) ip also (subst (λ (w : SwitchPort). HasIp w.addresses ip) is.1 has))
       ]
-      | inr old ↦ elim (put_cases net.ports name port q theirs at_q) [
+      | inr old ↦ elim (put_cases net.switch_ports name port q theirs at_q) [
         | inl is ↦ absurd (new.ips_apart p ours old.1 (same ∙ ap (λ (w : SwitchPort). w.switch) is.1) ip has (subst (λ (w : SwitchPort). HasIp w.addresses ip) is.1 also))
         | inr too ↦ valid.ips_apart p q ours theirs ip old.1 too.1 same has also
       ]
     ];
+    built = record {
+      others = ap (λ (w : Network). record w { switch_ports = put net.switch_ports name port }) valid.built.others;
+      ports = λ q p found. elim (put_cases net.switch_ports name port q p found) [
+        | inl is ↦ subst (λ (w : SwitchPort). is_plain_port w ≡ true) (sym is.1) new.plain
+        | inr old ↦ valid.built.ports q p old.1
+      ];
+    };
   }
 
 -- ---- bindings
 
 module _ (m n : State) (zones : List (Name × ℕ)) where
   -- bindings hold on to ports that stay, and to chassis that stay
-  pub bound_kept : AreBound m zones → n.bindings ≡ m.bindings → ((q : Name) → IsSome (at m.net.ports q) → IsSome (at n.net.ports q)) → ((c : Name) → Among c m.chassis → Among c n.chassis)
+  pub bound_kept : AreBound m zones → n.bindings ≡ m.bindings → ((q : Name) → IsSome (at m.net.switch_ports q) → IsSome (at n.net.switch_ports q)) → ((c : Name) → Among c m.chassis → Among c n.chassis)
       → IsStrictlySortedBy (slice_cmp nat_cmp) n.chassis → length n.chassis ≤ 64 → AreBound n zones
   bound_kept bound same ports chassis sorted few = record {
     bindings_sorted = subst (λ l. IsByName l) (sym same) bound.bindings_sorted;
@@ -124,12 +136,12 @@ module _ (m n : State) (zones : List (Name × ℕ)) where
       before q o e = ap (λ l. at l q) (sym same) ∙ e
 
 -- a port is bound to a chassis, and takes a zone that no other port has there
-pub bound_fresh : (m n : State) (zones : List (Name × ℕ)) (p c : Name) (zone : ℕ) → AreBound m zones → n.net ≡ m.net → n.chassis ≡ m.chassis → n.bindings ≡ put m.bindings p c → IsSome (at m.net.ports p) → Among c m.chassis
+pub bound_fresh : (m n : State) (zones : List (Name × ℕ)) (p c : Name) (zone : ℕ) → AreBound m zones → n.net ≡ m.net → n.chassis ≡ m.chassis → n.bindings ≡ put m.bindings p c → IsSome (at m.net.switch_ports p) → Among c m.chassis
     → 1 ≤ zone → zone < 2 ^ 16 → ((q : Name) (z : ℕ) → q ≢ p → at m.bindings q ≡ Some c → at zones q ≡ Some z → z ≢ zone) → AreBound n (put zones p zone)
 bound_fresh m n zones p c zone bound net chassis bindings port known low high free = record {
   bindings_sorted = subst (λ l. IsByName l) (sym bindings) (put_sorted m.bindings p c bound.bindings_sorted);
-  port_there = λ q d e. subst (λ w. IsSome (at w.ports q)) (sym net) (elim (bound_cases q d e) [
-    | inl is ↦ subst (λ a. IsSome (at m.net.ports a)) (sym is.0) port
+  port_there = λ q d e. subst (λ w. IsSome (at w.switch_ports q)) (sym net) (elim (bound_cases q d e) [
+    | inl is ↦ subst (λ a. IsSome (at m.net.switch_ports a)) (sym is.0) port
     | inr old ↦ bound.port_there q d old.1
   ]);
   chassis_there = λ q d e. subst (λ l. Among d l) (sym chassis) (elim (bound_cases q d e) [
@@ -187,7 +199,7 @@ module _ (m n : State) (born : AreBorn m) (later : event_count m ≤ event_count
   born_kept fresh net keys = record {
     none = λ h. net ∙ born.none (fresh h);
     switches = λ a s e. let old : s.birth.0 ≤ event_count m = born.switches a s (ap (λ (w : Network). at w.switches a) (sym net) ∙ e) in omega (arith, old, later);
-    ports = λ q p e. let old : p.birth.0 ≤ event_count m = born.ports q p (ap (λ (w : Network). at w.ports q) (sym net) ∙ e) in omega (arith, old, later);
+    ports = λ q p e. let old : p.birth.0 ≤ event_count m = born.ports q p (ap (λ (w : Network). at w.switch_ports q) (sym net) ∙ e) in omega (arith, old, later);
     keys = subst (λ k. AreKeysBorn k (event_count n)) (sym keys) (born_later m.keys (event_count m) (event_count n) later born.keys);
   }
 
@@ -198,15 +210,15 @@ module _ (m n : State) (born : AreBorn m) (later : event_count m ≤ event_count
       | inl is ↦ subst (λ (w : Switch). w.birth.0 ≤ event_count n) (sym is.1) in_time
       | inr rest ↦ let old : s.birth.0 ≤ event_count m = born.switches a s rest.1 in omega (arith, old, later)
     ];
-    ports = λ q p e. let old : p.birth.0 ≤ event_count m = born.ports q p (ap (λ (w : Network). at w.ports q) (sym net) ∙ e) in omega (arith, old, later);
+    ports = λ q p e. let old : p.birth.0 ≤ event_count m = born.ports q p (ap (λ (w : Network). at w.switch_ports q) (sym net) ∙ e) in omega (arith, old, later);
     keys = keys;
   }
 
-  pub born_port : n.accepted ≢ 0 → (name : Name) (port : SwitchPort) → n.net ≡ record m.net { ports = put m.net.ports name port } → port.birth.0 ≤ event_count n → AreKeysBorn n.keys (event_count n) → AreBorn n
+  pub born_port : n.accepted ≢ 0 → (name : Name) (port : SwitchPort) → n.net ≡ record m.net { switch_ports = put m.net.switch_ports name port } → port.birth.0 ≤ event_count n → AreKeysBorn n.keys (event_count n) → AreBorn n
   born_port some name port net in_time keys = record {
     none = λ h. absurd (some h);
     switches = λ a s e. let old : s.birth.0 ≤ event_count m = born.switches a s (ap (λ (w : Network). at w.switches a) (sym net) ∙ e) in omega (arith, old, later);
-    ports = λ q p e. elim (put_cases m.net.ports name port q p (ap (λ (w : Network). at w.ports q) (sym net) ∙ e)) [
+    ports = λ q p e. elim (put_cases m.net.switch_ports name port q p (ap (λ (w : Network). at w.switch_ports q) (sym net) ∙ e)) [
       | inl is ↦ subst (λ (w : SwitchPort). w.birth.0 ≤ event_count n) (sym is.1) in_time
       | inr rest ↦ let old : p.birth.0 ≤ event_count m = born.ports q p rest.1 in omega (arith, old, later)
     ];

@@ -73,9 +73,9 @@ module _ (net : Network) (keys : Keys) (have : HaveKeys net keys) where
       let on : (on_datapath_key p j d.0).datapath ≡ (on_datapath_key q k e.0).datapath = λ i. record { name = together i; birth = (one i).birth } in
       ap (λ (o : Identity). o.name) (have.hold.ports_apart (on_datapath_key p j d.0) (on_datapath_key q k e.0) (port_held p j d.0 at_p d.1) (port_held q k e.0 at_q e.1) on same)
 
-  pub no_port_key : (q : Name) → at net.ports q ≡ None → at keys.ports q ≡ None
+  pub no_port_key : (q : Name) → at net.switch_ports q ≡ None → at keys.ports q ≡ None
   no_port_key q absent = by (at keys.ports q) refl
     where
       by : (o : Option PortKey) → at keys.ports q ≡ o → at keys.ports q ≡ None
       by None e = e
-      by (Some k) e = let s = some_of (at net.ports q) (have.port_of q k e) in absurd (none-some s.0 (sym absent ∙ s.1))
+      by (Some k) e = let s = some_of (at net.switch_ports q) (have.port_of q k e) in absurd (none-some s.0 (sym absent ∙ s.1))

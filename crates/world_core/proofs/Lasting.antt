@@ -13,7 +13,7 @@ use Rattle.ovn_base.specs.names.ByName.{at, put}
 use Rattle.ovn_base.specs.declared.name.Name.{Name}
 use Rattle.ovn_base.proofs.AmongLaws.{among_none}
 use Rattle.ovn_base.proofs.ByNameLaws.{one_or_two, put_other, put_there}
-use Rattle.nb_records.specs.declared.record.Switch.{Switch}
+use Rattle.nb_records.specs.declared.switch.Switch.{Switch}
 use Rattle.tunnel_keys.specs.Edits.{GivesKeys}
 use Rattle.tunnel_keys.specs.Keys.{Keys, IsKeys, held_datapaths, held_ports}
 use Rattle.tunnel_keys.specs.declared.owner.HeldDatapath.{HeldDatapath}

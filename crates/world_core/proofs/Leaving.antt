@@ -12,7 +12,7 @@ use Rattle.switch_engine.specs.declared.carried.Carried.{Carried}
 use Rattle.switch_engine.specs.declared.effect.Effect.{Effect}
 use Rattle.switch_engine.specs.declared.effect.Effect.TheVariants as effect
 use Rattle.switch_engine.specs.declared.effect.Entry.{Entry}
-use Rattle.nb_records.specs.declared.record.SwitchPort.{SwitchPort}
+use Rattle.nb_records.specs.declared.switch.SwitchPort.{SwitchPort}
 use Rattle.world_core.specs.Rows.{pass_row, return_row, leave_row, output_row}
 use Rattle.world_core.specs.Stages.{Basis, IsDatapath, IsPort, PortSecRow, TrackRow, AclInRow, StateInRow, ArpRow, ReturnRow, TrackOutRow, AclOutRow, StateOutRow, SecOutRow, OutputRow}
 use Rattle.world_core.specs.Tables.{TableFlow}

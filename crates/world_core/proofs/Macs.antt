@@ -3,7 +3,7 @@ use Rattle.ovn_base.specs.lists.Among.{Among}
 use Rattle.ovn_base.specs.declared.address.Mac.{Mac}
 use Rattle.ovn_base.proofs.AmongLaws.{among_filter_map, filter_map_among}
 use Rattle.std.specs.Prelude.{List}
-use Rattle.nb_records.specs.declared.record.PortAddress.{PortAddress}
+use Rattle.nb_records.specs.declared.switch.PortAddress.{PortAddress}
 use Rattle.world_core.specs.Addresses.{mac_in, macs_in, HasMac}
 
 pub listed_mac : (addresses : List PortAddress) (mac : Mac) → Among mac (macs_in addresses) → HasMac addresses mac

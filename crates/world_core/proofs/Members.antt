@@ -21,7 +21,7 @@ use Rattle.ovn_base.specs.declared.name.Name.{Name}
 use Rattle.ovn_base.proofs.AmongLaws.{among_cases, among_none, among_all, among_filter, filter_among, among_map, map_among}
 use Rattle.ovn_base.proofs.ByNameLaws.{below_apart, among_at, at_among}
 use Rattle.flow_table.specs.declared.flow.Flow.{Flow}
-use Rattle.nb_records.specs.declared.record.SwitchPort.{SwitchPort}
+use Rattle.nb_records.specs.declared.switch.SwitchPort.{SwitchPort}
 use Rattle.tunnel_keys.specs.Keys.{ports_on}
 use Rattle.tunnel_keys.specs.declared.owner.PortKey.{PortKey}
 use Rattle.tunnel_keys.proofs.Lists.{filter_sorted}
@@ -110,12 +110,12 @@ module _ (b : Basis) (valid : IsValid b.net) (keys : HaveKeys b.net b.keys) (a :
       (among_filter (λ (e : Name × PortKey). same_name a e.1.datapath) (q, k) b.keys.ports (at_among b.keys.ports q k has) ((bytes_decides a k.datapath).1 (sym on)))
 
   -- its record is one of the switch
-  record_on : (e : Name × ℕ) → Among e ports → (port : SwitchPort) × (at b.net.ports e.0 ≡ Some port) × (port.switch ≡ a)
+  record_on : (e : Name × ℕ) → Among e ports → (port : SwitchPort) × (at b.net.switch_ports e.0 ≡ Some port) × (port.switch ≡ a)
   record_on e m =
       let k = port_on e m in
-      by (at b.net.ports e.0) refl (keys.port_of e.0 k.0 k.1)
+      by (at b.net.switch_ports e.0) refl (keys.port_of e.0 k.0 k.1)
     where
-      by : (o : Option SwitchPort) → at b.net.ports e.0 ≡ o → IsSome (at b.net.ports e.0) → (port : SwitchPort) × (at b.net.ports e.0 ≡ Some port) × (port.switch ≡ a)
+      by : (o : Option SwitchPort) → at b.net.switch_ports e.0 ≡ o → IsSome (at b.net.switch_ports e.0) → (port : SwitchPort) × (at b.net.switch_ports e.0 ≡ Some port) × (port.switch ≡ a)
       by None is some = absurd (false≢true (sym (ap (λ p. is_some p) is) ∙ some))
       by (Some port) is some =
           let k = port_on e m in
@@ -140,28 +140,28 @@ module _ (b : Basis) (valid : IsValid b.net) (keys : HaveKeys b.net b.keys) (a :
 
     member_found : (q : Name) → Among q (members b.net a group) → Among q (keys_of (group_among b group ports))
     member_found q m =
-        let r = map_among (λ (e : Name × SwitchPort). e.0) q (filter of_group b.net.ports) m in
-        let f = filter_among of_group r.0 b.net.ports r.1 in
-        let found : at b.net.ports r.0.0 ≡ Some r.0.1 = among_at r.0.0 r.0.1 b.net.ports valid.ports_sorted f.0 in
+        let r = map_among (λ (e : Name × SwitchPort). e.0) q (filter of_group b.net.switch_ports) m in
+        let f = filter_among of_group r.0 b.net.switch_ports r.1 in
+        let found : at b.net.switch_ports r.0.0 ≡ Some r.0.1 = among_at r.0.0 r.0.1 b.net.switch_ports valid.ports_sorted f.0 in
         let both = both_true (same_name r.0.1.switch a) (is_group_member group r.0.1) f.1 in
         let own = keys.port_has r.0.0 r.0.1 found in
         let on = on_ports r.0.0 own.0 own.1 (own.3 ∙ (bytes_decides r.0.1.switch a).0 both.0) in
-        let kept = among_filter (λ (e : Name × ℕ). is_record_in group (at b.net.ports e.0)) (r.0.0, own.0.key) ports on (ap (λ o. is_record_in group o) found ∙ both.1) in
+        let kept = among_filter (λ (e : Name × ℕ). is_record_in group (at b.net.switch_ports e.0)) (r.0.0, own.0.key) ports on (ap (λ o. is_record_in group o) found ∙ both.1) in
         subst (λ n. Among n (keys_of (group_among b group ports))) (sym r.2) (among_map (λ (e : Name × ℕ). e.0) (r.0.0, own.0.key) (group_among b group ports) kept)
 
     found_member : (q : Name) → Among q (keys_of (group_among b group ports)) → Among q (members b.net a group)
     found_member q m =
         let r = map_among (λ (e : Name × ℕ). e.0) q (group_among b group ports) m in
-        let f = filter_among (λ (e : Name × ℕ). is_record_in group (at b.net.ports e.0)) r.0 ports r.1 in
+        let f = filter_among (λ (e : Name × ℕ). is_record_in group (at b.net.switch_ports e.0)) r.0 ports r.1 in
         let port = record_on r.0 f.0 in
         let both = true_both (same_name port.0.switch a) (is_group_member group port.0) ((bytes_decides port.0.switch a).1 port.2) (ap (λ o. is_record_in group o) (sym port.1) ∙ f.1) in
-        let kept = among_filter of_group (r.0.0, port.0) b.net.ports (at_among b.net.ports r.0.0 port.0 port.1) both in
-        subst (λ n. Among n (members b.net a group)) (sym r.2) (among_map (λ (e : Name × SwitchPort). e.0) (r.0.0, port.0) (filter of_group b.net.ports) kept)
+        let kept = among_filter of_group (r.0.0, port.0) b.net.switch_ports (at_among b.net.switch_ports r.0.0 port.0 port.1) both in
+        subst (λ n. Among n (members b.net a group)) (sym r.2) (among_map (λ (e : Name × SwitchPort). e.0) (r.0.0, port.0) (filter of_group b.net.switch_ports) kept)
 
     pub members_are : members b.net a group ≡ keys_of (group_among b group ports)
     members_are =
-        one_order (members b.net a group) (keys_of (group_among b group ports)) (filter_sorted of_group b.net.ports valid.ports_sorted)
-        (filter_sorted (λ e. is_record_in group (at b.net.ports e.0)) ports ports_sorted) member_found found_member
+        one_order (members b.net a group) (keys_of (group_among b group ports)) (filter_sorted of_group b.net.switch_ports valid.ports_sorted)
+        (filter_sorted (λ e. is_record_in group (at b.net.switch_ports e.0)) ports ports_sorted) member_found found_member
 
     -- as the flows of a chassis know them
     here_same : (es : List (Name × ℕ)) → ((e : Name × ℕ) → Among e es → port_number b.keys e.0 ≡ Some e.1)
@@ -181,7 +181,7 @@ module _ (b : Basis) (valid : IsValid b.net) (keys : HaveKeys b.net b.keys) (a :
     pub here_are : members_here b a group ≡ here_among b (group_among b group ports)
     here_are =
         ap (λ ms. map (λ q. member_of b q) (filter (λ q. is_at b.bindings q b.chassis) ms)) members_are
-        ∙ here_same (group_among b group ports) (λ e m. number_on e (filter_among (λ (f : Name × ℕ). is_record_in group (at b.net.ports f.0)) e ports m).0)
+        ∙ here_same (group_among b group ports) (λ e m. number_on e (filter_among (λ (f : Name × ℕ). is_record_in group (at b.net.switch_ports f.0)) e ports m).0)
 
     -- and their homes
     bound_same : (c : Name) (es : List (Name × ℕ)) → list_any (λ q. is_at b.bindings q c) (keys_of es) ≡ list_any (λ home. same_name home c) (bound_among b es)
@@ -200,7 +200,7 @@ module _ (b : Basis) (valid : IsValid b.net) (keys : HaveKeys b.net b.keys) (a :
 
   -- all ports are members of the one group
   pub flood_are : group_among b Flood ports ≡ ports
-  flood_are = all_pass (λ e. is_record_in Flood (at b.net.ports e.0)) ports (λ e m. ap (λ o. is_record_in Flood o) (record_on e m).1)
+  flood_are = all_pass (λ e. is_record_in Flood (at b.net.switch_ports e.0)) ports (λ e m. ap (λ o. is_record_in Flood o) (record_on e m).1)
 
   pub taken_is : has_unknown b a ≡ nat_lt 0 (length (group_among b Unknown ports))
   taken_is = ap (λ ms. nat_lt 0 (length ms)) (members_are Unknown) ∙ ap (λ n. nat_lt 0 n) (length-map (group_among b Unknown ports) (λ e. e.0))

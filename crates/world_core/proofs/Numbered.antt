@@ -6,8 +6,8 @@ use Rattle.ovn_base.specs.lists.Among.{Among}
 use Rattle.ovn_base.specs.names.ByName.{at}
 use Rattle.ovn_base.specs.declared.address.Birth.{Birth}
 use Rattle.ovn_base.specs.declared.name.Name.{Name}
-use Rattle.nb_records.specs.declared.record.Switch.{Switch}
-use Rattle.nb_records.specs.declared.record.SwitchPort.{SwitchPort}
+use Rattle.nb_records.specs.declared.switch.Switch.{Switch}
+use Rattle.nb_records.specs.declared.switch.SwitchPort.{SwitchPort}
 use Rattle.tunnel_keys.specs.Keys.{held_datapaths, held_ports}
 use Rattle.tunnel_keys.specs.declared.owner.DatapathKey.{DatapathKey}
 use Rattle.tunnel_keys.specs.declared.owner.HeldDatapath.{HeldDatapath}
@@ -64,10 +64,10 @@ module _ (s : Setting) where
   pub datapath_is : (a : Name) (switch : Switch) → at s.m.net.switches a ≡ Some switch → (dp : ℕ) × IsDatapath b a dp
   datapath_is a switch there = let live = keys.datapath_has a switch there in (live.0.key, record { switch = switch; there = there; live = live.0; has = live.1; number = refl })
 
-  pub port_on : (q : Name) (port : SwitchPort) (dp : ℕ) → at s.m.net.ports q ≡ Some port → IsDatapath b port.switch dp → (key : ℕ) × IsPort b q port dp key
+  pub port_on : (q : Name) (port : SwitchPort) (dp : ℕ) → at s.m.net.switch_ports q ≡ Some port → IsDatapath b port.switch dp → (key : ℕ) × IsPort b q port dp key
   port_on q port dp found on = let own = keys.port_has q port found in (own.0.key, record { there = found; on = on; live = own.0; has = own.1; number = refl })
 
-  pub port_is : (q : Name) (port : SwitchPort) → at s.m.net.ports q ≡ Some port → (dp : ℕ) × (key : ℕ) × IsPort b q port dp key
+  pub port_is : (q : Name) (port : SwitchPort) → at s.m.net.switch_ports q ≡ Some port → (dp : ℕ) × (key : ℕ) × IsPort b q port dp key
   port_is q port found =
       let switch = some_of (at s.m.net.switches port.switch) (s.now.valid.on_switch q port found) in
       let on = datapath_is port.switch switch.0 switch.1 in

@@ -19,9 +19,9 @@ use Rattle.flow_table.specs.declared.flow.Flow.{Flow}
 use Rattle.flow_table.specs.declared.flow.FlowOp.{FlowOp}
 use Rattle.flow_table.specs.declared.flow.FlowOp.TheVariants.{Set, Go, Drop, Header, Frame, Copies, Output}
 use Rattle.ovn_base.proofs.ByNameLaws.{among_at}
-use Rattle.nb_records.specs.declared.record.PortAddress.{PortAddress}
-use Rattle.nb_records.specs.declared.record.Switch.{Switch}
-use Rattle.nb_records.specs.declared.record.SwitchPort.{SwitchPort}
+use Rattle.nb_records.specs.declared.switch.PortAddress.{PortAddress}
+use Rattle.nb_records.specs.declared.switch.Switch.{Switch}
+use Rattle.nb_records.specs.declared.switch.SwitchPort.{SwitchPort}
 use Rattle.tunnel_keys.specs.declared.owner.DatapathKey.{DatapathKey}
 use Rattle.tunnel_keys.specs.declared.owner.PortKey.{PortKey}
 use Rattle.world_core.specs.Addresses.{macs_in}
@@ -208,7 +208,7 @@ module _ (b : Basis) (valid : IsValid b.net) (keys : HaveKeys b.net b.keys) wher
   of_port e = port_part b e.0 e.1 (datapath_number b.keys e.1.switch) (port_number b.keys e.0)
 
   -- the key of a port that is there is of the port's switch
-  key_on : (q : Name) (port : SwitchPort) (live : PortKey) → at b.net.ports q ≡ Some port → at b.keys.ports q ≡ Some live → live.datapath ≡ port.switch
+  key_on : (q : Name) (port : SwitchPort) (live : PortKey) → at b.net.switch_ports q ≡ Some port → at b.keys.ports q ≡ Some live → live.datapath ≡ port.switch
   key_on q port live found has =
       let own = keys.port_has q port found in
       ap (λ k. k.datapath) (same_Some live own.0 (sym has ∙ own.1)) ∙ own.3
@@ -241,11 +241,11 @@ module _ (b : Basis) (valid : IsValid b.net) (keys : HaveKeys b.net b.keys) wher
       let s = row_of_switch e f q in
       one_switch d.0 e.0 r.0 s.0 r.1 s.1 (sym r.2.on ∙ s.2.on))
 
-  once_ports : EachOnce (flat_map of_port b.net.ports)
+  once_ports : EachOnce (flat_map of_port b.net.switch_ports)
   once_ports =
-      once_parts of_port (λ e. e.0) b.net.ports (once_keys b.net.ports valid.ports_sorted)
+      once_parts of_port (λ e. e.0) b.net.switch_ports (once_keys b.net.switch_ports valid.ports_sorted)
       (λ e m.
-      let found : at b.net.ports e.0 ≡ Some e.1 = among_at e.0 e.1 b.net.ports valid.ports_sorted m in
+      let found : at b.net.switch_ports e.0 ≡ Some e.1 = among_at e.0 e.1 b.net.switch_ports valid.ports_sorted m in
       once_port_part b e.0 e.1 (datapath_number b.keys e.1.switch) (port_number b.keys e.0) (small_key e.0)
       (valid.once e.0 e.1 found))
       (λ d e f m n p q.
@@ -254,23 +254,23 @@ module _ (b : Basis) (valid : IsValid b.net) (keys : HaveKeys b.net b.keys) wher
       let switches : d.1.switch ≡ e.1.switch = one_switch d.1.switch e.1.switch r.0 s.0 r.2 s.2 (sym r.4.on ∙ s.4.on) in
       let j = of_number (λ (k : PortKey). k.key) (at b.keys.ports d.0) r.1 r.3 in
       let k = of_number (λ (k : PortKey). k.key) (at b.keys.ports e.0) s.1 s.3 in
-      let mine : j.0.datapath ≡ d.1.switch = key_on d.0 d.1 j.0 (among_at d.0 d.1 b.net.ports valid.ports_sorted m) j.1 in
-      let theirs : k.0.datapath ≡ e.1.switch = key_on e.0 e.1 k.0 (among_at e.0 e.1 b.net.ports valid.ports_sorted n) k.1 in
+      let mine : j.0.datapath ≡ d.1.switch = key_on d.0 d.1 j.0 (among_at d.0 d.1 b.net.switch_ports valid.ports_sorted m) j.1 in
+      let theirs : k.0.datapath ≡ e.1.switch = key_on e.0 e.1 k.0 (among_at e.0 e.1 b.net.switch_ports valid.ports_sorted n) k.1 in
       ports_apart b.net b.keys keys d.0 e.0 j.0 k.0 j.1 k.1 (mine ∙ switches ∙ sym theirs) (j.2 ∙ sym r.4.of ∙ s.4.of ∙ sym k.2))
 
   -- a row of a switch isn't one of a port
-  apart : (f : Flow) → Among f (flat_map of_switch b.net.switches) → ¬ Among f (flat_map of_port b.net.ports)
+  apart : (f : Flow) → Among f (flat_map of_switch b.net.switches) → ¬ Among f (flat_map of_port b.net.switch_ports)
   apart f m n =
       let d = flat_map_among of_switch f b.net.switches m in
-      let e = flat_map_among of_port f b.net.ports n in
+      let e = flat_map_among of_port f b.net.switch_ports n in
       false≢true (sym (row_of_switch d.0 f d.2).2.of_switch ∙ (row_of_port e.0 f e.2).4.of_port)
 
   -- a row of one of the units matches the datapath, or stands before the last and is none for what comes out of a tunnel
-  unit_row : (f : Flow) → Among f (flat_map of_switch b.net.switches ++ flat_map of_port b.net.ports) → (f.cube.dp.mask ≡ 2 ^ 24 - 1) ⊎ ((50 ≤ f.priority) × (is_arrival f.ops ≡ false))
+  unit_row : (f : Flow) → Among f (flat_map of_switch b.net.switches ++ flat_map of_port b.net.switch_ports) → (f.cube.dp.mask ≡ 2 ^ 24 - 1) ⊎ ((50 ≤ f.priority) × (is_arrival f.ops ≡ false))
   unit_row f m = elim (among_append f (flat_map of_switch b.net.switches) _ m) [
     | inl a ↦ let d = flat_map_among of_switch f b.net.switches a in inl (row_of_switch d.0 f d.2).2.masked
     | inr n ↦
-        let e = flat_map_among of_port f b.net.ports n in
+        let e = flat_map_among of_port f b.net.switch_ports n in
         let row = (row_of_port e.0 f e.2).4 in
         inr (row.before, row.leaves)
   ]

@@ -9,8 +9,8 @@ use Rattle.ovn_base.specs.declared.name.Name.{Name}
 use Rattle.geneve_frames.specs.Meaning.{Spells}
 use Rattle.geneve_frames.proofs.Canon.{canon_spells}
 use Rattle.geneve_frames.proofs.Faults.{one_spelled}
-use Rattle.nb_records.specs.declared.record.Switch.{Switch}
-use Rattle.nb_records.specs.declared.record.SwitchPort.{SwitchPort}
+use Rattle.nb_records.specs.declared.switch.Switch.{Switch}
+use Rattle.nb_records.specs.declared.switch.SwitchPort.{SwitchPort}
 use Rattle.tunnel_keys.specs.Keys.{held_ports}
 use Rattle.tunnel_keys.specs.declared.owner.HeldPort.{HeldPort}
 use Rattle.tunnel_keys.specs.declared.owner.Identity.{Identity}

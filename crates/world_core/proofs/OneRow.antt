@@ -9,7 +9,7 @@ use Rattle.ovn_base.specs.addresses.EtherAddress.{same_ether}
 use Rattle.inet_packet.specs.Fits.{CubeFits}
 use Rattle.flow_table.specs.declared.flow.Flow.{Flow}
 use Rattle.switch_engine.specs.declared.carried.Carried.{Carried}
-use Rattle.nb_records.specs.declared.record.SwitchPort.{SwitchPort}
+use Rattle.nb_records.specs.declared.switch.SwitchPort.{SwitchPort}
 use Rattle.world_core.specs.Addresses.{HasMac}
 use Rattle.world_core.specs.Crossing.{group_key}
 use Rattle.world_core.specs.Rows.{entry_row, arrival_row, pass_row, bad_source_row, vlan_row, flood_row, address_row, unknown_row, remote_row, spread_row, stay_row, home_row, copies_row, return_row, leave_row, output_row}
@@ -46,7 +46,7 @@ module _ (s : Setting) where
   -- a port is on one datapath
   one_switch : (q r : Name) (port other : SwitchPort) (dp d key k : ℕ) → IsPort b q port dp key → IsPort b r other d k → q ≡ r → dp ≡ d
   one_switch q r port other dp d key k of their same =
-      let record_is : port ≡ other = same_Some port other (sym of.there ∙ ap (λ n. at s.m.net.ports n) same ∙ their.there) in
+      let record_is : port ≡ other = same_Some port other (sym of.there ∙ ap (λ n. at s.m.net.switch_ports n) same ∙ their.there) in
       one_number s port.switch other.switch dp d of.on their.on (ap (λ (w : SwitchPort). w.switch) record_is)
 
   module _ (copy : Carried) (f g : Flow) (first : Matched s copy f) (second : Matched s copy g) where

@@ -10,7 +10,7 @@ use Rattle.ovn_base.specs.names.ByName.{at, put, put_all, in_order, IsByName}
 use Rattle.ovn_base.specs.declared.address.Birth.{Birth}
 use Rattle.ovn_base.proofs.AmongLaws.{among_cases, among_flat_map, among_none}
 use Rattle.ovn_base.proofs.ByNameLaws.{at_among, one_or_two, put_other, put_there}
-use Rattle.nb_records.specs.declared.record.Op.TheVariants.{Add}
+use Rattle.nb_records.specs.declared.change.Op.TheVariants.{Add, Set, Remove, Health}
 use Rattle.nb_records.specs.declared.record.Record.{Record}
 use Rattle.nb_records.specs.declared.record.Record.TheVariants as record_of
 use Rattle.edit_reader.specs.declared.event.Event.{Event}
@@ -31,7 +31,8 @@ use Rattle.tunnel_keys.specs.declared.owner.PortKey.{PortKey}
 use Rattle.tunnel_keys.proofs.Determined.{same_found}
 use Rattle.tunnel_keys.proofs.OwnerLaws.{datapaths_have, ports_have}
 use Rattle.world_core.specs.Admitted.{IsAdmitted}
-use Rattle.world_core.specs.Editing.{owners_of, datapath_effect, port_effect, added_ports, key_effects, accepted}
+use Rattle.world_core.specs.Editing.{owners_of, datapath_effect, port_effect, added_ports, key_effects}
+use Rattle.nb_records.specs.Editing.{accepted}
 use Rattle.world_core.specs.Numbers.{datapath_number, port_number}
 use Rattle.world_core.specs.Picks.{Fate, was_refused, was_accepted, Happens, Run}
 use Rattle.world_core.specs.Refusing.{refusal, refusal_of_record}
@@ -251,11 +252,15 @@ valid_with m (record_of.SwitchPort port) valid allowed =
     let new = is_new m.net port allowed in
     port_valid m.net port.name (record port { birth = record { 0 = event_count m + 1 } }) valid (is_built m.net port allowed).absent refl
     (is_there (is_unbuilt_port m.net port) (is_some (at m.net.switches port.switch)) why.NotBuilt (why.NoSuch port.switch) allowed)
-    (record { stations = new.stations; once = new.once; apart = new.apart; ips_apart = new.ips_apart })
+    (record { plain = new.plain; stations = new.stations; once = new.once; apart = new.apart; ips_apart = new.ips_apart })
+valid_with m _ valid allowed = cc
 
 does_valid : (m : State) (event : Event) (effects : List NetEffect) (after : State) → IsValid m.net → IsAdmitted event → refusal m event ≡ None → Does m event effects after → IsValid after.net
 does_valid m (Edit []) effects after valid admitted allowed h = cc
 does_valid m (Edit (Add row ∷ [])) effects after valid admitted allowed h = subst (λ (s : State). IsValid s.net) (sym h.state) (valid_with m row valid allowed)
+does_valid m (Edit (Set k name c ∷ [])) effects after valid admitted allowed h = cc
+does_valid m (Edit (Remove k name ∷ [])) effects after valid admitted allowed h = cc
+does_valid m (Edit (Health balancer backend online ∷ [])) effects after valid admitted allowed h = cc
 does_valid m (Edit (op ∷ next ∷ ops)) effects after valid admitted allowed h = cc
 does_valid m (Bind p chassis) effects after valid admitted allowed h = subst (λ (s : State). IsValid s.net) (sym h.1) valid
 does_valid m (AddChassis chassis) effects after valid admitted allowed h = subst (λ (s : State). IsValid s.net) (sym h.1) valid

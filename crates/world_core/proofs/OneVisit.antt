@@ -9,7 +9,7 @@ use Rattle.ovn_base.specs.declared.name.Name.{Name}
 use Rattle.inet_packet.specs.declared.packet.Packet as inet
 use Rattle.inet_packet.proofs.OnePacket.{one_packet_at_most}
 use Rattle.nb_records.specs.Network.{Network}
-use Rattle.nb_records.specs.declared.record.SwitchPort.{SwitchPort}
+use Rattle.nb_records.specs.declared.switch.SwitchPort.{SwitchPort}
 use Rattle.event_lines.specs.Picks.{picks_of}
 use Rattle.switch_engine.specs.declared.effect.NetEffect.{NetEffect}
 use Rattle.switch_engine.specs.declared.effect.NetEffect.TheVariants as effect
@@ -36,7 +36,7 @@ one_target net valid switch mac _ _ (HasTarget.many g) (HasTarget.nobody single 
 one_target net valid switch mac _ _ (HasTarget.known q port single t) (HasTarget.many g) = absurd (false≢true (sym single ∙ g))
 one_target net valid switch mac _ _ (HasTarget.known q port single t) (HasTarget.known r other also u) =
     let same : q ≡ r = valid.apart q r port other mac t.there u.there (t.on_switch ∙ sym u.on_switch) t.has_address u.has_address in
-    let ports : port ≡ other = same_Some port other (sym t.there ∙ ap (λ n. at net.ports n) same ∙ u.there) in
+    let ports : port ≡ other = same_Some port other (sym t.there ∙ ap (λ n. at net.switch_ports n) same ∙ u.there) in
     λ i. one (same i) (ports i)
 one_target net valid switch mac _ _ (HasTarget.known q port single t) (HasTarget.unknown_to also none some) = absurd (none q port t)
 one_target net valid switch mac _ _ (HasTarget.known q port single t) (HasTarget.nobody also none empty) = absurd (none q port t)

@@ -39,7 +39,7 @@ module _ (m : State) (have : HaveKeys m.net m.keys) (born : AreBorn m) where
   pub switch_fits : (name : Name) → at m.net.switches name ≡ None → IsKeyEdit m.keys (Datapath name next ∷ []) []
   switch_fits name absent = datapath_fits m.keys have.hold name next (datapath_new m.keys (event_count m) born.keys next (omega arith) name) (datapath_bare m.keys (event_count m) born.keys next (omega arith) name) (no_datapath_key m.net m.keys have name absent)
 
-  pub port_fits : (switch name : Name) → IsSome (at m.net.switches switch) → at m.net.ports name ≡ None → IsKeyEdit m.keys (Port switch name next ∷ []) []
+  pub port_fits : (switch name : Name) → IsSome (at m.net.switches switch) → at m.net.switch_ports name ≡ None → IsKeyEdit m.keys (Port switch name next ∷ []) []
   port_fits switch name there absent =
       let record' = some_of (at m.net.switches switch) there in
       let own = have.datapath_has switch record'.0 record'.1 in
@@ -51,8 +51,8 @@ module _ (m : State) (have : HaveKeys m.net m.keys) (born : AreBorn m) where
   few_datapaths : length m.keys.datapaths ≤ length m.net.switches
   few_datapaths = few_entries m.keys.datapaths m.net.switches have.hold.datapaths_in_order (λ a h. let s = some_of (at m.keys.datapaths a) h in have.datapath_of a s.0 s.1)
 
-  few_ports : length m.keys.ports ≤ length m.net.ports
-  few_ports = few_entries m.keys.ports m.net.ports have.hold.ports_in_order (λ q h. let s = some_of (at m.keys.ports q) h in have.port_of q s.0 s.1)
+  few_ports : length m.keys.ports ≤ length m.net.switch_ports
+  few_ports = few_entries m.keys.ports m.net.switch_ports have.hold.ports_in_order (λ q h. let s = some_of (at m.keys.ports q) h in have.port_of q s.0 s.1)
 
   free_datapath : length m.net.switches < 1024 → 1 ≤ length (free_datapath_keys m.keys)
   free_datapath few =
@@ -65,7 +65,7 @@ module _ (m : State) (have : HaveKeys m.net m.keys) (born : AreBorn m) where
       let range : m.keys.datapath_range ≡ 16777215 = have.datapath_range in
       omega (arith, few, few_datapaths, taken, count, range)
 
-  free_port : (d : Identity) → length m.net.ports < 10000 → 1 ≤ length (free_port_keys m.keys d)
+  free_port : (d : Identity) → length m.net.switch_ports < 10000 → 1 ≤ length (free_port_keys m.keys d)
   free_port d few =
       let on = filter (λ (e : Name × PortKey). same_name d.name e.1.datapath) m.keys.ports in
       let taken : length (taken_ports m.keys.ports m.keys.retired_ports d) ≡ length on =
@@ -88,7 +88,7 @@ module _ (m : State) (have : HaveKeys m.net m.keys) (born : AreBorn m) where
       ports = λ datapath lacks. let none = lacks.few in absurd (omega (arith, none));
     }
 
-    pub key_for_port : (switch : Name) → length m.net.ports < 10000 → HasKeys m.keys (Port switch name birth ∷ []) []
+    pub key_for_port : (switch : Name) → length m.net.switch_ports < 10000 → HasKeys m.keys (Port switch name birth ∷ []) []
     key_for_port switch few = record {
       datapaths = λ lacks. absurd (omega (arith, lacks));
       ports = λ datapath lacks.

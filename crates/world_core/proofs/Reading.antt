@@ -10,7 +10,7 @@ use Rattle.ovn_base.proofs.AmongLaws.{among_append, among_none, filter_map_among
 use Rattle.ovn_base.proofs.ByNameLaws.{among_at}
 use Rattle.geneve_frames.specs.Meaning.{Spells}
 use Rattle.geneve_frames.proofs.Canon.{canon_spells}
-use Rattle.nb_records.specs.declared.record.Switch.{Switch}
+use Rattle.nb_records.specs.declared.switch.Switch.{Switch}
 use Rattle.tunnel_keys.specs.Keys.{held_port, held_ports}
 use Rattle.tunnel_keys.specs.declared.owner.HeldPort.{HeldPort}
 use Rattle.tunnel_keys.specs.declared.owner.Identity.{Identity}
@@ -43,7 +43,7 @@ module _ (m : State) (have : HaveKeys m.net m.keys) where
       let e = filter_map_among (held_port m.keys.datapaths) h m.keys.ports (live_port h key.1) in
       let is = held_port_is m.keys.datapaths e.0 h e.2 in
       let has = among_at e.0.0 e.0.1 m.keys.ports have.hold.ports_in_order e.1 in
-      let port = some_of (at m.net.ports e.0.0) (have.port_of e.0.0 e.0.1 has) in
+      let port = some_of (at m.net.switch_ports e.0.0) (have.port_of e.0.0 e.0.1 has) in
       let own = have.port_has e.0.0 port.0 port.1 in
       let same : own.0 ≡ e.0.1 = same_Some own.0 e.0.1 (sym own.1 ∙ has) in
       let owner : h.owner ≡ id = key.2 in
@@ -56,7 +56,7 @@ module _ (m : State) (have : HaveKeys m.net m.keys) where
           on = on;
           number = sym (ap (λ (x : HeldPort). x.key) is.2) ∙ sym (port_key_is m.keys have.hold h id key.1 owner);
         },
-        (port.0, ap (λ q. at m.net.ports q) (sym name_is) ∙ port.1, sym own.2 ∙ ap (λ (k : PortKey). k.birth) same ∙ birth_is),
+        (port.0, ap (λ q. at m.net.switch_ports q) (sym name_is) ∙ port.1, sym own.2 ∙ ap (λ (k : PortKey). k.birth) same ∙ birth_is),
       )
 
   module _ (p to : Name) (bytes : List ℕ) (x : Crossing) (f : IsSentFrom m p to bytes x) where

@@ -10,7 +10,7 @@ use Rattle.ovn_base.specs.names.ByName.{at}
 use Rattle.ovn_base.specs.names.SameName.{same_name}
 use Rattle.nb_records.specs.Network.{Network}
 use Rattle.nb_records.specs.declared.record.Record.TheVariants as record_of
-use Rattle.nb_records.specs.declared.record.SwitchPort.{SwitchPort}
+use Rattle.nb_records.specs.declared.switch.SwitchPort.{SwitchPort}
 use Rattle.edit_reader.specs.declared.event.Event.TheVariants as event_of
 use Rattle.chassis_sim.specs.State.{numbered}
 use Rattle.event_lines.specs.declared.refusal.Refusal.{Refusal}
@@ -20,7 +20,7 @@ use Rattle.world_core.specs.NewPort.{AreNew}
 use Rattle.world_core.specs.Refusing.{refusal, refusal_of_entry, refusal_of_record, too_many_wait}
 use Rattle.world_core.specs.State.{State, is_chassis}
 use Rattle.world_core.specs.Unbuilt.{is_unbuilt_port}
-use Rattle.world_core.proofs.Unheld.{built, IsBuilt, all_of_stations, macs_once}
+use Rattle.world_core.proofs.Unheld.{built, IsBuiltPort, all_of_stations, macs_once}
 
 both : (a b : Bool) (x y : Refusal) → cond a (cond b None (Some x)) (Some y) ≡ None → b ≡ true
 both true true x y h = refl
@@ -33,7 +33,7 @@ none_first false x rest h = refl
 
 -- a packet's port is bound
 pub is_bound : (m : State) (p : Name) → refusal_of_entry m p ≡ None → is_some (at m.bindings p) ≡ true
-is_bound m p h = by (is_some (at m.net.ports p)) (is_some (at m.bindings p)) (too_many_wait m) h
+is_bound m p h = by (is_some (at m.net.switch_ports p)) (is_some (at m.bindings p)) (too_many_wait m) h
   where
     by : (a b c : Bool) → cond a (cond b (cond c (Some why.TooManyFrames) None) (Some why.NotBuilt)) (Some (why.NoSuch p)) ≡ None → b ≡ true
     by true true c h = refl
@@ -67,7 +67,7 @@ chassis_new m c h = by (is_chassis m c) (nat_le 64 (length m.chassis)) refl h
 
 -- the chassis of a binding is there
 pub is_known : (m : State) (p chassis : Name) → refusal m (event_of.Bind p chassis) ≡ None → is_chassis m chassis ≡ true
-is_known m p chassis h = both (is_some (at m.net.ports p)) (is_chassis m chassis) _ _ h
+is_known m p chassis h = both (is_some (at m.net.switch_ports p)) (is_chassis m chassis) _ _ h
 
 pub among_chassis : (names : List Name) (chassis : Name) → list_any (λ c. same_name c chassis) names ≡ true → Among chassis names
 among_chassis [] chassis h = cc
@@ -78,10 +78,10 @@ among_chassis (c ∷ names) chassis h =
     ] refl h
 
 -- an added port is built, and its addresses are new
-pub is_built : (net : Network) (port : SwitchPort) → refusal_of_record net (record_of.SwitchPort port) ≡ None → IsBuilt net port
+pub is_built : (net : Network) (port : SwitchPort) → refusal_of_record net (record_of.SwitchPort port) ≡ None → IsBuiltPort net port
 is_built net port h = built net port (none_first (is_unbuilt_port net port) _ _ h)
 
 pub is_new : (net : Network) (port : SwitchPort) → refusal_of_record net (record_of.SwitchPort port) ≡ None → AreNew net port
 is_new net port h =
     let is = is_built net port h in
-    record { stations = all_of_stations port.addresses is.entries; once = macs_once port.addresses is.entries; apart = is.apart; ips_apart = is.ips_apart }
+    record { plain = is.plain; stations = all_of_stations port.addresses is.entries; once = macs_once port.addresses is.entries; apart = is.apart; ips_apart = is.ips_apart }

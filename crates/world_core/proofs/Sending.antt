@@ -19,7 +19,7 @@ use Rattle.switch_engine.specs.declared.carried.Carried.{Carried}
 use Rattle.switch_engine.specs.declared.effect.Effect.{Effect}
 use Rattle.switch_engine.specs.declared.effect.Effect.TheVariants as effect
 use Rattle.switch_engine.specs.declared.effect.Entry.TheVariants.{Vif}
-use Rattle.nb_records.specs.declared.record.SwitchPort.{SwitchPort}
+use Rattle.nb_records.specs.declared.switch.SwitchPort.{SwitchPort}
 use Rattle.world_core.specs.Crossing.{group_key}
 use Rattle.world_core.specs.Effects.{datapath_key, port_key, aim_key}
 use Rattle.world_core.specs.declared.crossing.Aim.{Aim}

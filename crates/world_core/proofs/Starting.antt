@@ -36,6 +36,7 @@ new_valid = record {
   once = λ q port e. absurd (none-some port e);
   apart = λ p q ours theirs mac e f switch has also. absurd (none-some ours e);
   ips_apart = λ p q ours theirs ip e f switch has also. absurd (none-some ours e);
+  built = record { others = refl; ports = λ q port e. absurd (none-some port e) };
 }
 
 new_have : HaveKeys empty.net first_keys

@@ -1,5 +1,5 @@
 -- What follows for a port that isn't refused.
-use Rattle.std.specs.Prelude.{◌≡◌, ◌<◌, ◌||◌, ◌&&◌, Bool, true, false, List, [], ◌∷◌, Option, Some, None, is_some, nat_le, length, refl}
+use Rattle.std.specs.Prelude.{◌≡◌, ◌<◌, ◌||◌, ◌&&◌, Bool, true, false, not, List, [], ◌∷◌, Option, Some, None, is_some, nat_le, length, refl}
 use Rattle.std.specs.List.{cons_option}
 use mathlib.Core.Path.{sym, ap, subst, ◌∙◌}
 use Rattle.std.proofs.Math.Dec.{eqb as nat_eq}
@@ -17,11 +17,13 @@ use Rattle.ovn_base.specs.declared.name.Name.{Name}
 use Rattle.ovn_base.proofs.AmongLaws.{among_any, among_none, filter_map_among}
 use Rattle.nb_records.specs.Network.{Network}
 use Rattle.ovn_base.proofs.ByNameLaws.{at_among}
-use Rattle.nb_records.specs.declared.record.PortAddress.{PortAddress}
-use Rattle.nb_records.specs.declared.record.PortAddress.TheVariants.{Ether, Unknown}
-use Rattle.nb_records.specs.declared.record.SwitchPort.{SwitchPort}
+use Rattle.nb_records.specs.declared.switch.PortAddress.{PortAddress}
+use Rattle.nb_records.specs.declared.switch.PortAddress.TheVariants.{Ether, Unknown, Router}
+use Rattle.nb_records.specs.declared.switch.SwitchPort.{SwitchPort}
+use Rattle.world_core.specs.Built.{is_plain_port}
 use Rattle.world_core.specs.Addresses.{mac_in, macs_in, ips_of, HasMac, HasIp, IsOfStation}
-use Rattle.world_core.specs.Unbuilt.{same_mac, is_zero_mac, is_among, repeats, is_no_entry, clash, clashes, share, has_common, has_no_entry, is_held, is_unbuilt_port}
+use Rattle.world_core.specs.Unbuilt.{is_zero_mac, is_among, repeats, is_no_entry, clash, clashes, share, has_common, has_no_entry, is_held, is_unbuilt_port}
+use Rattle.nb_records.specs.Switches.{same_mac}
 
 -- entries with one Ethernet address clash
 one_mac : (a b : PortAddress) (mac : Mac) → mac_in a ≡ Some mac → mac_in b ≡ Some mac → clash a b ≡ true
@@ -29,10 +31,12 @@ one_mac (Ether mac ips) (Ether other others) one is also =
     let same : mac ≡ other = same_Some mac one is ∙ sym (same_Some other one also) in
     ap (λ (t : Bool). t || has_common ips others) ((same_ether_decides mac other).1 same)
 one_mac (Ether mac ips) Unknown one is also = absurd (none-some one also)
+one_mac (Ether mac ips) Router one is also = absurd (none-some one also)
 one_mac Unknown theirs one is also = absurd (none-some one is)
+one_mac Router theirs one is also = absurd (none-some one is)
 
 -- where no port of the switch has one of the addresses, none has one of the Ethernet addresses
-pub not_held : (net : Network) (port : SwitchPort) → is_held net port ≡ false → (q : Name) (other : SwitchPort) → at net.ports q ≡ Some other → other.switch ≡ port.switch
+pub not_held : (net : Network) (port : SwitchPort) → is_held net port ≡ false → (q : Name) (other : SwitchPort) → at net.switch_ports q ≡ Some other → other.switch ≡ port.switch
     → (mac : Mac) → HasMac other.addresses mac → ¬ HasMac port.addresses mac
 unfolding is_held
 not_held net port free q other found on mac theirs ours =
@@ -42,7 +46,7 @@ not_held net port free q other found on mac theirs ours =
     let same : same_name other.switch port.switch ≡ true = (bytes_decides other.switch port.switch).1 on in
     let both : (same_name other.switch port.switch && share other.addresses port.addresses) ≡ true = ap (λ (t : Bool). t && share other.addresses port.addresses) same ∙ some in
     let held : is_held net port ≡ true =
-    among_any (λ (e : Name × SwitchPort). same_name e.1.switch port.switch && share e.1.addresses port.addresses) (q, other) net.ports (at_among net.ports q other found) both in
+    among_any (λ (e : Name × SwitchPort). same_name e.1.switch port.switch && share e.1.addresses port.addresses) (q, other) net.switch_ports (at_among net.switch_ports q other found) both in
     false≢true (sym free ∙ held)
 
 -- entries with one IP clash
@@ -51,10 +55,12 @@ one_ip (Ether mac ips) (Ether other others) ip ours theirs =
     let found : is_among others ip ≡ true = among_any (λ (other : Ip4). nat_eq other.0 ip.0) ip others theirs ((Decides-eqb ip.0 ip.0).1 refl) in
     or_right (same_mac mac other) (has_common ips others) (among_any (λ one. is_among others one) ip ips ours found)
 one_ip (Ether mac ips) Unknown ip ours theirs = absurd (among_none ip theirs)
+one_ip (Ether mac ips) Router ip ours theirs = absurd (among_none ip theirs)
 one_ip Unknown theirs ip ours also = absurd (among_none ip ours)
+one_ip Router theirs ip ours also = absurd (among_none ip ours)
 
 -- nor one of the IPs
-pub ip_not_held : (net : Network) (port : SwitchPort) → is_held net port ≡ false → (q : Name) (other : SwitchPort) → at net.ports q ≡ Some other → other.switch ≡ port.switch
+pub ip_not_held : (net : Network) (port : SwitchPort) → is_held net port ≡ false → (q : Name) (other : SwitchPort) → at net.switch_ports q ≡ Some other → other.switch ≡ port.switch
     → (ip : Ip4) → HasIp other.addresses ip → ¬ HasIp port.addresses ip
 unfolding is_held
 ip_not_held net port free q other found on ip theirs ours =
@@ -64,7 +70,7 @@ ip_not_held net port free q other found on ip theirs ours =
     let same : same_name other.switch port.switch ≡ true = (bytes_decides other.switch port.switch).1 on in
     let both : (same_name other.switch port.switch && share other.addresses port.addresses) ≡ true = ap (λ (t : Bool). t && share other.addresses port.addresses) same ∙ some in
     let held : is_held net port ≡ true =
-    among_any (λ (e : Name × SwitchPort). same_name e.1.switch port.switch && share e.1.addresses port.addresses) (q, other) net.ports (at_among net.ports q other found) both in
+    among_any (λ (e : Name × SwitchPort). same_name e.1.switch port.switch && share e.1.addresses port.addresses) (q, other) net.switch_ports (at_among net.switch_ports q other found) both in
     false≢true (sym free ∙ held)
 
 -- an entry that a port can have has the address of a station
@@ -77,6 +83,7 @@ of_station (Ether own ips) mac h is =
       not_zero = λ zero. false≢true (sym addresses.0 ∙ (Decides-eqb own.number 0).1 zero);
     })
 of_station Unknown mac h is = absurd (none-some mac is)
+of_station Router mac h is = absurd (none-some mac is)
 
 -- so have all
 pub all_of_stations : (addresses : List PortAddress) → has_no_entry addresses ≡ false → (mac : Mac) → HasMac addresses mac → IsOfStation mac
@@ -107,23 +114,30 @@ pub not_there : {X : Type 0} (o : Option X) → is_some o ≡ false → o ≡ No
 not_there None h = refl
 not_there (Some x) h = absurd (false≢true (sym h))
 
--- a port that is built
-pub record IsBuilt (net : Network) (port : SwitchPort) : Type 0 where
-  pub absent : at net.ports port.name ≡ None
-  pub few : length net.ports < 10000
-  pub entries : has_no_entry port.addresses ≡ false
-  pub apart : (q : Name) (other : SwitchPort) → at net.ports q ≡ Some other → other.switch ≡ port.switch → (mac : Mac) → HasMac other.addresses mac → ¬ HasMac port.addresses mac
-  pub ips_apart : (q : Name) (other : SwitchPort) → at net.ports q ≡ Some other → other.switch ≡ port.switch → (ip : Ip4) → HasIp other.addresses ip → ¬ HasIp port.addresses ip
+not_so : (b : Bool) → not b ≡ false → b ≡ true
+not_so true h = refl
+not_so false h = absurd (false≢true (sym h))
 
-pub built : (net : Network) (port : SwitchPort) → is_unbuilt_port net port ≡ false → IsBuilt net port
+-- a port that is built
+pub record IsBuiltPort (net : Network) (port : SwitchPort) : Type 0 where
+  pub plain : is_plain_port port ≡ true
+  pub absent : at net.switch_ports port.name ≡ None
+  pub few : length net.switch_ports < 10000
+  pub entries : has_no_entry port.addresses ≡ false
+  pub apart : (q : Name) (other : SwitchPort) → at net.switch_ports q ≡ Some other → other.switch ≡ port.switch → (mac : Mac) → HasMac other.addresses mac → ¬ HasMac port.addresses mac
+  pub ips_apart : (q : Name) (other : SwitchPort) → at net.switch_ports q ≡ Some other → other.switch ≡ port.switch → (ip : Ip4) → HasIp other.addresses ip → ¬ HasIp port.addresses ip
+
+pub built : (net : Network) (port : SwitchPort) → is_unbuilt_port net port ≡ false → IsBuiltPort net port
 unfolding is_unbuilt_port
 built net port h =
-    let a = or_parts (is_some (at net.ports port.name) || nat_le 10000 (length net.ports) || has_no_entry port.addresses) (is_held net port) h in
-    let b = or_parts (is_some (at net.ports port.name) || nat_le 10000 (length net.ports)) (has_no_entry port.addresses) a.0 in
-    let c = or_parts (is_some (at net.ports port.name)) (nat_le 10000 (length net.ports)) b.0 in
+    let a = or_parts (not (is_plain_port port) || is_some (at net.switch_ports port.name) || nat_le 10000 (length net.switch_ports) || has_no_entry port.addresses) (is_held net port) h in
+    let b = or_parts (not (is_plain_port port) || is_some (at net.switch_ports port.name) || nat_le 10000 (length net.switch_ports)) (has_no_entry port.addresses) a.0 in
+    let c = or_parts (not (is_plain_port port) || is_some (at net.switch_ports port.name)) (nat_le 10000 (length net.switch_ports)) b.0 in
+    let d = or_parts (not (is_plain_port port)) (is_some (at net.switch_ports port.name)) c.0 in
     record {
-      absent = not_there (at net.ports port.name) c.0;
-      few = leb-false 10000 (length net.ports) c.1;
+      plain = not_so (is_plain_port port) d.0;
+      absent = not_there (at net.switch_ports port.name) d.1;
+      few = leb-false 10000 (length net.switch_ports) c.1;
       entries = b.1;
       apart = not_held net port a.1;
       ips_apart = ip_not_held net port a.1;

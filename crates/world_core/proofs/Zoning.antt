@@ -94,17 +94,17 @@ module _ (bindings : List (Name × Name)) (c q : Name) where
       by (Some home) e h = e ∙ ap (λ n. Some n) ((bytes_decides home c).0 h)
 
 -- zones are at most as many as ports
-pub few_zones : (m : State) (zones : List (Name × ℕ)) → AreBound m zones → length zones ≤ length m.net.ports
+pub few_zones : (m : State) (zones : List (Name × ℕ)) → AreBound m zones → length zones ≤ length m.net.switch_ports
 few_zones m zones bound =
-    few_entries zones m.net.ports bound.zones_sorted
+    few_entries zones m.net.switch_ports bound.zones_sorted
     (λ q h. let s = some_of (at zones q) h in let b = some_of (at m.bindings q) (bound.zone_of q s.0 s.1) in bound.port_there q b.0 b.1)
 
 module _ (m : State) (zones : List (Name × ℕ)) (bound : AreBound m zones) (c : Name) where
-  pub few_on : length (zones_on m.bindings zones c) ≤ length m.net.ports
+  pub few_on : length (zones_on m.bindings zones c) ≤ length m.net.switch_ports
   few_on =
       let few : length (filter (λ z. is_at m.bindings z.0 c) zones) ≤ length zones = filter_few (λ z. is_at m.bindings z.0 c) zones in
       let same : length (zones_on m.bindings zones c) ≡ length (filter (λ z. is_at m.bindings z.0 c) zones) = map_length (λ (z : Name × ℕ). z.1) (filter (λ z. is_at m.bindings z.0 c) zones) in
-      let all : length zones ≤ length m.net.ports = few_zones m zones bound in
+      let all : length zones ≤ length m.net.switch_ports = few_zones m zones bound in
       omega (arith, few, same, all)
 
   -- the zone of a port there is one of those that are taken
@@ -130,10 +130,10 @@ module _ (m : State) (zones : List (Name × ℕ)) (bound : AreBound m zones) (c 
         apart = λ q z other there own same. other (bound.zones_apart q p c has.0 there home (own ∙ ap (λ n. Some n) same) has.1);
       })
 
-  comes : (p : Name) → length m.net.ports ≤ 10000 → IsZone p (least_free (zones_on m.bindings zones c))
+  comes : (p : Name) → length m.net.switch_ports ≤ 10000 → IsZone p (least_free (zones_on m.bindings zones c))
   comes p within =
       let free = least_is_free (zones_on m.bindings zones c) in
-      let few : length (zones_on m.bindings zones c) ≤ length m.net.ports = few_on in
+      let few : length (zones_on m.bindings zones c) ≤ length m.net.switch_ports = few_on in
       let high : least_free (zones_on m.bindings zones c) ≤ length (zones_on m.bindings zones c) + 1 = free.high in
       record {
         low = free.low;
@@ -141,7 +141,7 @@ module _ (m : State) (zones : List (Name × ℕ)) (bound : AreBound m zones) (c 
         apart = λ q z other there own same. free.free (subst (λ n. Among n (zones_on m.bindings zones c)) same (zone_taken q z there own));
       }
 
-  pub zone_is : (p : Name) → length m.net.ports ≤ 10000 → IsZone p (zone_for m.bindings zones p c)
+  pub zone_is : (p : Name) → length m.net.switch_ports ≤ 10000 → IsZone p (zone_for m.bindings zones p c)
   zone_is p within = elim (cases_Bool (is_at m.bindings p c)) [
     | inl home ↦ subst (λ b. IsZone p (cond b (unwrap_or (at zones p) 0) (least_free (zones_on m.bindings zones c)))) (sym home) (stays p (at_so m.bindings c p home))
     | inr other ↦ subst (λ b. IsZone p (cond b (unwrap_or (at zones p) 0) (least_free (zones_on m.bindings zones c)))) (sym other) (comes p within)

@@ -5,13 +5,14 @@ use Rattle.ovn_base.specs.addresses.EtherAddress.{is_multicast_mac}
 use Rattle.ovn_base.specs.lists.Among.{Among}
 use Rattle.ovn_base.specs.declared.address.Ip4.{Ip4}
 use Rattle.ovn_base.specs.declared.address.Mac.{Mac}
-use Rattle.nb_records.specs.declared.record.PortAddress.{PortAddress}
-use Rattle.nb_records.specs.declared.record.PortAddress.TheVariants.{Ether, Unknown}
+use Rattle.nb_records.specs.declared.switch.PortAddress.{PortAddress}
+use Rattle.nb_records.specs.declared.switch.PortAddress.TheVariants.{Ether, Unknown, Router}
 
 -- the Ethernet address of an entry, if it has one
 abbrev pub mac_in : PortAddress → Option Mac
 mac_in (Ether mac ips) = Some mac
 mac_in Unknown = None
+mac_in Router = None
 
 -- the Ethernet addresses of the entries
 abbrev pub macs_in : List PortAddress → List Mac
@@ -27,6 +28,7 @@ pub record HasMac (addresses : List PortAddress) (mac : Mac) : Type 0 where
 abbrev pub ips_of : PortAddress → List Ip4
 ips_of (Ether mac ips) = ips
 ips_of Unknown = []
+ips_of Router = []
 
 -- some entry has the IP
 pub record HasIp (addresses : List PortAddress) (ip : Ip4) : Type 0 where
@@ -36,15 +38,6 @@ pub record HasIp (addresses : List PortAddress) (ip : Ip4) : Type 0 where
 
 abbrev pub ips_in : List PortAddress → List Ip4
 ips_in addresses = flat_map ips_of addresses
-
--- the entry is the word `unknown`
-abbrev pub is_unknown : PortAddress → Bool
-is_unknown (Ether mac ips) = false
-is_unknown Unknown = true
-
--- a port with these entries takes packets for addresses that no port has
-abbrev pub takes_unknown : List PortAddress → Bool
-takes_unknown addresses = list_any is_unknown addresses
 
 -- the Ethernet address is that of a station: neither one of a group nor zero
 pub record IsOfStation (mac : Mac) : Type 0 where

@@ -5,11 +5,11 @@ use Rattle.std.specs.Cmp.Lexicographic.{slice_cmp}
 use Rattle.ovn_base.specs.declared.address.Birth.{Birth}
 use Rattle.ovn_base.specs.declared.name.Name.{Name}
 use Rattle.ovn_base.specs.names.ByName.{in_order}
-use Rattle.nb_records.specs.Network.{Network, with_record}
-use Rattle.nb_records.specs.declared.record.Op.{Op}
-use Rattle.nb_records.specs.declared.record.Op.TheVariants.{Add}
+use Rattle.nb_records.specs.Editing.{accepted}
+use Rattle.nb_records.specs.declared.change.Op.{Op}
+use Rattle.nb_records.specs.declared.change.Op.TheVariants.{Add}
 use Rattle.nb_records.specs.declared.record.Record.{Record}
-use Rattle.nb_records.specs.declared.record.Record.TheVariants.{Switch, SwitchPort}
+use Rattle.nb_records.specs.declared.record.Record.TheVariants.{Switch, Router, SwitchPort, RouterPort}
 use Rattle.switch_engine.specs.declared.effect.NetEffect.{NetEffect}
 use Rattle.switch_engine.specs.declared.effect.NetEffect.TheVariants.{DatapathKey, PortKey}
 use Rattle.tunnel_keys.specs.Edits.{GivesKeys}
@@ -20,25 +20,19 @@ use Rattle.tunnel_keys.specs.declared.owner.KeyOwner.TheVariants.{Datapath, Port
 use Rattle.world_core.specs.Numbers.{datapath_number, port_number}
 use Rattle.world_core.specs.State.{State, event_count}
 
--- the record, added by the event of this number
-abbrev pub born : ℕ → Record → Record
-born n (Switch switch) = Switch (record switch { birth = record { 0 = n } })
-born n (SwitchPort port) = SwitchPort (record port { birth = record { 0 = n } })
-
--- the records after the operations, in their order
-abbrev pub accepted : Network → List Op → ℕ → Network
-accepted net [] n = net
-accepted net (Add record' ∷ ops) n = accepted (with_record net (born n record')) ops n
-
 -- who gets a key with the record, where the event of this number adds it
-abbrev pub owner_of : Record → ℕ → KeyOwner
-owner_of (Switch switch) n = Datapath switch.name (record { 0 = n })
-owner_of (SwitchPort port) n = Port port.switch port.name (record { 0 = n })
+abbrev pub owner_of : Record → ℕ → List KeyOwner
+owner_of (Switch switch) n = Datapath switch.name (record { 0 = n }) ∷ []
+owner_of (Router router) n = Datapath router.name (record { 0 = n }) ∷ []
+owner_of (SwitchPort port) n = Port port.switch port.name (record { 0 = n }) ∷ []
+owner_of (RouterPort port) n = Port port.router port.name (record { 0 = n }) ∷ []
+owner_of _ n = []
 
 -- who gets a key by the operations
 abbrev pub owners_of : List Op → ℕ → List KeyOwner
 owners_of [] n = []
-owners_of (Add record' ∷ ops) n = owner_of record' n ∷ owners_of ops n
+owners_of (Add record' ∷ ops) n = owner_of record' n ++ owners_of ops n
+owners_of (_ ∷ ops) n = owners_of ops n
 
 -- the line of a datapath's key, and of a port's; who was given a key has one
 abbrev pub datapath_effect : Keys → Name × Birth → NetEffect

@@ -6,8 +6,8 @@ use Rattle.ovn_base.specs.names.ByName.{at}
 use Rattle.ovn_base.specs.names.SameName.{same_name}
 use Rattle.ovn_base.specs.declared.name.Name.{Name}
 use Rattle.nb_records.specs.Network.{Network}
-use Rattle.nb_records.specs.declared.record.SwitchPort.{SwitchPort}
-use Rattle.world_core.specs.Addresses.{takes_unknown}
+use Rattle.nb_records.specs.declared.switch.SwitchPort.{SwitchPort}
+use Rattle.nb_records.specs.Switches.{takes_unknown}
 use Rattle.world_core.specs.declared.crossing.Group.{Group}
 use Rattle.world_core.specs.declared.crossing.Group.TheVariants.{Flood, Unknown}
 
@@ -27,7 +27,7 @@ is_group_member Unknown port = takes_unknown port.addresses
 
 -- the members of a group of the switch, in order of name
 abbrev pub members : Network → Name → Group → List Name
-members net switch group = keys_of (filter (λ e. same_name e.1.switch switch && is_group_member group e.1) net.ports)
+members net switch group = keys_of (filter (λ e. same_name e.1.switch switch && is_group_member group e.1) net.switch_ports)
 
 -- those of them that are at home on the chassis
 abbrev pub members_at : Network → List (Name × Name) → Name → Group → Name → List Name

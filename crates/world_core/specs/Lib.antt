@@ -17,6 +17,7 @@ pub mod Sound
 pub mod Consistent
 pub mod Naming
 pub mod WalkLaw
+pub mod Built
 pub mod Unbuilt
 pub mod Editing
 pub mod WorldView

@@ -12,8 +12,8 @@ use Rattle.chassis_sim.specs.InNames.{frames_sent}
 use Rattle.chassis_sim.specs.Passing as sim
 use Rattle.chassis_sim.specs.State as held
 use Rattle.chassis_sim.specs.declared.out.SimOut.{SimOut}
-use Rattle.nb_records.specs.declared.record.Switch.{Switch}
-use Rattle.nb_records.specs.declared.record.SwitchPort.{SwitchPort}
+use Rattle.nb_records.specs.declared.switch.Switch.{Switch}
+use Rattle.nb_records.specs.declared.switch.SwitchPort.{SwitchPort}
 use Rattle.switch_engine.specs.declared.effect.NetEffect.{NetEffect}
 use Rattle.world_core.specs.Crossing.{group_key}
 use Rattle.world_core.specs.Effects.{spelled}
@@ -58,7 +58,7 @@ AreGone most old before after new = HasPassed old before after new (λ s b a t. 
 -- the crossing is one of a packet from the port, which its frame spells under the keys
 pub record IsSentFrom (m : State) (p to : Name) (bytes : List ℕ) (x : Crossing) : Type 0 where
   pub port : SwitchPort
-  pub there : at m.net.ports p ≡ Some port
+  pub there : at m.net.switch_ports p ≡ Some port
   pub switch : Switch
   pub on : at m.net.switches port.switch ≡ Some switch
   pub datapath : x.datapath ≡ record { name = port.switch; birth = switch.birth }
@@ -75,7 +75,7 @@ pub record AreSentBy (m : State) (p : Name) (effects : List NetEffect) (crossing
 -- the number is that of whom a packet in the switch goes to
 abbrev pub IsNumberOf : State → Name → ℕ → Aim → Type 0
 IsNumberOf m switch key (ToGroup g) = key ≡ group_key g
-IsNumberOf m switch key (ToPort id) = HasPortKey m.keys switch id.name key × ((port : SwitchPort) × (at m.net.ports id.name ≡ Some port) × (port.birth ≡ id.birth))
+IsNumberOf m switch key (ToPort id) = HasPortKey m.keys switch id.name key × ((port : SwitchPort) × (at m.net.switch_ports id.name ≡ Some port) × (port.birth ≡ id.birth))
 
 -- these crossings of a packet from the port can be put behind those that wait
 pub record CanBeKept (m : State) (p : Name) (effects : List NetEffect) (crossings : List (ℕ × Crossing)) : Type 0 where

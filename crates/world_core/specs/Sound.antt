@@ -16,8 +16,8 @@ use Rattle.inet_packet.specs.Whole.{IsWhole}
 use Rattle.inet_packet.specs.declared.packet.Packet.{Packet}
 use Rattle.flow_table.specs.declared.flow.Flow.{Flow}
 use Rattle.nb_records.specs.Network.{Network, empty_network}
-use Rattle.nb_records.specs.declared.record.Switch.{Switch}
-use Rattle.nb_records.specs.declared.record.SwitchPort.{SwitchPort}
+use Rattle.nb_records.specs.declared.switch.Switch.{Switch}
+use Rattle.nb_records.specs.declared.switch.SwitchPort.{SwitchPort}
 use Rattle.tunnel_keys.specs.Births.{AreKeysBorn}
 use Rattle.tunnel_keys.specs.Keys.{Keys, IsKeys, held_datapaths, held_ports}
 use Rattle.tunnel_keys.specs.declared.owner.DatapathKey.{DatapathKey}
@@ -26,6 +26,7 @@ use Rattle.tunnel_keys.specs.declared.owner.HeldDatapath.{HeldDatapath}
 use Rattle.tunnel_keys.specs.declared.owner.HeldPort.{HeldPort}
 use Rattle.tunnel_keys.specs.declared.owner.Identity.{Identity}
 use Rattle.world_core.specs.Addresses.{macs_in, HasMac, HasIp, IsOfStation}
+use Rattle.world_core.specs.Built.{IsBuilt}
 use Rattle.world_core.specs.declared.crossing.Crossing.{Crossing}
 use Rattle.world_core.specs.declared.crossing.Aim.{Aim}
 use Rattle.world_core.specs.declared.crossing.Aim.TheVariants.{ToPort, ToGroup}
@@ -37,23 +38,25 @@ use Rattle.world_core.specs.Tables.{TableFlow}
 -- the records are ones that edits can leave
 pub record IsValid (net : Network) : Type 0 where
   pub switches_sorted : IsByName net.switches
-  pub ports_sorted : IsByName net.ports
+  pub ports_sorted : IsByName net.switch_ports
   pub switch_names : (a : Name) (switch : Switch) → at net.switches a ≡ Some switch → switch.name ≡ a
-  pub port_names : (q : Name) (port : SwitchPort) → at net.ports q ≡ Some port → port.name ≡ q
-  pub on_switch : (q : Name) (port : SwitchPort) → at net.ports q ≡ Some port → IsSome (at net.switches port.switch)
+  pub port_names : (q : Name) (port : SwitchPort) → at net.switch_ports q ≡ Some port → port.name ≡ q
+  pub on_switch : (q : Name) (port : SwitchPort) → at net.switch_ports q ≡ Some port → IsSome (at net.switches port.switch)
   -- each Ethernet address is a station's, and of one entry of the port
-  pub stations : (q : Name) (port : SwitchPort) (mac : Mac) → at net.ports q ≡ Some port → HasMac port.addresses mac → IsOfStation mac
-  pub once : (q : Name) (port : SwitchPort) → at net.ports q ≡ Some port → EachOnce (macs_in port.addresses)
+  pub stations : (q : Name) (port : SwitchPort) (mac : Mac) → at net.switch_ports q ≡ Some port → HasMac port.addresses mac → IsOfStation mac
+  pub once : (q : Name) (port : SwitchPort) → at net.switch_ports q ≡ Some port → EachOnce (macs_in port.addresses)
   -- no two ports of a switch have one Ethernet address, or one IP
-  pub apart : (p q : Name) (ours theirs : SwitchPort) (mac : Mac) → at net.ports p ≡ Some ours → at net.ports q ≡ Some theirs → ours.switch ≡ theirs.switch
+  pub apart : (p q : Name) (ours theirs : SwitchPort) (mac : Mac) → at net.switch_ports p ≡ Some ours → at net.switch_ports q ≡ Some theirs → ours.switch ≡ theirs.switch
       → HasMac ours.addresses mac → HasMac theirs.addresses mac → p ≡ q
-  pub ips_apart : (p q : Name) (ours theirs : SwitchPort) (ip : Ip4) → at net.ports p ≡ Some ours → at net.ports q ≡ Some theirs → ours.switch ≡ theirs.switch
+  pub ips_apart : (p q : Name) (ours theirs : SwitchPort) (ip : Ip4) → at net.switch_ports p ≡ Some ours → at net.switch_ports q ≡ Some theirs → ours.switch ≡ theirs.switch
       → HasIp ours.addresses ip → HasIp theirs.addresses ip → p ≡ q
+  -- of the kinds of records only those are there that are built
+  pub built : IsBuilt net
 
 -- the records are within the limits: 1,024 switches and 10,000 ports
 pub record IsWithin (net : Network) : Type 0 where
   pub switches : length net.switches ≤ MAX_DATAPATHS
-  pub ports : length net.ports ≤ MAX_PORTS
+  pub ports : length net.switch_ports ≤ MAX_PORTS
 
 -- each switch and each port has a live key, and nothing else has one
 pub record HaveKeys (net : Network) (keys : Keys) : Type 0 where
@@ -62,8 +65,8 @@ pub record HaveKeys (net : Network) (keys : Keys) : Type 0 where
   pub datapath_has : (a : Name) (switch : Switch) → at net.switches a ≡ Some switch → (k : DatapathKey) × (at keys.datapaths a ≡ Some k) × (k.birth ≡ switch.birth)
   pub datapath_of : (a : Name) (k : DatapathKey) → at keys.datapaths a ≡ Some k → IsSome (at net.switches a)
   -- a port's key is one of the datapath that its record names
-  pub port_has : (q : Name) (port : SwitchPort) → at net.ports q ≡ Some port → (k : PortKey) × (at keys.ports q ≡ Some k) × (k.birth ≡ port.birth) × (k.datapath ≡ port.switch)
-  pub port_of : (q : Name) (k : PortKey) → at keys.ports q ≡ Some k → IsSome (at net.ports q)
+  pub port_has : (q : Name) (port : SwitchPort) → at net.switch_ports q ≡ Some port → (k : PortKey) × (at keys.ports q ≡ Some k) × (k.birth ≡ port.birth) × (k.datapath ≡ port.switch)
+  pub port_of : (q : Name) (k : PortKey) → at keys.ports q ≡ Some k → IsSome (at net.switch_ports q)
   -- no event changes the ranges
   pub datapath_range : keys.datapath_range ≡ MAX_DATAPATH_KEY
   pub port_range : keys.port_range ≡ MAX_PORT_KEY
@@ -75,7 +78,7 @@ pub record HaveKeys (net : Network) (keys : Keys) : Type 0 where
 -- other port has on its chassis
 pub record AreBound (m : State) (zones : List (Name × ℕ)) : Type 0 where
   pub bindings_sorted : IsByName m.bindings
-  pub port_there : (q c : Name) → at m.bindings q ≡ Some c → IsSome (at m.net.ports q)
+  pub port_there : (q c : Name) → at m.bindings q ≡ Some c → IsSome (at m.net.switch_ports q)
   pub chassis_there : (q c : Name) → at m.bindings q ≡ Some c → Among c m.chassis
   pub chassis_sorted : IsStrictlySortedBy (slice_cmp nat_cmp) m.chassis
   pub few_chassis : length m.chassis ≤ MAX_CHASSIS
@@ -89,7 +92,7 @@ pub record AreBound (m : State) (zones : List (Name × ℕ)) : Type 0 where
 -- there is no record
 pub record AreBorn (m : State) : Type 0 where
   pub switches : (a : Name) (switch : Switch) → at m.net.switches a ≡ Some switch → switch.birth.0 ≤ event_count m
-  pub ports : (q : Name) (port : SwitchPort) → at m.net.ports q ≡ Some port → port.birth.0 ≤ event_count m
+  pub ports : (q : Name) (port : SwitchPort) → at m.net.switch_ports q ≡ Some port → port.birth.0 ≤ event_count m
   pub keys : AreKeysBorn m.keys (event_count m)
   pub none : m.accepted ≡ 0 → m.net ≡ empty_network
 

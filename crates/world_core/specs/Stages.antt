@@ -7,8 +7,8 @@ use Rattle.ovn_base.specs.names.ByName.{at}
 use Rattle.nb_records.specs.Network.{Network}
 use Rattle.ovn_base.specs.declared.address.Mac.{Mac}
 use Rattle.flow_table.specs.declared.flow.Member.{Member}
-use Rattle.nb_records.specs.declared.record.Switch.{Switch}
-use Rattle.nb_records.specs.declared.record.SwitchPort.{SwitchPort}
+use Rattle.nb_records.specs.declared.switch.Switch.{Switch}
+use Rattle.nb_records.specs.declared.switch.SwitchPort.{SwitchPort}
 use Rattle.tunnel_keys.specs.Keys.{Keys}
 use Rattle.tunnel_keys.specs.declared.owner.DatapathKey.{DatapathKey}
 use Rattle.tunnel_keys.specs.declared.owner.PortKey.{PortKey}
@@ -39,7 +39,7 @@ pub record IsDatapath (b : Basis) (a : Name) (dp : ℕ) : Type 0 where
 
 -- q is the port, key is its key, and dp that of its switch
 pub record IsPort (b : Basis) (q : Name) (port : SwitchPort) (dp key : ℕ) : Type 0 where
-  pub there : at b.net.ports q ≡ Some port
+  pub there : at b.net.switch_ports q ≡ Some port
   pub on : IsDatapath b port.switch dp
   pub live : PortKey
   pub has : at b.keys.ports q ≡ Some live

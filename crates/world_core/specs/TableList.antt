@@ -7,8 +7,8 @@ use Rattle.flow_table.specs.declared.flow.Flow.{Flow}
 use Rattle.flow_table.specs.declared.flow.Member.{Member}
 use Rattle.ovn_base.specs.names.ByName.{at}
 use Rattle.ovn_base.specs.names.SameName.{same_name}
-use Rattle.nb_records.specs.declared.record.PortAddress.{PortAddress}
-use Rattle.nb_records.specs.declared.record.SwitchPort.{SwitchPort}
+use Rattle.nb_records.specs.declared.switch.PortAddress.{PortAddress}
+use Rattle.nb_records.specs.declared.switch.SwitchPort.{SwitchPort}
 use Rattle.world_core.specs.Addresses.{macs_in}
 use Rattle.world_core.specs.declared.crossing.Group.{Group}
 use Rattle.world_core.specs.declared.crossing.Group.TheVariants.{Flood, Unknown}
@@ -90,7 +90,7 @@ common_rows = arrival_row ∷ stay_row ∷ leave_row ∷ []
 abbrev pub table_flows : Basis → List Flow
 table_flows b =
     common_rows ++ flat_map (λ e. switch_part b e.0 (datapath_number b.keys e.0)) b.net.switches
-    ++ flat_map (λ e. port_part b e.0 e.1 (datapath_number b.keys e.1.switch) (port_number b.keys e.0)) b.net.ports
+    ++ flat_map (λ e. port_part b e.0 e.1 (datapath_number b.keys e.1.switch) (port_number b.keys e.0)) b.net.switch_ports
 
 -- ---- groups, among ports of a switch with their keys
 
@@ -100,7 +100,7 @@ is_record_in group None = false
 is_record_in group (Some port) = is_group_member group port
 
 abbrev pub group_among : Basis → Group → List (Name × ℕ) → List (Name × ℕ)
-group_among b group ports = filter (λ e. is_record_in group (at b.net.ports e.0)) ports
+group_among b group ports = filter (λ e. is_record_in group (at b.net.switch_ports e.0)) ports
 
 -- those that are at home on this chassis, as its flows know them
 abbrev pub here_among : Basis → List (Name × ℕ) → List Member

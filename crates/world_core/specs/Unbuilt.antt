@@ -1,5 +1,5 @@
 -- Which added ports aren't built: what the network has already, and addresses that no port can have.
-use Rattle.std.specs.Prelude.{◌||◌, ◌&&◌, Bool, false, List, [], ◌∷◌, is_some, nat_le, length}
+use Rattle.std.specs.Prelude.{◌||◌, ◌&&◌, Bool, false, not, List, [], ◌∷◌, is_some, nat_le, length}
 use Rattle.std.specs.List.{list_any}
 use Rattle.std.proofs.Math.Dec.{eqb as nat_eq}
 use Rattle.ovn_base.specs.addresses.EtherAddress.{is_multicast_mac}
@@ -9,12 +9,11 @@ use Rattle.ovn_base.specs.names.ByName.{at}
 use Rattle.ovn_base.specs.names.SameName.{same_name}
 use Rattle.ovn_base.specs.declared.limits.TheConstants.{MAX_PORTS}
 use Rattle.nb_records.specs.Network.{Network}
-use Rattle.nb_records.specs.declared.record.PortAddress.{PortAddress}
-use Rattle.nb_records.specs.declared.record.PortAddress.TheVariants.{Ether, Unknown}
-use Rattle.nb_records.specs.declared.record.SwitchPort.{SwitchPort}
-
-abbrev pub same_mac : Mac → Mac → Bool
-same_mac m n = nat_eq m.number n.number
+use Rattle.nb_records.specs.Switches.{same_mac}
+use Rattle.world_core.specs.Built.{is_plain_port}
+use Rattle.nb_records.specs.declared.switch.PortAddress.{PortAddress}
+use Rattle.nb_records.specs.declared.switch.PortAddress.TheVariants.{Ether, Unknown, Router}
+use Rattle.nb_records.specs.declared.switch.SwitchPort.{SwitchPort}
 
 -- the Ethernet address of the number 0
 abbrev pub is_zero_mac : Mac → Bool
@@ -32,7 +31,9 @@ has_common ips others = list_any (λ ip. is_among others ip) ips
 abbrev pub clash : PortAddress → PortAddress → Bool
 clash (Ether mac ips) (Ether other others) = same_mac mac other || has_common ips others
 clash (Ether mac ips) Unknown = false
+clash (Ether mac ips) Router = false
 clash Unknown theirs = false
+clash Router theirs = false
 
 -- the entry clashes with one of the list
 abbrev pub clashes : PortAddress → List PortAddress → Bool
@@ -51,6 +52,7 @@ repeats (ip ∷ ips) = is_among ips ip || repeats ips
 abbrev pub is_no_entry : PortAddress → Bool
 is_no_entry (Ether mac ips) = is_zero_mac mac || is_multicast_mac mac || repeats ips
 is_no_entry Unknown = false
+is_no_entry Router = false
 
 -- nor entries that have an address in common
 abbrev pub has_no_entry : List PortAddress → Bool
@@ -59,8 +61,8 @@ has_no_entry (address ∷ addresses) = is_no_entry address || clashes address ad
 
 -- another port of the switch has one of the addresses
 unfoldable pub is_held : Network → SwitchPort → Bool
-is_held net port = list_any (λ e. same_name e.1.switch port.switch && share e.1.addresses port.addresses) net.ports
+is_held net port = list_any (λ e. same_name e.1.switch port.switch && share e.1.addresses port.addresses) net.switch_ports
 
--- the added port is one that isn't built: its name is taken, the limit on ports is reached, or an address is none that it may have
+-- the added port is one that isn't built: it isn't plain, its name is taken, the limit on ports is reached, or an address is none that it may have
 unfoldable pub is_unbuilt_port : Network → SwitchPort → Bool
-is_unbuilt_port net port = is_some (at net.ports port.name) || nat_le MAX_PORTS (length net.ports) || has_no_entry port.addresses || is_held net port
+is_unbuilt_port net port = not (is_plain_port port) || is_some (at net.switch_ports port.name) || nat_le MAX_PORTS (length net.switch_ports) || has_no_entry port.addresses || is_held net port

@@ -12,8 +12,8 @@ use Rattle.inet_packet.specs.declared.packet.Packet.{Packet}
 use Rattle.flow_table.specs.declared.flow.Cause.{Cause}
 use Rattle.flow_table.specs.declared.flow.Cause.TheVariants.{UnknownAddress, Loopback, Unbound, BadSource, Vlan}
 use Rattle.nb_records.specs.Network.{Network}
-use Rattle.nb_records.specs.declared.record.Switch.{Switch}
-use Rattle.nb_records.specs.declared.record.SwitchPort.{SwitchPort}
+use Rattle.nb_records.specs.declared.switch.Switch.{Switch}
+use Rattle.nb_records.specs.declared.switch.SwitchPort.{SwitchPort}
 use Rattle.ovn_base.specs.declared.address.Birth.{Birth}
 use Rattle.tunnel_keys.specs.declared.owner.Identity.{Identity}
 use Rattle.world_core.specs.Addresses.{HasMac}
@@ -29,7 +29,7 @@ use Rattle.world_core.specs.State.{State, is_chassis}
 
 -- the port is one of the switch, and has the address
 pub record IsTarget (net : Network) (switch : Name) (mac : Mac) (q : Name) (port : SwitchPort) : Type 0 where
-  pub there : at net.ports q ≡ Some port
+  pub there : at net.switch_ports q ≡ Some port
   pub on_switch : port.switch ≡ switch
   pub has_address : HasMac port.addresses mac
 
@@ -93,7 +93,7 @@ pub data Goes (m : State) (from : SentFrom) (packet : Packet) (ends : List End) 
 -- what becomes of a packet that enters at port p, which is at home on the chassis
 pub record Visit (m : State) (p : Name) (packet : Packet) (chassis : Name) (ends : List End) : Type 0 where
   pub port : SwitchPort
-  pub there : at m.net.ports p ≡ Some port
+  pub there : at m.net.switch_ports p ≡ Some port
   pub switch : Switch
   pub on : at m.net.switches port.switch ≡ Some switch
   pub home : at m.bindings p ≡ Some chassis
@@ -111,7 +111,7 @@ abbrev pub is_switch : Network → Identity → Bool
 is_switch net id = has_birth (option_map (λ (s : Switch). s.birth) (at net.switches id.name)) id.birth
 
 abbrev pub is_port : Network → Identity → Bool
-is_port net id = has_birth (option_map (λ (p : SwitchPort). p.birth) (at net.ports id.name)) id.birth
+is_port net id = has_birth (option_map (λ (p : SwitchPort). p.birth) (at net.switch_ports id.name)) id.birth
 
 -- the one port to which a packet goes isn't at home on the chassis now
 abbrev pub misses : State → Aim → Name → Bool

@@ -4,7 +4,7 @@ ghost use Rattle.std.specs.List.{list_any};
 ghost use Rattle.ovn_base.specs.names.ByName.{at};
 ghost use Rattle.ovn_base.specs.lists.Once.{EachOnce};
 ghost use Rattle.ovn_base.specs.names.SameName.{same_name};
-ghost use Rattle.world_core.specs.Addresses.{takes_unknown, is_unknown};
+ghost use Rattle.nb_records.specs.Switches.{takes_unknown, is_unknown};
 ghost use Rattle.world_core.specs.declared.crossing.Group.TheVariants.{Unknown};
 ghost use Rattle.world_core.specs.Homes.{is_at};
 ghost use Rattle.world_core.specs.TableList.{table_flows, group_rows, switch_part, bound_rows, port_part, is_record_in, group_among, here_among, bound_among, is_other_among, others_among};
@@ -21,8 +21,8 @@ use crate::rows::{
 use flow_table::flow::{Flow, Member};
 use flow_table::lookup::Lookup;
 use flow_table::tables::Tables;
-use nb_records::record::{PortAddress, SwitchPort};
 use nb_records::records::Records;
+use nb_records::switch::{PortAddress, SwitchPort};
 use ovn_base::delta::Delta;
 use ovn_base::list::List;
 use ovn_base::memory::NoMemory;
@@ -46,7 +46,7 @@ pub struct Maps<'a> {
 impl Maps<'_> {
     // Whether the port takes packets for addresses that no port has.
     fn is_unknown(&self, port: &Name) -> bool
-        ensures { result ≡ is_record_in Unknown (at (basis_of self.now).net.ports port.now) }
+        ensures { result ≡ is_record_in Unknown (at (basis_of self.now).net.switch_ports port.now) }
     {
         match self.records.switch_port(port) {
             Some(port) => takes_unknown(port.addresses.as_slice()),
@@ -258,7 +258,7 @@ fn is_unknown(address: &PortAddress) -> bool
     ensures { result ≡ is_unknown address.now }
 {
     match address {
-        PortAddress::Ether { .. } => false,
+        PortAddress::Ether { .. } | PortAddress::Router => false,
         PortAddress::Unknown => true,
     }
 }

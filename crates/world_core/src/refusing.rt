@@ -1,9 +1,12 @@
 //! When an event is refused, and why.
 ghost use Rattle.std.specs.Prelude.{◌≡◌};
+ghost use Rattle.std.specs.List.{list_any};
+ghost use Rattle.nb_records.specs.Switches.{has_some, is_virtual};
+ghost use Rattle.world_core.specs.Built.{is_router_entry, is_plain_port};
 ghost use Rattle.world_core.specs.Unbuilt.{is_among, has_common, clash, clashes, share, repeats, has_no_entry, is_no_entry, is_held, is_unbuilt_port};
 
-use nb_records::record::{PortAddress, SwitchPort};
 use nb_records::records::Records;
+use nb_records::switch::{PortAddress, PortKind, SecurityEntry, SwitchPort};
 use ovn_base::address::{Ip4, Mac};
 use ovn_base::limits::MAX_PORTS;
 
@@ -70,7 +73,7 @@ fn is_no_entry(address: &PortAddress) -> bool
         PortAddress::Ether { mac, ips } => mac.is_zero()
             || mac.is_multicast()
             || repeats(ips.as_slice()),
-        PortAddress::Unknown => false,
+        PortAddress::Unknown | PortAddress::Router => false,
     }
 }
 
@@ -89,12 +92,61 @@ fn is_held(records: &Records, port: &SwitchPort) -> bool
     false
 }
 
+// The entry is the word `router`.
+fn is_router_entry(address: &PortAddress) -> bool
+    ensures { result ≡ is_router_entry address.now }
+{
+    match address {
+        PortAddress::Router => true,
+        PortAddress::Ether { .. } | PortAddress::Unknown => false,
+    }
+}
+
+// Whether a virtual machine or a container is behind the port.
+fn is_virtual(port: &SwitchPort) -> bool
+    ensures { result ≡ is_virtual port.now }
+{
+    match port.kind {
+        PortKind::Virtual => true,
+        PortKind::Router => false,
+    }
+}
+
+// Some entry is the word `router`.
+fn has_router_entry(addresses: &[PortAddress]) -> bool
+    ensures { result ≡ list_any is_router_entry addresses.now }
+{
+    addresses.iter().any(is_router_entry)
+}
+
+// The list isn't empty.
+fn has_security(entries: &[SecurityEntry]) -> bool
+    ensures { result ≡ has_some entries.now }
+{
+    match entries {
+        [] => false,
+        [_, ..] => true,
+    }
+}
+
+// The port is a virtual one that is enabled, without port security.
+fn is_plain_port(port: &SwitchPort) -> bool
+    ensures { result ≡ is_plain_port port.now }
+{
+    is_virtual(port)
+        && port.router_port.is_none()
+        && port.enabled
+        && !has_security(port.port_security.as_slice())
+        && !has_router_entry(port.addresses.as_slice())
+}
+
 // The added port is one that isn't built.
 #[tactic(auto, unfolding(crate::specs::Unbuilt::is_unbuilt_port))]
 pub fn is_unbuilt_port(records: &Records, port: &SwitchPort) -> bool
     ensures { result ≡ is_unbuilt_port records.now port.now }
 {
-    records.switch_port(&port.name).is_some()
+    !is_plain_port(port)
+        || records.switch_port(&port.name).is_some()
         || records.switch_ports().len() >= MAX_PORTS
         || has_no_entry(port.addresses.as_slice())
         || is_held(records, port)

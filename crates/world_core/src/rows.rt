@@ -14,7 +14,7 @@ use crate::priorities::{
 use flow_table::flow::{Cause, Flow, FlowOp, Member};
 use inet_packet::cube::{Bits, Cube};
 use inet_packet::regs::{At, Reg};
-use nb_records::record::{PortAddress, SwitchPort};
+use nb_records::switch::{PortAddress, SwitchPort};
 use ovn_base::address::Mac;
 use ovn_base::limits::{FLOOD_KEY, UNKNOWN_KEY};
 use ovn_base::list::List;
@@ -401,7 +401,7 @@ fn push_addresses(
     'addresses: for address in addresses.as_slice() {
         match address {
             PortAddress::Ether { mac, .. } => push_address(alloc, dp, *mac, key, flows)?,
-            PortAddress::Unknown => {}
+            PortAddress::Unknown | PortAddress::Router => {}
         }
     }
     Ok(())

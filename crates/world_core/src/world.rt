@@ -67,8 +67,12 @@ struct Done {
 
 impl Model for World {
     ghost use Rattle.world_core.specs.WorldView.{WorldView};
+    ghost use Rattle.match_language.specs.contracts.expr.Expr as expr;
+    ghost use Rattle.std.specs.Coded.{codes};
 
     ghost Value = { WorldView };
+
+    ghost coded = { Prim.hlevel (codes, expr.the_row.coded) };
 
     ghost use Rattle.world_core.specs.Inside.{seen_of, IsSoundOnceWhole};
 

@@ -1,7 +1,7 @@
 //! Records that come into a world.
 ghost use Rattle.std.specs.Prelude.{◌≡◌, ◌+◌, ◌<◌, ◌^◌, [], ◌∷◌, None, Some, false, IfOk, OnOk, IsSome, length};
 ghost use Rattle.ovn_base.specs.names.ByName.{at, put};
-ghost use Rattle.nb_records.specs.declared.record.Op.TheVariants.{Add};
+ghost use Rattle.nb_records.specs.declared.change.Op.TheVariants.{Add};
 ghost use Rattle.nb_records.specs.declared.record.Record.TheVariants as record_of;
 ghost use Rattle.tunnel_keys.specs.Causes.{HasKeys};
 ghost use Rattle.tunnel_keys.specs.Edits.{IsAfter, IsKeyEdit};
@@ -14,7 +14,8 @@ ghost use Rattle.world_core.specs.Consistent.{IsConsistent};
 ghost use Rattle.world_core.specs.State.{event_count, finished};
 
 use crate::world::World;
-use nb_records::record::{Record, Switch, SwitchPort};
+use nb_records::record::Record;
+use nb_records::switch::{Switch, SwitchPort};
 use ovn_base::address::Birth;
 use ovn_base::list::List;
 use ovn_base::memory::NoMemory;
@@ -68,8 +69,8 @@ impl World {
         requires consistent { IsConsistent self.old.state self.old.zones }
         requires taken { self.old.whole ≡ false }
         requires room { event_count self.old.state < 2 ^ 42 }
-        requires absent { at self.old.state.net.ports port.now.name ≡ None }
-        requires few { length self.old.state.net.ports < MAX_PORTS }
+        requires absent { at self.old.state.net.switch_ports port.now.name ≡ None }
+        requires few { length self.old.state.net.switch_ports < MAX_PORTS }
         requires on_switch { IsSome (at self.old.state.net.switches port.now.switch) }
         requires new { AreNew self.old.state.net port.now }
         ensures edits { IfOk result (λ effects. Edits self.old.state (Add (record_of.SwitchPort port.now) ∷ []) effects self.new.state) }
@@ -84,17 +85,13 @@ impl World {
             name,
             birth,
         };
-        let addresses = port.addresses.copy()?;
+        let mut added = port.copy()?;
+        added.birth = birth;
         let plan = keys_with(&mut self.keys, &[owner])?;
         let key = plan.after().port(&name).unwrap_or(0);
         let mut effects = List::new(self.walks.allocator());
         effects.push(NetEffect::PortKey { name, key })?;
-        self.records.put(Record::SwitchPort(SwitchPort {
-            name,
-            birth,
-            switch: datapath,
-            addresses,
-        }))?;
+        self.records.put(Record::SwitchPort(added))?;
         self.keys.apply(plan);
         Ok(effects)
     }

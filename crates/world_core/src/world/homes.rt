@@ -114,7 +114,7 @@ impl World {
         requires consistent { IsConsistent self.old.state self.old.zones }
         requires taken { self.old.whole ≡ false }
         requires room { event_count self.old.state < 2 ^ 42 }
-        requires there { IsSome (at self.old.state.net.ports port) }
+        requires there { IsSome (at self.old.state.net.switch_ports port) }
         requires known { Among chassis self.old.state.chassis }
         ensures state { OnOk result (self.new.state ≡ record self.old.state { bindings = put self.old.state.bindings port chassis }) }
         ensures zones { OnOk result (self.new.zones ≡ put self.old.zones port (zone_for self.old.state.bindings self.old.zones port chassis)) }

@@ -1,6 +1,6 @@
 //! The steps of a world, one for each kind of event.
 ghost use Rattle.std.specs.Prelude.{cond, ◌≡◌, ◌++◌, ◌+◌, ◌<◌, ◌^◌, [], ◌∷◌, None, Some, false, IfOk, OnOk, OnErr};
-ghost use Rattle.nb_records.specs.declared.record.Op.TheVariants.{Add};
+ghost use Rattle.nb_records.specs.declared.change.Op.TheVariants.{Add};
 ghost use Rattle.nb_records.specs.declared.record.Record.TheVariants as record_of;
 ghost use Rattle.edit_reader.specs.declared.event.Event.TheVariants as event_of;
 ghost use Rattle.event_lines.specs.declared.refusal.Refusal.{Refusal};
@@ -15,7 +15,9 @@ use crate::world::{Done, World};
 use chassis_sim::out::SimOut;
 use edit_reader::event::Event;
 use event_lines::refusal::Refusal;
-use nb_records::record::{Op, Record, Switch, SwitchPort};
+use nb_records::change::Op;
+use nb_records::record::Record;
+use nb_records::switch::{Switch, SwitchPort};
 use ovn_base::limits::{MAX_CHASSIS, MAX_DATAPATHS, MAX_WAITING};
 use ovn_base::list::{Bytes, List};
 use ovn_base::memory::NoMemory;
@@ -86,6 +88,7 @@ impl World {
                 }
                 Some(Refusal::NoSuch(port.switch))
             }
+            _ => Some(Refusal::NotBuilt),
         }
     }
 

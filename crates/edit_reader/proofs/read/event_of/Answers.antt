@@ -3,8 +3,8 @@ use Rattle.std.proofs.Common.{ap, ◌∙◌, ◌++◌, ◌∷◌, []}
 use Rattle.std.proofs.lemmas.Bool.{false≢true}
 use Rattle.serde_json.specs.View.{view}
 use Rattle.ovn_base.specs.declared.name.Name.{Name}
-use Rattle.nb_records.specs.declared.record.Op.{Op}
-use Rattle.nb_records.specs.declared.record.Op.TheVariants.{Add}
+use Rattle.nb_records.specs.declared.change.Op.{Op}
+use Rattle.nb_records.specs.declared.change.Op.TheVariants.{Add}
 use Rattle.edit_reader.specs.declared.event.Event.TheVariants.{Edit}
 use Rattle.edit_reader.specs.Reads.{IsEdit, IsPacketForm}
 use Rattle.edit_reader.specs.Reads.IsForm.{edits, adds_chassis, binds, sends, injects, delivers, loses, repeats}

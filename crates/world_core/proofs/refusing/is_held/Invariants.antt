@@ -7,5 +7,5 @@ use Rattle.world_core.proofs.refusing.is_held.Given as goal
 -- those that are left tell it
 abbrev pub invariant-ports : goal.invariant-ports
 invariant-ports l =
-    list_any (λ e. same_name e.1.switch l.port.switch && share e.1.addresses l.port.addresses) l.records.ports
+    list_any (λ e. same_name e.1.switch l.port.switch && share e.1.addresses l.port.addresses) l.records.switch_ports
     ≡ list_any (λ e. same_name e.1.switch l.port.switch && share e.1.addresses l.port.addresses) l._name-iterator

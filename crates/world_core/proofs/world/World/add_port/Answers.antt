@@ -1,7 +1,7 @@
 use Rattle.std.proofs.Common.{◌≡◌, ◌<◌, ◌+◌, ◌^◌, ◌++◌, length, IsSome, None, unwrap_or, subst, sym, ap, ◌∙◌, ◌∷◌, []}
 use Rattle.ovn_base.specs.names.ByName.{at, put}
 use Rattle.ovn_base.specs.declared.address.Birth.{Birth}
-use Rattle.nb_records.specs.declared.record.Op.TheVariants.{Add}
+use Rattle.nb_records.specs.declared.change.Op.TheVariants.{Add}
 use Rattle.nb_records.specs.declared.record.Record.TheVariants as record_of
 use Rattle.switch_engine.specs.declared.effect.NetEffect.TheVariants as effect
 use Rattle.tunnel_keys.specs.Edits.{GivesKeys, IsKeyEdit}
@@ -22,7 +22,7 @@ keys_with-requires-clause-fits c =
     let m = (seen_of c.self.inside).state in
     let p = c.args.port.now in
     let old : IsConsistent m (seen_of c.self.inside).zones = subst (λ v. IsConsistent v.state v.zones) (sym c.self.view_is) c.requires.consistent in
-    let absent : at m.net.ports p.name ≡ None = subst (λ v. at v.state.net.ports p.name ≡ None) (sym c.self.view_is) c.requires.absent in
+    let absent : at m.net.switch_ports p.name ≡ None = subst (λ v. at v.state.net.switch_ports p.name ≡ None) (sym c.self.view_is) c.requires.absent in
     let on : IsSome (at m.net.switches p.switch) = subst (λ v. IsSome (at v.state.net.switches p.switch)) (sym c.self.view_is) c.requires.on_switch in
     port_fits m old.keys old.born p.switch p.name on absent
 
@@ -31,7 +31,7 @@ keys_with-requires-clause-enough c =
     let m = (seen_of c.self.inside).state in
     let p = c.args.port.now in
     let old : IsConsistent m (seen_of c.self.inside).zones = subst (λ v. IsConsistent v.state v.zones) (sym c.self.view_is) c.requires.consistent in
-    let few : length m.net.ports < 10000 = subst (λ v. length v.state.net.ports < 10000) (sym c.self.view_is) c.requires.few in
+    let few : length m.net.switch_ports < 10000 = subst (λ v. length v.state.net.switch_ports < 10000) (sym c.self.view_is) c.requires.few in
     key_for_port m old.keys old.born p.name (record { 0 = event_count m + 1 }) p.switch few
 
 pub apply-requires : goal.apply-requires
@@ -39,7 +39,7 @@ apply-requires c =
     let m = (seen_of c.self.inside).state in
     let p = c.args.port.now in
     let old : IsConsistent m (seen_of c.self.inside).zones = subst (λ v. IsConsistent v.state v.zones) (sym c.self.view_is) c.requires.consistent in
-    let absent : at m.net.ports p.name ≡ None = subst (λ v. at v.state.net.ports p.name ≡ None) (sym c.self.view_is) c.requires.absent in
+    let absent : at m.net.switch_ports p.name ≡ None = subst (λ v. at v.state.net.switch_ports p.name ≡ None) (sym c.self.view_is) c.requires.absent in
     let on : IsSome (at m.net.switches p.switch) = subst (λ v. IsSome (at v.state.net.switches p.switch)) (sym c.self.view_is) c.requires.on_switch in
     let birth : Birth = record { 0 = event_count m + 1 } in
     record {
@@ -55,8 +55,8 @@ returns-clause-edits c =
     let p = c.args.port.now in
     let plan = c.in_ok-plan.plan in
     let n : State = record m { net = c.put.new.self; keys = c.apply.new.self } in
-    let net : c.put.new.self ≡ record m.net { ports = put m.net.ports p.name (record p { birth = record { 0 = event_count m + 1 } }) } =
-    c.in_ok-put.ensures.ok ∙ (λ i. record m.net { ports = put m.net.ports p.name (record p { birth = record { 0 = event_count m + 1 }; addresses = c.in_ok-addresses.ensures i }) }) in
+    let net : c.put.new.self ≡ record m.net { switch_ports = put m.net.switch_ports p.name (record p { birth = record { 0 = event_count m + 1 } }) } =
+    c.in_ok-put.ensures.ok ∙ (λ i. record m.net { switch_ports = put m.net.switch_ports (c.in_ok-added.ensures i).name (record (c.in_ok-added.ensures i) { birth = record { 0 = event_count m + 1 } }) }) in
     let key : c.unwrap_or-key.result ≡ unwrap_or (port_number plan p.name) 0 = c.unwrap_or-key.ensures ∙ ap (λ o. unwrap_or o 0) (c.port.ensures ∙ ap (λ (k : Keys). port_number k p.name) c.after.ensures) in
     let named : c.push.new.self ≡ port_effect plan (p.name, record { 0 = event_count m + 1 }) ∷ [] =
     c.in_ok-push.ensures.ok ∙ ap (λ l. l ++ effect.PortKey p.name c.unwrap_or-key.result ∷ []) c.new-effects.ensures ∙ ap (λ k. effect.PortKey p.name k ∷ []) key in
@@ -68,11 +68,11 @@ returns-clause-consistent c =
     let m = (seen_of c.self.inside).state in
     let p = c.args.port.now in
     let n : State = record m { net = c.put.new.self; keys = c.apply.new.self } in
-    let net : c.put.new.self ≡ record m.net { ports = put m.net.ports p.name (record p { birth = record { 0 = event_count m + 1 } }) } =
-    c.in_ok-put.ensures.ok ∙ (λ i. record m.net { ports = put m.net.ports p.name (record p { birth = record { 0 = event_count m + 1 }; addresses = c.in_ok-addresses.ensures i }) }) in
+    let net : c.put.new.self ≡ record m.net { switch_ports = put m.net.switch_ports p.name (record p { birth = record { 0 = event_count m + 1 } }) } =
+    c.in_ok-put.ensures.ok ∙ (λ i. record m.net { switch_ports = put m.net.switch_ports (c.in_ok-added.ensures i).name (record (c.in_ok-added.ensures i) { birth = record { 0 = event_count m + 1 } }) }) in
     let old : IsConsistent m (seen_of c.self.inside).zones = subst (λ v. IsConsistent v.state v.zones) (sym c.self.view_is) c.requires.consistent in
-    let absent : at m.net.ports p.name ≡ None = subst (λ v. at v.state.net.ports p.name ≡ None) (sym c.self.view_is) c.requires.absent in
-    let few : length m.net.ports < 10000 = subst (λ v. length v.state.net.ports < 10000) (sym c.self.view_is) c.requires.few in
+    let absent : at m.net.switch_ports p.name ≡ None = subst (λ v. at v.state.net.switch_ports p.name ≡ None) (sym c.self.view_is) c.requires.absent in
+    let few : length m.net.switch_ports < 10000 = subst (λ v. length v.state.net.switch_ports < 10000) (sym c.self.view_is) c.requires.few in
     let on : IsSome (at m.net.switches p.switch) = subst (λ v. IsSome (at v.state.net.switches p.switch)) (sym c.self.view_is) c.requires.on_switch in
     let new : AreNew m.net p = subst (λ v. AreNew v.state.net p) (sym c.self.view_is) c.requires.new in
     let room : event_count m < 2 ^ 42 = subst (λ v. event_count v.state < 2 ^ 42) (sym c.self.view_is) c.requires.room in

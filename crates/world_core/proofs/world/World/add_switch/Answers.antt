@@ -1,7 +1,7 @@
 use Rattle.std.proofs.Common.{◌≡◌, ◌<◌, ◌+◌, ◌^◌, ◌++◌, length, None, unwrap_or, subst, sym, ap, ◌∙◌, ◌∷◌, []}
 use Rattle.ovn_base.specs.names.ByName.{at}
 use Rattle.ovn_base.specs.declared.address.Birth.{Birth}
-use Rattle.nb_records.specs.declared.record.Op.TheVariants.{Add}
+use Rattle.nb_records.specs.declared.change.Op.TheVariants.{Add}
 use Rattle.nb_records.specs.declared.record.Record.TheVariants as record_of
 use Rattle.switch_engine.specs.declared.effect.NetEffect.TheVariants as effect
 use Rattle.tunnel_keys.specs.Edits.{GivesKeys, IsKeyEdit}

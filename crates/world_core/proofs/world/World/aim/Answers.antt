@@ -6,7 +6,7 @@ use Rattle.world_core.specs.WorldView.{WorldView}
 use Rattle.world_core.specs.Sound.{HaveKeys}
 use Rattle.ovn_base.specs.names.ByName.{at}
 use Rattle.ovn_base.specs.declared.ports.Ports.{Ports}
-use Rattle.nb_records.specs.declared.record.SwitchPort.{SwitchPort}
+use Rattle.nb_records.specs.declared.switch.SwitchPort.{SwitchPort}
 use Rattle.world_core.specs.declared.crossing.Aim.TheVariants.{ToPort}
 use Rattle.world_core.proofs.Aiming.{aims_flood, aims_unknown, aims_port, port_found, ports_are}
 use Rattle.world_core.proofs.world.World.aim.Goals as goal
@@ -41,7 +41,7 @@ returns-in_default-switch_port c = λ aim n.
     let listed = same_Some _ _ (ports_are m have c.args.switch.now p.id.name c.args.key p.has (Some c.in-Some.ports.now) c.in-Some.ensures) in
     let found = ap (λ l. port_of_key l c.args.key) (c.as_slice.ensures ∙ ap (λ (x : Ports). x.list) listed) ∙ port_found m have c.args.switch.now p.id.name c.args.key p.has in
     let name = same_Some _ _ (c.in-Some-port_of_key.ensures ∙ found) in
-    absurd (none-some _ (c.in_default-switch_port.ensures ∙ ap (λ q. at m.net.ports q) name ∙ p.there'))
+    absurd (none-some _ (c.in_default-switch_port.ensures ∙ ap (λ q. at m.net.switch_ports q) name ∙ p.there'))
 
 pub returns : goal.returns
 returns c = λ aim n.
@@ -51,7 +51,7 @@ returns c = λ aim n.
     let listed = same_Some _ _ (ports_are m have c.args.switch.now p.id.name c.args.key p.has (Some c.in-Some.ports.now) c.in-Some.ensures) in
     let found = ap (λ l. port_of_key l c.args.key) (c.as_slice.ensures ∙ ap (λ (x : Ports). x.list) listed) ∙ port_found m have c.args.switch.now p.id.name c.args.key p.has in
     let name : c.in-Some-port_of_key.name ≡ p.id.name = same_Some _ _ (c.in-Some-port_of_key.ensures ∙ found) in
-    let port = same_Some _ _ (c.in-Some-switch_port.ensures ∙ ap (λ q. at m.net.ports q) name ∙ p.there') in
+    let port = same_Some _ _ (c.in-Some-switch_port.ensures ∙ ap (λ q. at m.net.switch_ports q) name ∙ p.there') in
     let birth = ap (λ (x : SwitchPort). x.birth) port ∙ p.birth in
     let id : (record { name = c.in-Some-port_of_key.name; birth = c.in-Some-switch_port.port.now.birth }) ≡ p.id = λ i. record { name = name i; birth = birth i } in
     ap (λ x. Some (ToPort x)) id ∙ ap (λ a. Some a) (sym p.is)

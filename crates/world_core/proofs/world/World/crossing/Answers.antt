@@ -1,7 +1,7 @@
 use Rattle.std.proofs.Common.{◌≡◌, sym, ap, ◌∙◌, subst}
 use Rattle.std.proofs.lemmas.Option.{same_Some}
 use Rattle.ovn_base.specs.names.ByName.{at}
-use Rattle.nb_records.specs.declared.record.SwitchPort.{SwitchPort}
+use Rattle.nb_records.specs.declared.switch.SwitchPort.{SwitchPort}
 use Rattle.world_core.specs.Effects.{datapath_key, port_key, aim_key}
 use Rattle.world_core.specs.Packets.{IsNumberOf}
 use Rattle.world_core.specs.WorldView.{WorldView}
@@ -21,7 +21,7 @@ unreachable-requires-in_default-aim c =
     let x = c.requires.sent.0 in
     let f = c.requires.sent.1 in
     let given = c.in-Ok.ensures.only (datapath_key m.keys x.datapath) (port_key m.keys x.in_port) (aim_key m.keys x.aim) x.frame (sent_spells m c.requires.keys c.args.port.now c.args.to.now c.args.bytes.now x f) in
-    let own : c.in-Some.own.now ≡ f.port = same_Some c.in-Some.own.now f.port (c.in-Some.ensures ∙ ap (λ (v : WorldView). at v.state.net.ports c.args.port.now) c.self.view_is ∙ f.there) in
+    let own : c.in-Some.own.now ≡ f.port = same_Some c.in-Some.own.now f.port (c.in-Some.ensures ∙ ap (λ (v : WorldView). at v.state.net.switch_ports c.args.port.now) c.self.view_is ∙ f.there) in
     let number = subst (λ (q : SwitchPort). IsNumberOf m q.switch (aim_key m.keys x.aim) x.aim) (sym own) (sent_number m c.requires.keys c.args.port.now c.args.to.now c.args.bytes.now x f) in
     c.in_default-aim.not-Some x.aim (c.aim.ensures x.aim (subst (λ k. IsNumberOf m c.in-Some.own.now.switch k x.aim) (sym given.2) number))
 
@@ -29,7 +29,7 @@ pub returns : goal.returns
 returns c = λ y g.
     let m = c.args.self.now.state in
     let given = c.in-Ok.ensures.only (datapath_key m.keys y.datapath) (port_key m.keys y.in_port) (aim_key m.keys y.aim) y.frame (sent_spells m c.requires.keys c.args.port.now c.args.to.now c.args.bytes.now y g) in
-    let own : c.in-Some.own.now ≡ g.port = same_Some c.in-Some.own.now g.port (c.in-Some.ensures ∙ ap (λ (v : WorldView). at v.state.net.ports c.args.port.now) c.self.view_is ∙ g.there) in
+    let own : c.in-Some.own.now ≡ g.port = same_Some c.in-Some.own.now g.port (c.in-Some.ensures ∙ ap (λ (v : WorldView). at v.state.net.switch_ports c.args.port.now) c.self.view_is ∙ g.there) in
     let switch : c.in-Some-switch.switch.now ≡ g.switch =
     same_Some c.in-Some-switch.switch.now g.switch (c.in-Some-switch.ensures ∙ ap (λ (v : WorldView). at v.state.net.switches c.in-Some.own.now.switch) c.self.view_is ∙ ap (λ (q : SwitchPort). at m.net.switches q.switch) own ∙ g.on) in
     let number = subst (λ (q : SwitchPort). IsNumberOf m q.switch (aim_key m.keys y.aim) y.aim) (sym own) (sent_number m c.requires.keys c.args.port.now c.args.to.now c.args.bytes.now y g) in

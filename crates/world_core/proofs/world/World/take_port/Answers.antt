@@ -1,6 +1,6 @@
 use Rattle.std.proofs.Common.{◌≡◌, [], ◌∷◌, subst, sym, ap, ◌∙◌}
 use Rattle.edit_reader.specs.declared.event.Event.TheVariants as event_of
-use Rattle.nb_records.specs.declared.record.Op.TheVariants.{Add}
+use Rattle.nb_records.specs.declared.change.Op.TheVariants.{Add}
 use Rattle.nb_records.specs.declared.record.Record.TheVariants as record_of
 use Rattle.world_core.specs.Consistent.{IsConsistent}
 use Rattle.world_core.specs.StepParts.{IsRecompiled}

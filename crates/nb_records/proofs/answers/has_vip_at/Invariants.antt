@@ -1,0 +1,11 @@
+use Rattle.std.proofs.Common.{◌≡◌, ◌&&◌}
+use Rattle.std.specs.List.{list_any}
+use Rattle.nb_records.specs.Routers.{has_vip}
+use Rattle.nb_records.specs.Switches.{serves_at}
+use Rattle.nb_records.proofs.answers.has_vip_at.Given as goal
+
+-- those that are left tell it
+abbrev pub invariant-balancers : goal.invariant-balancers
+invariant-balancers l =
+    list_any (λ e. serves_at l.router e.1 && has_vip l.ip e.1) l.records.load_balancers
+    ≡ list_any (λ e. serves_at l.router e.1 && has_vip l.ip e.1) l._name-iterator
