@@ -1,0 +1,9 @@
+-- Lemmas.
+pub mod LeadLaws
+pub mod SeenLaws
+pub mod SwitchLeads
+pub mod RouterLeads
+pub mod VisitLeads
+pub mod JourneyLaws
+pub mod HopLaws
+pub mod NearLaws

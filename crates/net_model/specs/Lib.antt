@@ -1,0 +1,27 @@
+-- Definitions that contracts cite.
+pub mod Config
+pub mod Headers
+pub mod Sights
+pub mod Verdict
+pub mod Trail
+pub mod Balancing
+pub mod Tracking
+pub mod PortSecurity
+pub mod Entry
+pub mod Targets
+pub mod Exit
+pub mod Spread
+pub mod RouterInput
+pub mod Dnat
+pub mod Snat
+pub mod Forwarding
+pub mod Visit
+pub mod Arrival
+pub mod State
+pub mod Journey
+pub mod Owners
+pub mod ListOwners
+pub mod Transition
+pub mod Leads
+pub mod Hops
+pub mod Nearby

@@ -1,0 +1,123 @@
+-- How a gateway router translates the sources of what leaves.
+use Rattle.std.specs.Prelude.{◌&&◌, ◌+◌, nat_lt, nat_le, ℕ, zero, suc, Bool, true, false, Option, Some, None, cond}
+use Rattle.std.specs.List.{filter}
+use Rattle.conn_table.specs.Connections.{ConnectionList, is_free}
+use Rattle.conn_table.specs.Tracking.{Seen, forward, reply, invalid, new, seen}
+use Rattle.conn_table.specs.Tuples.{reversed, with_tuple, has_ports}
+use Rattle.conn_table.specs.declared.tuple.Protocol.{Protocol}
+use Rattle.conn_table.specs.declared.tuple.Protocol.TheVariants as protocol
+use Rattle.conn_table.specs.declared.tuple.Tuple.{Tuple}
+use Rattle.flow_table.specs.declared.flow.Cause.TheVariants as cause
+use Rattle.inet_packet.specs.declared.packet.Packet.{Packet}
+use Rattle.nb_records.specs.Network.{Network}
+use Rattle.nb_records.specs.Routers.{contains, nats_of}
+use Rattle.nb_records.specs.Ways.{best_by}
+use Rattle.nb_records.specs.declared.router.Nat.{Nat}
+use Rattle.nb_records.specs.declared.router.NatKind.{NatKind}
+use Rattle.nb_records.specs.declared.router.NatKind.TheVariants as nat_kind
+use Rattle.ovn_base.specs.declared.address.Ip4.{Ip4}
+use Rattle.ovn_base.specs.declared.name.Name.{Name}
+use Rattle.net_model.specs.Balancing.{Desk, commit_or_drop}
+use Rattle.net_model.specs.Headers.{src_of}
+use Rattle.net_model.specs.Tracking.{carry_onward}
+use Rattle.net_model.specs.Trail.{Trail, snat_of, list_of, Spot, drop_for, tell, picks_port, Chosen, choose_port, after_choice, Point, goes, stops}
+
+-- ---- rows
+
+abbrev pub translates_source : NatKind → Bool
+translates_source nat_kind.Snat = true
+translates_source nat_kind.Dnat = false
+translates_source nat_kind.DnatAndSnat = true
+
+abbrev pub is_snat_for : Ip4 → Nat → Bool
+is_snat_for ip r = translates_source r.kind && contains r.logical_ip ip
+
+abbrev pub is_narrower : Nat → Nat → Bool
+is_narrower a b = nat_lt b.logical_ip.len a.logical_ip.len
+
+-- of the rows that hold the source, the one with the longest prefix
+abbrev pub snat_row : Network → Name → Ip4 → Option Nat
+snat_row net router ip = best_by is_narrower (filter (is_snat_for ip) (nats_of net router))
+
+abbrev pub snat_desk : ℕ → Spot → Name → Desk
+snat_desk now spot router = record { now = now; spot = spot; owner = snat_of router }
+
+-- ---- ports
+
+-- answers come back to the port; an echo has its identifier twice
+abbrev pub with_port_of : Protocol → ℕ → Tuple → Tuple
+with_port_of protocol.EchoReply n back = record back { src_port = n; dst_port = n }
+with_port_of _ n back = record back { dst_port = n }
+
+abbrev pub with_port : ℕ → Tuple → Tuple
+with_port n back = with_port_of back.protocol n back
+
+-- the port is free: answers to it would be no other connection's
+abbrev pub is_free_port : ConnectionList → Tuple → ℕ → Bool
+is_free_port list back n = is_free list (with_port n back)
+
+abbrev pub first_port : ℕ
+first_port = 1024
+
+abbrev pub last_port : ℕ
+last_port = 65535
+
+abbrev pub may_pick : ConnectionList → Tuple → ℕ → Bool
+may_pick list back n = nat_le first_port n && (nat_le n last_port && is_free_port list back n)
+
+-- so many numbers from this one on have one that passes (it looks no further than it has to, so that it computes)
+abbrev pub some_from : (ℕ → Bool) → ℕ → ℕ → Bool
+some_from test from zero = false
+some_from test from (suc n) = elim (test from) [ true ↦ true | false ↦ some_from test (from + 1) n ]
+
+-- there is a port that may be picked; a protocol without ports has none
+abbrev pub has_free_port : ConnectionList → Tuple → Bool
+has_free_port list back = cond (has_ports back.protocol) (some_from (is_free_port list back) first_port 64512) false
+
+-- ---- a new connection
+
+-- it begins with this reply tuple, and the packet gets the source to which that goes
+abbrev pub snat_to : Desk → Tuple → Tuple → Trail → Packet → Point
+snat_to d tuple back t p = commit_or_drop d tuple back t (with_tuple (reversed back) p)
+
+-- the pick is told before the connection is committed
+abbrev pub snat_over : Desk → Name → Tuple → Tuple → Chosen ℕ → Trail → Packet → Point
+snat_over d router tuple back c t p = snat_to d tuple (with_port c.what back) (tell (picks_port router c.what) (after_choice c t)) p
+
+abbrev pub pick_port : Bool → Desk → Name → Tuple → Tuple → Trail → Packet → Point
+pick_port true d router tuple back t p = snat_over d router tuple back (choose_port (may_pick (list_of t.lists d.owner) back) t.choices) t p
+pick_port false d router tuple back t p = stops (drop_for cause.NoFreePort d.spot t)
+
+-- the source port is kept where it is free, else a free one is picked
+abbrev pub keep_port : Bool → Desk → Name → Tuple → Tuple → Trail → Packet → Point
+keep_port true d router tuple back t p = snat_to d tuple back t p
+keep_port false d router tuple back t p = pick_port (has_free_port (list_of t.lists d.owner) back) d router tuple back t p
+
+abbrev pub snat_new : Desk → Name → Tuple → Tuple → Trail → Packet → Point
+snat_new d router tuple back t p = keep_port (is_free (list_of t.lists d.owner) back) d router tuple back t p
+
+-- ---- any packet
+
+abbrev pub from_address : Ip4 → Tuple → Tuple
+from_address ip t = record t { src = ip }
+
+abbrev pub snat_by_row : Desk → Name → Nat → Seen → Trail → Packet → Point
+snat_by_row d router r (forward e) t p = carry_onward d.now d.owner e t p
+snat_by_row d router r (reply e) t p = goes t p
+snat_by_row d router r invalid t p = stops (drop_for cause.Invalid d.spot t)
+snat_by_row d router r (new tuple) t p = snat_new d router tuple (reversed (from_address r.external_ip tuple)) t p
+
+abbrev pub snat_without_row : Desk → Seen → Trail → Packet → Point
+snat_without_row d (forward e) t p = carry_onward d.now d.owner e t p
+snat_without_row d (reply e) t p = goes t p
+snat_without_row d invalid t p = goes t p
+snat_without_row d (new tuple) t p = goes t p
+
+-- a known connection is translated whether it has a row or not
+abbrev pub snat_as : Desk → Name → Option Nat → Seen → Trail → Packet → Point
+snat_as d router None sight t p = snat_without_row d sight t p
+snat_as d router (Some r) sight t p = snat_by_row d router r sight t p
+
+-- the packet is looked for in the router's SNAT list; it is dropped at the port by which it leaves
+abbrev pub snat : Network → ℕ → Spot → Name → Trail → Packet → Point
+snat net now spot router t p = snat_as (snat_desk now spot router) router (snat_row net router (src_of p)) (seen (list_of t.lists (snat_of router)) p) t p

@@ -1,0 +1,49 @@
+//! Laws of the logical network, each on a function that does nothing: call it, and its clause is a fact of the call.
+ghost use Rattle.std.specs.Prelude.{◌≡◌, ℕ, List};
+ghost use Rattle.net_model.specs.Arrival.{arrival};
+ghost use Rattle.net_model.specs.Entry.{Scene};
+ghost use Rattle.net_model.specs.Journey.{Journey, Traffic, Places, travel, Travels};
+ghost use Rattle.net_model.specs.Leads.{Leads, IsLater};
+ghost use Rattle.net_model.specs.State.{State};
+ghost use Rattle.net_model.specs.Trail.{Trail, End, choices_in};
+ghost use Rattle.net_model.specs.Visit.{visit};
+
+use crate::crossing::Crossing;
+use inet_packet::packet::Packet;
+use nb_records::switch::SwitchPort;
+
+/// A packet's way from its entry adds ends, begins connections that are new, changes entries that are there, and makes choices; and
+/// it does nothing else.
+#[tactic(auto, using(crate::proofs::VisitLeads::visit_leads))]
+pub fn visits_lead_on()
+    ensures { (s : Scene) (i : SwitchPort) (t : Trail) (p : Packet) → Leads s.now t (visit s i t p) }
+{}
+
+/// Nor does its way from its arrival.
+#[tactic(auto, using(crate::proofs::VisitLeads::arrival_leads))]
+pub fn arrivals_lead_on()
+    ensures { (s : Scene) (n : ℕ) (x : Crossing) (t : Trail) → Leads s.now t (arrival s n x t) }
+{}
+
+/// On its way from its entry ends only grow, what was not legal stays so, and who has connection lists stays.
+#[tactic(auto, using(crate::proofs::VisitLeads::visit_later))]
+pub fn visits_only_add()
+    ensures { (s : Scene) (i : SwitchPort) (t : Trail) (p : Packet) → IsLater t (visit s i t p) }
+{}
+
+/// And so on its way from its arrival.
+pub fn arrivals_only_add()
+    ensures { (s : Scene) (n : ℕ) (x : Crossing) (t : Trail) → IsLater t (arrival s n x t) }
+{}
+
+/// And so with all packets of an event.
+#[tactic(auto, using(crate::proofs::JourneyLaws::travel_later))]
+pub fn journeys_only_add()
+    ensures { (places : Places) (traffic : Traffic) (j : Journey) → IsLater j.trail (travel places traffic j).trail }
+{}
+
+/// What an event asks of packets and the choices that are made determine their ends, and the state that they leave.
+#[tactic(auto, using(crate::proofs::JourneyLaws::same_travels))]
+pub fn choices_determine_ends()
+    ensures { (m : State) (traffic : Traffic) (es fs : List End) (a b : State) → Travels m traffic es a → Travels m traffic fs b → choices_in es ≡ choices_in fs → (es ≡ fs) × (a ≡ b) }
+{}
