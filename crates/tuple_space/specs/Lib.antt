@@ -1,0 +1,6 @@
+-- Definitions that contracts cite.
+pub mod Masks
+pub mod Ranked
+pub mod Bunches
+pub mod Turns
+pub mod Space

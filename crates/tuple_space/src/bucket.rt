@@ -1,0 +1,124 @@
+//! The flows of one mask with the same values.
+ghost use Rattle.std.specs.Prelude.{◌≡◌, ◌↔◌, ◌⊎◌, ◌+◌, ◌<◌, ◌≤◌, [], length, take, drop, slice_get, IsTrue, OnOk, OnErr};
+ghost use Rattle.std.specs.Option.{option_copied};
+ghost use Rattle.ovn_base.specs.lists.Among.{Among};
+ghost use Rattle.ovn_base.specs.lists.Once.{EachOnce};
+ghost use Rattle.flow_table.specs.declared.flow.Flow.{Flow};
+ghost use Rattle.flow_table.specs.Matching.{Beats};
+ghost use Rattle.tuple_space.specs.Bunches.{IsFalling};
+
+use flow_table::exact::exact_flow;
+use flow_table::flow::Flow;
+use flow_table::matching::beats;
+use ovn_base::memory::NoMemory;
+use std::alloc::Global;
+use std::marker::Model;
+
+/// The flows of one mask with the same values, the best first, with room for as many more as were promised.
+#[derive(Drop)]
+pub struct Bucket {
+    flows: Vec<Flow>,
+    promised: usize,
+}
+
+impl Model for Bucket {
+    ghost use Rattle.std.specs.Prelude.{◌+◌, ◌≤◌, vec_len};
+    ghost use Rattle.std.specs.Vec.{vec_capacity};
+    ghost use Rattle.tuple_space.specs.Bunches.{Bunch};
+
+    ghost Value = { Bunch };
+
+    ghost view = { λ b. record { flows = b.flows.items; promised = b.promised } };
+
+    ghost invariant = { λ b. vec_len b.flows + b.promised ≤ vec_capacity b.flows };
+}
+
+// Where the flow belongs among those that fall: before the first that it beats.
+fn place_of(flows: &[Flow], flow: &Flow) -> usize
+    ensures within { result ≤ length flows.now }
+    ensures before { (g : Flow) → Among g (take result flows.now) → ¬ Beats flow.now g }
+    ensures behind { IsFalling flows.now → (g : Flow) → Among g (drop result flows.now) → ¬ Beats g flow.now }
+{
+    for (i, held) in flows.iter().enumerate() {
+        if beats(flow, held) {
+            return i;
+        }
+    }
+    flows.len()
+}
+
+impl Bucket {
+    /// No flow, and no room.
+    pub fn new(alloc: Global) -> Bucket
+        ensures flows { result.flows ≡ [] }
+        ensures promised { result.promised ≡ 0 }
+    {
+        Bucket {
+            flows: Vec::new(alloc),
+            promised: 0,
+        }
+    }
+
+    /// How many flows there are.
+    pub fn len(&self) -> usize
+        ensures { result ≡ length self.now.flows }
+    {
+        self.flows.len()
+    }
+
+    /// The flow at the index, counted from 0; `None` past the last.
+    pub fn get(&self, index: usize) -> Option<&Flow>
+        ensures { option_copied result ≡ slice_get self.now.flows index }
+    {
+        self.flows.get(index)
+    }
+
+    /// Whether there is no flow, and no room is promised.
+    pub fn is_idle(&self) -> bool
+        ensures { IsTrue result ↔ ((self.now.flows ≡ []) × (self.now.promised ≡ 0)) }
+    {
+        self.flows.is_empty() && self.promised == 0
+    }
+
+    /// Makes room for one flow more than was promised. The flows stay, also without memory.
+    pub fn promise(&mut self) -> Result<(), NoMemory>
+        ensures flows { self.new.flows ≡ self.old.flows }
+        ensures ok { OnOk result (self.new.promised ≡ self.old.promised + 1) }
+        ensures err { OnErr result (self.new.promised ≡ self.old.promised) }
+    {
+        let promised = match self.promised.checked_add(1) {
+            Some(promised) => promised,
+            None => return Err(NoMemory),
+        };
+        self.flows.reserve(promised)?;
+        self.promised = promised;
+        Ok(())
+    }
+
+    /// Puts a flow in, where room was promised. No memory is taken.
+    pub fn put(&mut self, flow: Flow)
+        requires { 0 < self.old.promised }
+        ensures held { (f : Flow) → Among f self.new.flows ↔ ((f ≡ flow) ⊎ Among f self.old.flows) }
+        ensures once { EachOnce self.old.flows → ¬ Among flow self.old.flows → EachOnce self.new.flows }
+        ensures falls { IsFalling self.old.flows → IsFalling self.new.flows }
+        ensures promised { self.new.promised + 1 ≡ self.old.promised }
+    {
+        let place = place_of(self.flows.as_slice(), &flow);
+        self.promised -= 1;
+        match self.flows.insert(place, flow) {
+            Ok(()) => {}
+            Err(_) => unreachable!(),
+        }
+    }
+
+    /// Takes the flow out, if it is there. No memory is taken, and no room is lost.
+    pub fn take_out(&mut self, flow: &Flow)
+        ensures kept { (f : Flow) → Among f self.new.flows ↔ (Among f self.old.flows × ¬ (f ≡ flow.now)) }
+        ensures once { EachOnce self.old.flows → EachOnce self.new.flows }
+        ensures falls { IsFalling self.old.flows → IsFalling self.new.flows }
+        ensures promised { self.new.promised ≡ self.old.promised }
+    {
+        exact_flow();
+        self.flows.retain(|held| held != flow);
+    }
+}

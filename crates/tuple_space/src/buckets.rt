@@ -1,0 +1,203 @@
+//! Flows in buckets, by key.
+ghost use Rattle.std.specs.Prelude.{◌≡◌, ◌↔◌, ◌⊎◌, ◌+◌, ◌<◌, ℕ, List, None, [], cond, nat_eq, slice_get, is_some, IsSome, IsTrue, OnOk};
+ghost use Rattle.std.specs.Cmp.Lexicographic.{pointwise};
+ghost use Rattle.std.specs.Map.{lookup};
+ghost use Rattle.std.specs.Option.{option_copied};
+ghost use Rattle.ovn_base.specs.lists.Among.{Among};
+ghost use Rattle.flow_table.specs.declared.flow.Flow.{Flow};
+ghost use Rattle.tuple_space.specs.Bunches.{flows_in, flows_under, promised_under, AreBunches, bunches_of};
+
+use crate::bucket::Bucket;
+use flow_table::flow::Flow;
+use indexmap::IndexMap;
+use ovn_base::memory::NoMemory;
+use std::alloc::Global;
+use std::marker::Model;
+
+/// Flows by key: each key has a bucket with the flows that belong there.
+#[derive(Drop)]
+pub struct Buckets {
+    places: IndexMap<Vec<u64>, Bucket>,
+}
+
+impl Model for Buckets {
+    ghost use Rattle.std.specs.Prelude.{ℕ, List};
+    ghost use Rattle.tuple_space.specs.Bunches.{Bunch, AreBunches, bunches_of};
+
+    ghost Value = { List (List ℕ × Bunch) };
+
+    ghost view = { λ s. bunches_of s.places.entries };
+
+    ghost invariant = { λ s. AreBunches (bunches_of s.places.entries) };
+}
+
+// The flow at the index, bucket by bucket.
+fn flow_in(places: &IndexMap<Vec<u64>, Bucket>, index: usize) -> Option<&Flow>
+    ensures { option_copied result ≡ slice_get (flows_in (bunches_of places.now.entries)) index }
+{
+    let mut left = index;
+    for i in 0..places.len() {
+        match places.get_index(i) {
+            Some((_, bucket)) => {
+                if left < bucket.len() {
+                    return bucket.get(left);
+                }
+                left -= bucket.len();
+            }
+            None => unreachable!(),
+        }
+    }
+    None
+}
+
+impl Buckets {
+    /// No bucket.
+    pub fn new(alloc: Global) -> Buckets
+        ensures { result ≡ [] }
+    {
+        Buckets {
+            places: IndexMap::new(alloc),
+        }
+    }
+
+    /// What always holds. It does nothing.
+    pub fn hold(&self)
+        ensures { AreBunches self.now }
+    {
+        let _many = self.places.len();
+    }
+
+    /// The best of the flows at the key.
+    pub fn first(&self, key: &[u64]) -> Option<&Flow>
+        ensures { option_copied result ≡ slice_get (flows_under self.now key.now) 0 }
+    {
+        match self.places.get(key) {
+            Some(bucket) => bucket.get(0),
+            None => None,
+        }
+    }
+
+    /// The flow at the index, counted from 0; `None` past the last.
+    pub fn flow(&self, index: usize) -> Option<&Flow>
+        ensures { option_copied result ≡ slice_get (flows_in self.now) index }
+    {
+        flow_in(&self.places, index)
+    }
+
+    /// Puts a flow in, where room was promised. No memory is taken.
+    pub fn put(&mut self, key: &[u64], flow: Flow)
+        requires room { 0 < promised_under self.old key.now }
+        requires fresh { ¬ Among flow (flows_under self.old key.now) }
+        ensures held { (k : List ℕ) (f : Flow) → Among f (flows_under self.new k) ↔ (((k ≡ key.now) × (f ≡ flow)) ⊎ Among f (flows_under self.old k)) }
+        ensures promised { (k : List ℕ) → promised_under self.old k ≡ promised_under self.new k + cond (pointwise nat_eq key.now k) 1 0 }
+    {
+        match self.places.get_mut(key) {
+            Some(bucket) => bucket.put(flow),
+            None => unreachable!(),
+        }
+    }
+
+    // Takes the flow out at a key that has a bucket.
+    fn take_out_there(&mut self, key: &[u64], flow: &Flow)
+        requires { IsSome (lookup (pointwise nat_eq key.now) self.old) }
+        ensures kept { (k : List ℕ) (f : Flow) → Among f (flows_under self.new k) ↔ (Among f (flows_under self.old k) × ¬ ((k ≡ key.now) × (f ≡ flow.now))) }
+        ensures promised { (k : List ℕ) → promised_under self.new k ≡ promised_under self.old k }
+    {
+        match self.places.get_mut(key) {
+            Some(bucket) => bucket.take_out(flow),
+            None => unreachable!(),
+        }
+    }
+
+    /// Whether there is a bucket for the key.
+    pub fn has(&self, key: &[u64]) -> bool
+        ensures { result ≡ is_some (lookup (pointwise nat_eq key.now) self.now) }
+    {
+        self.places.contains_key(key)
+    }
+
+    // Makes room for one flow more at a key that has a bucket.
+    fn promise_there(&mut self, key: &[u64]) -> Result<(), NoMemory>
+        requires { IsSome (lookup (pointwise nat_eq key.now) self.old) }
+        ensures flows { flows_in self.new ≡ flows_in self.old }
+        ensures under { (k : List ℕ) → flows_under self.new k ≡ flows_under self.old k }
+        ensures promised { OnOk result ((k : List ℕ) → promised_under self.new k ≡ promised_under self.old k + cond (pointwise nat_eq key.now k) 1 0) }
+    {
+        match self.places.get_mut(key) {
+            Some(bucket) => bucket.promise(),
+            None => unreachable!(),
+        }
+    }
+
+    // Makes a bucket with room for one flow.
+    fn promise_new(&mut self, key: &[u64]) -> Result<(), NoMemory>
+        requires { lookup (pointwise nat_eq key.now) self.old ≡ None }
+        ensures flows { flows_in self.new ≡ flows_in self.old }
+        ensures under { (k : List ℕ) → flows_under self.new k ≡ flows_under self.old k }
+        ensures promised { OnOk result ((k : List ℕ) → promised_under self.new k ≡ promised_under self.old k + cond (pointwise nat_eq key.now k) 1 0) }
+    {
+        let alloc = *self.places.allocator();
+        let mut bucket = Bucket::new(alloc);
+        bucket.promise()?;
+        let place = Vec::from_slice(alloc, key)?;
+        match self.places.insert(place, bucket) {
+            Ok(_) => Ok(()),
+            Err(_) => Err(NoMemory),
+        }
+    }
+
+    /// Makes room for one flow more at the key than was promised. The flows stay, also without memory.
+    pub fn promise(&mut self, key: &[u64]) -> Result<(), NoMemory>
+        ensures flows { flows_in self.new ≡ flows_in self.old }
+        ensures under { (k : List ℕ) → flows_under self.new k ≡ flows_under self.old k }
+        ensures promised { OnOk result ((k : List ℕ) → promised_under self.new k ≡ promised_under self.old k + cond (pointwise nat_eq key.now k) 1 0) }
+    {
+        if self.has(key) {
+            self.promise_there(key)
+        } else {
+            self.promise_new(key)
+        }
+    }
+
+    // Whether no flow is at the key, and no room is promised.
+    fn is_idle(&self, key: &[u64]) -> bool
+        ensures { IsTrue result → (flows_under self.now key.now ≡ []) × (promised_under self.now key.now ≡ 0) }
+    {
+        match self.places.get(key) {
+            Some(bucket) => bucket.is_idle(),
+            None => false,
+        }
+    }
+
+    // Takes the bucket of the key away.
+    fn clear(&mut self, key: &[u64])
+        requires { (flows_under self.old key.now ≡ []) × (promised_under self.old key.now ≡ 0) }
+        ensures under { (k : List ℕ) → flows_under self.new k ≡ flows_under self.old k }
+        ensures promised { (k : List ℕ) → promised_under self.new k ≡ promised_under self.old k }
+    {
+        self.places.swap_remove(key);
+    }
+
+    // Takes the bucket of the key away, if it is idle.
+    fn sweep(&mut self, key: &[u64])
+        ensures under { (k : List ℕ) → flows_under self.new k ≡ flows_under self.old k }
+        ensures promised { (k : List ℕ) → promised_under self.new k ≡ promised_under self.old k }
+    {
+        if !self.is_idle(key) {
+            return;
+        }
+        self.clear(key);
+    }
+
+    /// Takes the flow out, if it is there, and its bucket, if nothing is left in it. No memory is taken, and no room is lost.
+    pub fn take_out(&mut self, key: &[u64], flow: &Flow)
+        ensures kept { (k : List ℕ) (f : Flow) → Among f (flows_under self.new k) ↔ (Among f (flows_under self.old k) × ¬ ((k ≡ key.now) × (f ≡ flow.now))) }
+        ensures promised { (k : List ℕ) → promised_under self.new k ≡ promised_under self.old k }
+    {
+        if !self.has(key) {
+            return;
+        }
+        self.take_out_there(key, flow);
+        self.sweep(key);
+    }
+}

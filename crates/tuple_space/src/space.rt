@@ -1,0 +1,253 @@
+//! What holds the flows of a chassis in hash maps, by table, mask and values.
+ghost use Rattle.std.specs.Prelude.{◌≡◌, ◌↔◌, ◌⊎◌, ◌+◌, ◌<◌, ◌≤◌, ℕ, List, [], IfOk, IfSome, IfNone, OnOk, cond, nat_eq, slice_get};
+ghost use Rattle.std.specs.Cmp.Lexicographic.{pointwise};
+ghost use Rattle.ovn_base.specs.lists.Among.{Among};
+ghost use Rattle.ovn_base.specs.lists.Once.{EachOnce};
+ghost use Rattle.flow_table.specs.declared.flow.Flow.{Flow};
+ghost use Rattle.std.specs.Option.{option_copied};
+ghost use Rattle.flow_table.specs.Matching.{IsBest, NoneMatches};
+ghost use Rattle.tuple_space.specs.Masks.{field_values};
+ghost use Rattle.tuple_space.specs.Bunches.{flows_in, promised_under, IsBetter};
+ghost use Rattle.tuple_space.specs.Space.{key_in, IsServed, IsSpaceReady, count_under, first_under};
+
+use crate::buckets::Buckets;
+use crate::fields::{bits_of, values_of};
+use crate::mask::{Key, Mask, asks_of, write_masked};
+use crate::number::{number_for, write_key};
+use crate::turns::Turns;
+use flow_table::flow::Flow;
+use flow_table::lookup::Lookup;
+use flow_table::matching::beats;
+use inet_packet::packet::Packet;
+use inet_packet::regs::Regs;
+use ovn_base::delta::Delta;
+use ovn_base::list::List;
+use ovn_base::memory::NoMemory;
+use std::alloc::Global;
+use std::marker::Model;
+
+/// Flows by table, mask and values, each once. A look-up asks the masks of its table in the order of their bounds.
+#[derive(Drop)]
+pub struct TupleSpace {
+    masks: Vec<Mask>,
+    turns: Turns,
+    buckets: Buckets,
+}
+
+impl Model for TupleSpace {
+    ghost use Rattle.tuple_space.specs.Space.{Space, IsSpace};
+
+    ghost Value = { Space };
+
+    ghost view = { λ s. record { masks = s.masks.items; turns = s.turns; bunches = s.buckets } };
+
+    ghost invariant = { λ s. IsSpace s.masks.items s.turns s.buckets };
+}
+
+impl TupleSpace {
+    /// Without flows.
+    pub fn new(alloc: Global) -> Result<TupleSpace, NoMemory>
+        ensures { IfOk result (λ s. flows_in s.bunches ≡ []) }
+    {
+        Ok(TupleSpace {
+            masks: Vec::new(alloc),
+            turns: Turns::new(alloc),
+            buckets: Buckets::new(alloc),
+        })
+    }
+
+    // Gives the flow's mask a number, and a turn in the flow's table.
+    fn serve(&mut self, flow: &Flow) -> Result<(), NoMemory>
+        ensures served { OnOk result (IsServed self.new.masks self.new.turns flow.now 0 0) }
+        ensures stays { (f : Flow) (p r : ℕ) → IsServed self.old.masks self.old.turns f p r → IsServed self.new.masks self.new.turns f p r }
+        ensures bunches { self.new.bunches ≡ self.old.bunches }
+    {
+        let bits = bits_of(&flow.cube);
+        let asks = asks_of(&bits);
+        let number = number_for(&mut self.masks, asks.as_slice(), flow.cube.at.is_some())?;
+        self.turns.add(flow.table, number)
+    }
+
+    // Makes room for the flow.
+    fn promise(&mut self, flow: &Flow) -> Result<(), NoMemory>
+        ensures masks { self.new.masks ≡ self.old.masks }
+        ensures turns { self.new.turns ≡ self.old.turns }
+        ensures flows { flows_in self.new.bunches ≡ flows_in self.old.bunches }
+        ensures promised { OnOk result ((k : List ℕ) → promised_under self.new.bunches k ≡ promised_under self.old.bunches k + cond (pointwise nat_eq (key_in self.old.masks flow.now) k) 1 0) }
+    {
+        let mut key = Key::new();
+        write_key(self.masks.as_slice(), flow, &mut key);
+        self.buckets.promise(key.as_slice())
+    }
+
+    // Takes the flow out, if it is held.
+    fn take_out(&mut self, flow: &Flow)
+        ensures masks { self.new.masks ≡ self.old.masks }
+        ensures turns { self.new.turns ≡ self.old.turns }
+        ensures kept { (f : Flow) → Among f (flows_in self.new.bunches) ↔ (Among f (flows_in self.old.bunches) × ¬ (f ≡ flow.now)) }
+        ensures promised { (k : List ℕ) → promised_under self.new.bunches k ≡ promised_under self.old.bunches k }
+    {
+        let mut key = Key::new();
+        write_key(self.masks.as_slice(), flow, &mut key);
+        self.buckets.hold();
+        self.buckets.take_out(key.as_slice(), flow);
+        self.buckets.hold();
+    }
+
+    // Puts a flow in whose mask has a number and a turn, where room was promised.
+    fn put(&mut self, flow: Flow)
+        requires served { IsServed self.old.masks self.old.turns flow 0 0 }
+        requires room { 0 < promised_under self.old.bunches (key_in self.old.masks flow) }
+        requires fresh { ¬ Among flow (flows_in self.old.bunches) }
+        ensures masks { self.new.masks ≡ self.old.masks }
+        ensures held { (f : Flow) → Among f (flows_in self.new.bunches) ↔ ((f ≡ flow) ⊎ Among f (flows_in self.old.bunches)) }
+        ensures stays { (f : Flow) (p r : ℕ) → IsServed self.old.masks self.old.turns f p r → IsServed self.new.masks self.new.turns f p r }
+        ensures promised { (k : List ℕ) → promised_under self.old.bunches k ≡ promised_under self.new.bunches k + cond (pointwise nat_eq (key_in self.old.masks flow) k) 1 0 }
+    {
+        let mut key = Key::new();
+        let number = write_key(self.masks.as_slice(), &flow, &mut key);
+        self.buckets.hold();
+        self.turns
+            .raise(flow.table, number, flow.priority, flow.rank);
+        self.buckets.put(key.as_slice(), flow);
+        self.buckets.hold();
+    }
+
+    // Gives the mask of each flow a number and a turn.
+    fn serve_each(&mut self, flows: &[Flow]) -> Result<(), NoMemory>
+        ensures served { OnOk result ((f : Flow) → Among f flows.now → IsServed self.new.masks self.new.turns f 0 0) }
+        ensures bunches { self.new.bunches ≡ self.old.bunches }
+    {
+        for flow in flows {
+            self.serve(flow)?;
+        }
+        Ok(())
+    }
+
+    // Makes room for each flow.
+    fn promise_each(&mut self, flows: &[Flow]) -> Result<(), NoMemory>
+        ensures masks { self.new.masks ≡ self.old.masks }
+        ensures turns { self.new.turns ≡ self.old.turns }
+        ensures flows { flows_in self.new.bunches ≡ flows_in self.old.bunches }
+        ensures room { OnOk result ((k : List ℕ) → count_under self.old.masks k flows.now ≤ promised_under self.new.bunches k) }
+    {
+        for flow in flows {
+            self.promise(flow)?;
+        }
+        Ok(())
+    }
+
+    // Takes the flows out.
+    fn take_out_each(&mut self, flows: &[Flow])
+        ensures masks { self.new.masks ≡ self.old.masks }
+        ensures turns { self.new.turns ≡ self.old.turns }
+        ensures kept { (f : Flow) → Among f (flows_in self.new.bunches) ↔ (Among f (flows_in self.old.bunches) × ¬ Among f flows.now) }
+        ensures promised { (k : List ℕ) → promised_under self.new.bunches k ≡ promised_under self.old.bunches k }
+    {
+        for flow in flows {
+            self.take_out(flow);
+        }
+    }
+
+    // Puts flows in that aren't held, and for which all is ready.
+    fn put_each(&mut self, flows: List<Flow>)
+        requires once { EachOnce flows }
+        requires served { (f : Flow) → Among f flows → IsServed self.old.masks self.old.turns f 0 0 }
+        requires room { (k : List ℕ) → count_under self.old.masks k flows ≤ promised_under self.old.bunches k }
+        requires fresh { (f : Flow) → Among f flows → ¬ Among f (flows_in self.old.bunches) }
+        ensures { (f : Flow) → Among f (flows_in self.new.bunches) ↔ (Among f flows ⊎ Among f (flows_in self.old.bunches)) }
+    {
+        for flow in flows {
+            self.put(flow);
+        }
+    }
+
+    // The first of the flows that match under the mask of this number.
+    fn ask(
+        &self,
+        table: u8,
+        number: usize,
+        regs: &Regs,
+        packet: &Packet,
+        values: &[u64; 30],
+        key: &mut Key,
+    ) -> Option<&Flow>
+        requires { values.now ≡ field_values regs.now packet.now }
+        ensures { option_copied result ≡ first_under self.now.masks self.now.bunches table number regs.now packet.now }
+    {
+        match mask_at(self.masks.as_slice(), number) {
+            Some(mask) => {
+                write_masked(table, number, mask, values, &regs.at, key);
+                self.buckets.first(key.as_slice())
+            }
+            None => None,
+        }
+    }
+
+    // The best of the flows that match.
+    fn best(&self, table: u8, regs: &Regs, packet: &Packet) -> Option<&Flow>
+        ensures found { IfSome result (λ f. IsBest (flows_in self.now.bunches) table regs.now packet.now f.now) }
+        ensures none { IfNone result (NoneMatches (flows_in self.now.bunches) table regs.now packet.now) }
+    {
+        self.buckets.hold();
+        let values = values_of(regs, packet);
+        let mut key = Key::new();
+        let mut best: Option<&Flow> = None;
+        for turn in self.turns.of(table) {
+            if let Some(held) = best {
+                if !turn.is_above(held) {
+                    return best;
+                }
+            }
+            let found = self.ask(table, turn.number, regs, packet, &values, &mut key);
+            best = better(best, found);
+        }
+        best
+    }
+}
+
+// The mask of the number.
+fn mask_at(masks: &[Mask], number: usize) -> Option<&Mask>
+    ensures { option_copied result ≡ slice_get masks.now number }
+{
+    masks.get(number)
+}
+
+// The first of the two, unless the second beats it.
+fn better<'a>(best: Option<&'a Flow>, found: Option<&'a Flow>) -> Option<&'a Flow>
+    ensures { IsBetter (option_copied best.entry) (option_copied found.entry) (option_copied result) }
+{
+    match best {
+        None => found,
+        Some(held) => match found {
+            None => best,
+            Some(flow) => { if beats(flow, held) { found } else { best } }
+        },
+    }
+}
+
+impl Lookup for TupleSpace {
+    ghost flows = { λ s. flows_in s.bunches };
+
+    ghost ready = { IsSpaceReady };
+
+    fn lookup(&self, table: u8, regs: &Regs, packet: &Packet) -> Option<&Flow> {
+        self.best(table, regs, packet)
+    }
+
+    fn prepare(&mut self, delta: &Delta<Flow>) -> Result<(), NoMemory> {
+        self.serve_each(delta.added.as_slice())?;
+        self.promise_each(delta.added.as_slice())
+    }
+
+    fn replace(&mut self, delta: Delta<Flow>) {
+        let Delta { added, removed } = delta;
+        self.take_out_each(removed.as_slice());
+        self.put_each(added);
+    }
+
+    fn flow(&self, index: usize) -> Option<&Flow> {
+        self.buckets.hold();
+        self.buckets.flow(index)
+    }
+}
