@@ -12,7 +12,7 @@ use Rattle.nb_records.specs.Routers.{nats_of, served_ips, has_vip}
 use Rattle.nb_records.specs.Switches.{same_ip, serves_at, balancers_of}
 use Rattle.nb_records.specs.declared.balancer.LoadBalancer.{LoadBalancer}
 use Rattle.nb_records.specs.declared.router.Nat.{Nat}
-use Rattle.nb_records.proofs.Tests.{any_map, any_filter, any_flat_map, any_same}
+use Rattle.nb_records.proofs.AnyLaws.{any_map, any_filter, any_flat_map, any_same}
 
 module _ (net : Network) (router : Name) (ip : Ip4) where
   by_rows : list_any (same_ip ip) (map (λ (r : Nat). r.external_ip) (nats_of net router)) ≡ list_any (λ (e : Name × Nat). same_name e.1.router router && same_ip ip e.1.external_ip) net.nats

@@ -127,12 +127,16 @@ pub record IsPortGroup (r : PortGroup) : Type 0 where
   pub name : IsName r.name
   pub ports : AreNames r.ports
 
--- its match is one that is read for its direction
+-- its match is one that is read for a to-lport rule; that it is one for its own direction is asked of an edit (`IsDirected`)
 pub record IsAcl (r : Acl) : Type 0 where
   pub name : IsName r.name
   pub scope : IsOfOne r.switch r.port_group
   pub priority : r.priority ≤ 32767
-  pub matching : FitsLevels r.direction MAX_DEPTH r.matching
+  pub matching : FitsLevels way.ToLport MAX_DEPTH r.matching
+
+-- the match of a from-lport rule names no port of exit
+abbrev pub IsDirected : Acl → Type 0
+IsDirected r = FitsLevels r.direction MAX_DEPTH r.matching
 
 pub record IsRoute (r : Route) : Type 0 where
   pub name : IsName r.name
