@@ -1,0 +1,27 @@
+//! Rows of rules, each on a function that does nothing: its clauses say that the definitions come to the row's lines.
+ghost use Rattle.model_rows.specs.Frames.{AreFramesOf};
+ghost use Rattle.model_rows.specs.Play.{ComesOut};
+ghost use Rattle.model_rows.specs.Rules as row;
+
+/// The packets of these rows have the frames that the rows write.
+#[tactic(auto, using(crate::proofs::RuleRows::frames))]
+pub fn frames()
+    ensures { AreFramesOf row.rule_frames }
+{}
+
+/// Of rules of one priority that match, the one that drops wins; numbers are compared as numbers, and a group's ports as ports.
+#[tactic(auto, using(crate::proofs::RuleRows::equal_priority_rules, crate::proofs::RuleRows::widths, crate::proofs::RuleRows::group_on_two_switches))]
+pub fn verdicts()
+    ensures equal_priority_rules { ComesOut row.equal_priority_rules }
+    ensures widths { ComesOut row.widths }
+    ensures group_on_two_switches { ComesOut row.group_on_two_switches }
+{}
+
+/// Answers pass, but where a rule has blocked the connection, where its port was bound anew, or where it was idle too long.
+#[tactic(auto, using(crate::proofs::RuleRows::blocked_connection, crate::proofs::RuleRows::rebound_port, crate::proofs::RuleRows::idle_connection, crate::proofs::RuleRows::used_connection))]
+pub fn connections()
+    ensures blocked_connection { ComesOut row.blocked_connection }
+    ensures rebound_port { ComesOut row.rebound_port }
+    ensures idle_connection { ComesOut row.idle_connection }
+    ensures used_connection { ComesOut row.used_connection }
+{}
