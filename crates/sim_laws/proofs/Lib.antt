@@ -1,0 +1,10 @@
+pub mod PlainPorts
+pub mod PlainPieces
+pub mod PlainTargets
+pub mod PlainVisits
+pub mod PlainTravels
+pub mod PlainDrains
+pub mod PlainAddresses
+pub mod PlainFrames
+pub mod PlainNames
+pub mod PlainEntries
