@@ -1,4 +1,10 @@
 -- Names stay names: in the records, on the way, in effects and in refusals.
+use Rattle.std.proofs.lemmas.Option.{none-some}
+use Rattle.chassis_sim.specs.State.{numbered}
+use Rattle.world_core.specs.Admitted.{IsAdmitted}
+use Rattle.sim_laws.specs.Consistent.{IsConsistent}
+use Rattle.world_core.proofs.StepByStep.{enters_back, arrives_back, drains_back, sends_back, loses_back, can_enter}
+use Rattle.std.specs.BTreeSet.{insert_key}
 use Rattle.std.specs.Prelude.{◌≡◌, ◌≤◌, ◌<◌, ◌+◌, ◌++◌, ◌^◌, ◌&&◌, ℕ, zero, suc, Bool, true, false, not, List, [], ◌∷◌, Some, None, Option, is_some, cond, map, filter, nat_le, length, unwrap_or, refl}
 use Rattle.std.specs.BTreeMap.{is_at}
 use Rattle.std.specs.Cmp.Lexicographic.{slice_cmp}
@@ -7,7 +13,7 @@ use Rattle.std.specs.Option.{option_map}
 use Rattle.std.specs.Ordering.{is_eq, match_ordering, nat_cmp}
 use Rattle.std.specs.declared.cmp.Ordering.{Ordering}
 use Rattle.std.specs.declared.cmp.Ordering.TheVariants.{Less, Equal, Greater}
-use Rattle.std.proofs.Common.{sym, ap, subst, arith, inl, inr}
+use Rattle.std.proofs.Common.{sym, ap, subst, arith, inl, inr, ◌∙◌}
 use Rattle.ovn_base.specs.lists.Among.{Among, here, there}
 use Rattle.ovn_base.specs.names.ByName.{at, in_order, put}
 use Rattle.ovn_base.specs.names.NameText.{IsName}
@@ -42,22 +48,27 @@ use Rattle.tunnel_keys.specs.declared.owner.KeyOwner.TheVariants.{Datapath, Port
 use Rattle.tunnel_keys.specs.declared.owner.PortKey.{PortKey}
 use Rattle.tunnel_keys.proofs.Lists.{in_order_among}
 use Rattle.tunnel_keys.proofs.OwnerLaws.{in_datapaths, in_ports}
-use Rattle.world_core.specs.Crossing.{numbered_from}
-use Rattle.world_core.specs.Editing.{owner_of, owners_of, datapath_effect, port_effect, added_ports, key_effects, with_name}
+use Rattle.net_model.specs.Journey.{numbered_from}
+use Rattle.world_core.specs.Editing.{owner_of, owners_of, datapath_effect, port_effect, added_ports, key_effects}
 use Rattle.nb_records.specs.Editing.{accepted, born}
-use Rattle.world_core.specs.Effects.{effects_of, crossings_in}
-use Rattle.world_core.specs.Homes.{is_at as is_bound_to, is_group_member, members, members_at, other_homes}
-use Rattle.world_core.specs.Numbers.{datapath_number, port_number}
+use Rattle.sim_laws.specs.Effects.{effects_of}
+use Rattle.net_model.specs.Trail.{crossings_in, picks_backend, picks_port}
+use Rattle.physical_flows.specs.Homes.{is_at as is_bound_to, is_group_member, members, members_at, other_homes}
+use Rattle.physical_flows.specs.Numbers.{datapath_number, port_number}
 use Rattle.world_core.specs.Refusing.{refusal, refusal_of_entry, refusal_of_record, too_many_wait}
-use Rattle.world_core.specs.State.{State, empty, event_count, finished, is_chassis, settled_where_none_waits}
-use Rattle.world_core.specs.Step.{NetworkStep, Does, Enters, Arrives, Drains, sent_on, with_kept, most_arrivals}
+use Rattle.net_model.specs.State.{State, empty, event_count, finished, settled_where_none_waits}
+use Rattle.net_model.specs.Config.{is_chassis}
+use Rattle.world_core.specs.Step.{NetworkStep, Does}
+use Rattle.sim_laws.specs.PacketSteps.{Enters, Arrives, Drains, most_arrivals}
+use Rattle.sim_laws.specs.PlainJourneys.{sent_on, with_kept}
 use Rattle.world_core.specs.Unbuilt.{is_unbuilt_port}
-use Rattle.world_core.specs.Visit.{End, leaves, is_dropped, crosses, is_lost, Target, HasTarget, SentFrom, crossing_to, sent_home, sent_to, Goes, Visit, arrival, is_gone, is_same_port, reached}
-use Rattle.world_core.specs.declared.crossing.Aim.{Aim}
-use Rattle.world_core.specs.declared.crossing.Aim.TheVariants.{ToPort, ToGroup}
-use Rattle.world_core.specs.declared.crossing.Crossing.{Crossing}
-use Rattle.world_core.specs.declared.crossing.Group.{Group}
-use Rattle.world_core.specs.declared.crossing.Group.TheVariants.{Flood, Unknown}
+use Rattle.net_model.specs.Trail.{End, leaves, is_dropped, crosses, is_lost}
+use Rattle.sim_laws.specs.Visit.{Target, HasTarget, SentFrom, crossing_to, sent_home, sent_to, Goes, Visit, arrival, is_gone, is_same_port, reached}
+use Rattle.net_model.specs.declared.crossing.Aim.{Aim}
+use Rattle.net_model.specs.declared.crossing.Aim.TheVariants.{ToPort, ToGroup}
+use Rattle.net_model.specs.declared.crossing.Crossing.{Crossing}
+use Rattle.net_model.specs.declared.crossing.Group.{Group}
+use Rattle.net_model.specs.declared.crossing.Group.TheVariants.{Flood, Unknown}
 
 -- ---- what is named
 
@@ -102,7 +113,9 @@ IsNamedCrossing w = IsName w.1.home × IsNamedAim w.1.aim
 abbrev IsNamedEnd : End → Type 0
 IsNamedEnd (leaves q packet) = IsName q
 IsNamedEnd (is_dropped a q cause) = IsName a × IsName q
-IsNamedEnd (crosses x) = IsNamedCrossing (0, x)
+IsNamedEnd (crosses chassis x) = IsName chassis × IsNamedCrossing (0, x)
+IsNamedEnd (picks_backend datapath vip backend) = Unit {0}
+IsNamedEnd (picks_port router port) = Unit {0}
 IsNamedEnd (is_lost n) = Unit {0}
 
 abbrev AreNamedEnds : List End → Type 0
@@ -115,9 +128,9 @@ pub record AreRanged (keys : Keys) : Type 0 where
 
 -- what stays so of a state: names are names, and the ranges of keys numbers of 64 bits
 pub record IsNamedState (m : State) : Type 0 where
-  pub ports : AllByRecursion IsNamedPort m.net.switch_ports
-  pub chassis : AllByRecursion IsName m.chassis
-  pub bindings : AllByRecursion HasNamedHome m.bindings
+  pub ports : AllByRecursion IsNamedPort m.config.net.switch_ports
+  pub chassis : AllByRecursion IsName m.config.chassis
+  pub bindings : AllByRecursion HasNamedHome m.config.bindings
   pub waiting : AllByRecursion IsNamedCrossing m.waiting
   pub keys : AreRanged m.keys
 
@@ -133,6 +146,15 @@ module _ {X Y : Type 0} (P : Y → Type 0) (f : X → Y) where
   all_images [] h = tt
   all_images (x ∷ xs) h = (h x here, all_images xs (λ y m. h y (there m)))
 
+module _ {X : Type 0} (P : X → Type 0) (test : X → Bool) where
+  all_filtered : (xs : List X) → AllByRecursion P xs → AllByRecursion P (filter test xs)
+  all_filtered [] h = tt
+  all_filtered (x ∷ xs) h = by (test x) (all_filtered xs h.1)
+    where
+      by : (b : Bool) → AllByRecursion P (filter test xs) → AllByRecursion P (cond b (x ∷ filter test xs) (filter test xs))
+      by true rest = (h.0, rest)
+      by false rest = rest
+
 module _ {X : Type 0} (P : Name × X → Type 0) where
   all_put : (es : List (Name × X)) (k : Name) (v : X) → AllByRecursion P es → P (k, v) → AllByRecursion P (put es k v)
   all_put [] k v h p = (p, tt)
@@ -144,11 +166,11 @@ module _ {X : Type 0} (P : Name × X → Type 0) where
       by Greater is rest = (h.0, rest)
 
 module _ (P : Name → Type 0) where
-  all_with : (names : List Name) (name : Name) → AllByRecursion P names → P name → AllByRecursion P (with_name names name)
+  all_with : (names : List Name) (name : Name) → AllByRecursion P names → P name → AllByRecursion P (insert_key (slice_cmp nat_cmp) names name)
   all_with [] name h p = (p, tt)
   all_with (first ∷ names) name h p = by (slice_cmp nat_cmp name first) (all_with names name h.1 p)
     where
-      by : (o : Ordering) → AllByRecursion P (with_name names name) → AllByRecursion P (match_ordering o (name ∷ first ∷ names) (first ∷ names) (first ∷ with_name names name))
+      by : (o : Ordering) → AllByRecursion P (insert_key (slice_cmp nat_cmp) names name) → AllByRecursion P (match_ordering o (name ∷ first ∷ names) (first ∷ names) (first ∷ insert_key (slice_cmp nat_cmp) names name))
       by Less rest = (p, h)
       by Equal rest = h
       by Greater rest = (h.0, rest)
@@ -212,45 +234,45 @@ accepted_named net (_ ∷ ops) n named fine = absurd fine.0
 
 -- ---- packets
 
-port_named : (m : State) (q : Name) (port : SwitchPort) → IsNamedState m → at m.net.switch_ports q ≡ Some port → IsNamedPort (q, port)
-port_named m q port named there' = among_all IsNamedPort (q, port) m.net.switch_ports named.ports (at_among m.net.switch_ports q port there')
+port_named : (m : State) (q : Name) (port : SwitchPort) → IsNamedState m → at m.config.net.switch_ports q ≡ Some port → IsNamedPort (q, port)
+port_named m q port named there' = among_all IsNamedPort (q, port) m.config.net.switch_ports named.ports (at_among m.config.net.switch_ports q port there')
 
-home_named : (m : State) (q chassis : Name) → IsNamedState m → at m.bindings q ≡ Some chassis → IsName chassis
-home_named m q chassis named bound = among_all HasNamedHome (q, chassis) m.bindings named.bindings (at_among m.bindings q chassis bound)
+home_named : (m : State) (q chassis : Name) → IsNamedState m → at m.config.bindings q ≡ Some chassis → IsName chassis
+home_named m q chassis named bound = among_all HasNamedHome (q, chassis) m.config.bindings named.bindings (at_among m.config.bindings q chassis bound)
 
-member_named : (m : State) (switch : Name) (group : Group) (chassis q : Name) → IsNamedState m → Among q (members_at m.net m.bindings switch group chassis) → IsName q
+member_named : (m : State) (switch : Name) (group : Group) (chassis q : Name) → IsNamedState m → Among q (members_at m.config.net m.config.bindings switch group chassis) → IsName q
 member_named m switch group chassis q named among =
     let test : Name × SwitchPort → Bool = λ e. same_name e.1.switch switch && is_group_member group e.1 in
-    let one = filter_among (λ n. is_bound_to m.bindings n chassis) q (members m.net switch group) among in
-    let entry = map_among (λ (e : Name × SwitchPort). e.0) q (filter test m.net.switch_ports) one.0 in
-    let kept = filter_among test entry.0 m.net.switch_ports entry.1 in
-    subst IsName (sym entry.2) (among_all IsNamedPort entry.0 m.net.switch_ports named.ports kept.0).0
+    let one = filter_among (λ n. is_bound_to m.config.bindings n chassis) q (members m.config.net switch group) among in
+    let entry = map_among (λ (e : Name × SwitchPort). e.0) q (filter test m.config.net.switch_ports) one.0 in
+    let kept = filter_among test entry.0 m.config.net.switch_ports entry.1 in
+    subst IsName (sym entry.2) (among_all IsNamedPort entry.0 m.config.net.switch_ports named.ports kept.0).0
 
-module _ (m : State) (named : IsNamedState m) (from : SentFrom) (switch : IsName from.switch.name) (port : IsName from.port.name) (packet : inet.Packet) where
-  one_named : (q : Name) (entry : SwitchPort) (home : Option Name) → at m.bindings q ≡ home → IsName q → AreNamedEnds (sent_home from packet q entry home)
+module _ (m : State) (named : IsNamedState m) (from : SentFrom) (chassis : IsName from.chassis) (switch : IsName from.switch.name) (port : IsName from.port.name) (packet : inet.Packet) where
+  one_named : (q : Name) (entry : SwitchPort) (home : Option Name) → at m.config.bindings q ≡ home → IsName q → AreNamedEnds (sent_home from packet q entry home)
   one_named q entry None e is = ((switch, is), tt)
   one_named q entry (Some home) e is = by (same_name home from.chassis) (same_name q from.port.name)
     where
-      by : (at_home back : Bool) → AreNamedEnds (cond at_home (cond back (is_dropped from.switch.name q Loopback ∷ []) (leaves q packet ∷ [])) (crosses (crossing_to from packet (ToPort (record { name = q; birth = entry.birth })) home) ∷ []))
+      by : (at_home back : Bool) → AreNamedEnds (cond at_home (cond back (is_dropped from.switch.name q Loopback ∷ []) (leaves q packet ∷ [])) (crosses from.chassis (crossing_to from packet (ToPort (record { name = q; birth = entry.birth })) home) ∷ []))
       by true true = ((switch, is), tt)
       by true false = (is, tt)
-      by false back = ((home_named m q home named e, is), tt)
+      by false back = ((chassis, (home_named m q home named e, is)), tt)
 
   group_named : (g : Group) → AreNamedEnds (sent_to m from packet (Target.group g))
   group_named g =
-      let homes : List Name = other_homes m.net m.bindings m.chassis from.switch.name g from.chassis in
+      let homes : List Name = other_homes m.config.net m.config.bindings m.config.chassis from.switch.name g from.chassis in
       let others : Name → Bool = λ q. not (same_name q from.port.name) in
-      let here' : List Name = members_at m.net m.bindings from.switch.name g from.chassis in
-      let crossing : (home : Name) → Among home homes → IsNamedEnd (crosses (crossing_to from packet (ToGroup g) home)) =
-      λ home among. (among_all IsName home m.chassis named.chassis (filter_among _ home m.chassis among).0, tt) in
+      let here' : List Name = members_at m.config.net m.config.bindings from.switch.name g from.chassis in
+      let crossing : (home : Name) → Among home homes → IsNamedEnd (crosses from.chassis (crossing_to from packet (ToGroup g) home)) =
+      λ home among. (chassis, (among_all IsName home m.config.chassis named.chassis (filter_among _ home m.config.chassis among).0, tt)) in
       let leaving : (q : Name) → Among q (filter others here') → IsNamedEnd (leaves q packet) =
       λ q among. member_named m from.switch.name g from.chassis q named (filter_among others q here' among).0 in
-      all_joined IsNamedEnd (map (λ home. crosses (crossing_to from packet (ToGroup g) home)) homes) (map (λ q. leaves q packet) (filter others here'))
-      (all_images IsNamedEnd (λ home. crosses (crossing_to from packet (ToGroup g) home)) homes crossing) (all_images IsNamedEnd (λ q. leaves q packet) (filter others here') leaving)
+      all_joined IsNamedEnd (map (λ home. crosses from.chassis (crossing_to from packet (ToGroup g) home)) homes) (map (λ q. leaves q packet) (filter others here'))
+      (all_images IsNamedEnd (λ home. crosses from.chassis (crossing_to from packet (ToGroup g) home)) homes crossing) (all_images IsNamedEnd (λ q. leaves q packet) (filter others here') leaving)
 
-  target_named : (mac : Mac) (target : Target) → HasTarget m.net from.switch.name mac target → AreNamedEnds (sent_to m from packet target)
+  target_named : (mac : Mac) (target : Target) → HasTarget m.config.net from.switch.name mac target → AreNamedEnds (sent_to m from packet target)
   target_named mac _ (HasTarget.many multi) = group_named Flood
-  target_named mac _ (HasTarget.known q entry single t) = one_named q entry (at m.bindings q) refl (port_named m q entry named t.there).0
+  target_named mac _ (HasTarget.known q entry single t) = one_named q entry (at m.config.bindings q) refl (port_named m q entry named t.there).0
   target_named mac _ (HasTarget.unknown_to single none some) = group_named Unknown
   target_named mac _ (HasTarget.nobody single none nobody) = ((switch, port), tt)
 
@@ -262,34 +284,38 @@ module _ (m : State) (named : IsNamedState m) (from : SentFrom) (switch : IsName
 visit_named : (m : State) (p : Name) (packet : inet.Packet) (chassis : Name) (ends : List End) → IsNamedState m → Visit m p packet chassis ends → AreNamedEnds ends
 visit_named m p packet chassis ends named v =
     let own = port_named m p v.port named v.there in
-    goes_named m named (record { chassis = chassis; switch = record { name = v.port.switch; birth = v.switch.birth }; port = record { name = p; birth = v.port.birth } }) own.1 own.0 packet ends v.goes
+    goes_named m named (record { chassis = chassis; switch = record { name = v.port.switch; birth = v.switch.birth }; port = record { name = p; birth = v.port.birth } }) (home_named m p chassis named v.home) own.1 own.0 packet ends v.goes
 
 reached_named : (m : State) (x : Crossing) (packet : inet.Packet) (aim : Aim) → IsNamedState m → IsNamedAim aim → AreNamedEnds (reached m x packet aim)
 reached_named m x packet (ToPort id) named is = (is, tt)
 reached_named m x packet (ToGroup g) named is =
-    let others : Name → Bool = λ q. not (is_same_port m.net q x.in_port) in
-    let here' : List Name = members_at m.net m.bindings x.datapath.name g x.home in
+    let others : Name → Bool = λ q. not (is_same_port m.config.net q x.in_port) in
+    let here' : List Name = members_at m.config.net m.config.bindings x.datapath.name g x.home in
     all_images IsNamedEnd (λ q. leaves q packet) (filter others here') (λ q among. member_named m x.datapath.name g x.home q named (filter_among others q here' among).0)
 
-arrival_named : (m : State) (n : ℕ) (x : Crossing) (packet : inet.Packet) → IsNamedState m → IsNamedAim x.aim → AreNamedEnds (arrival m n x packet)
-arrival_named m n x packet named is = by (is_gone m x) (reached_named m x packet x.aim named is)
+arrival_named : (m : State) (n : ℕ) (x : Crossing) → IsNamedState m → IsNamedAim x.aim → AreNamedEnds (arrival m n x)
+arrival_named m n x named is = by (is_gone m x) (reached_named m x x.packet x.aim named is)
   where
-    by : (gone : Bool) → AreNamedEnds (reached m x packet x.aim) → AreNamedEnds (cond gone (is_lost n ∷ []) (reached m x packet x.aim))
+    by : (gone : Bool) → AreNamedEnds (reached m x x.packet x.aim) → AreNamedEnds (cond gone (is_lost n ∷ []) (reached m x x.packet x.aim))
     by true ends = (tt, tt)
     by false ends = ends
 
-effects_named : (keys : Keys) (chassis : Name) (n : ℕ) (ends : List End) → IsName chassis → AreNamedEnds ends → AreNamed (effects_of keys chassis n ends)
-effects_named keys chassis n [] is named = tt
-effects_named keys chassis n (leaves q packet ∷ ends) is named = (named.0, effects_named keys chassis n ends is named.1)
-effects_named keys chassis n (is_dropped a q cause ∷ ends) is named = (named.0, effects_named keys chassis n ends is named.1)
-effects_named keys chassis n (crosses x ∷ ends) is named = ((is, named.0.0), effects_named keys chassis (n + 1) ends is named.1)
-effects_named keys chassis n (is_lost k ∷ ends) is named = (tt, effects_named keys chassis n ends is named.1)
+effects_named : (keys : Keys) (n : ℕ) (ends : List End) → AreNamedEnds ends → AreNamed (effects_of keys n ends)
+effects_named keys n [] named = tt
+effects_named keys n (leaves q packet ∷ ends) named = (named.0, effects_named keys n ends named.1)
+effects_named keys n (is_dropped a q cause ∷ ends) named = (named.0, effects_named keys n ends named.1)
+effects_named keys n (crosses chassis x ∷ ends) named = ((named.0.0, named.0.1.0), effects_named keys (n + 1) ends named.1)
+effects_named keys n (picks_backend datapath vip backend ∷ ends) named = effects_named keys n ends named.1
+effects_named keys n (picks_port router port ∷ ends) named = effects_named keys n ends named.1
+effects_named keys n (is_lost k ∷ ends) named = (tt, effects_named keys n ends named.1)
 
 crossings_named : (n : ℕ) (ends : List End) → AreNamedEnds ends → AllByRecursion IsNamedCrossing (numbered_from n (crossings_in ends))
 crossings_named n [] named = tt
 crossings_named n (leaves q packet ∷ ends) named = crossings_named n ends named.1
 crossings_named n (is_dropped a q cause ∷ ends) named = crossings_named n ends named.1
-crossings_named n (crosses x ∷ ends) named = (named.0, crossings_named (n + 1) ends named.1)
+crossings_named n (crosses chassis x ∷ ends) named = (named.0.1, crossings_named (n + 1) ends named.1)
+crossings_named n (picks_backend datapath vip backend ∷ ends) named = crossings_named n ends named.1
+crossings_named n (picks_port router port ∷ ends) named = crossings_named n ends named.1
 crossings_named n (is_lost k ∷ ends) named = crossings_named n ends named.1
 
 -- ---- steps
@@ -328,17 +354,17 @@ enters_named : (m : State) (p : Name) (frame : List ℕ) (effects : List NetEffe
 enters_named m p frame effects after named h =
     let ends = visit_named m p h.packet h.chassis h.ends named h.visit in
     record {
-      effects_are = subst AreNamed (sym h.effects_are) (effects_named m.keys h.chassis m.next h.ends (home_named m p h.chassis named h.visit.home) ends);
+      effects_are = subst AreNamed (sym h.effects_are) (effects_named m.keys m.next h.ends ends);
       state = subst IsNamedState (sym h.state) (sent_named m h.ends named ends);
     }
 
 arrives_named : (m : State) (n : ℕ) (keep : Bool) (effects : List NetEffect) (after : State) → IsNamedState m → Arrives m n keep effects after → AreStepNamed effects after
 arrives_named m n keep effects after named h =
     let is = (all_found IsNamedCrossing (is_at (nat_cmp n)) m.waiting h.crossing named.waiting h.waits).1 in
-    let ends = arrival_named m n h.crossing h.packet named is.1 in
+    let ends = arrival_named m n h.crossing named is.1 in
     record {
-      effects_are = subst AreNamed (sym h.effects_are) (effects_named m.keys h.crossing.home m.next (arrival m n h.crossing h.packet) is.0 ends);
-      state = subst IsNamedState (sym h.state) (sent_named (with_kept keep m n) (arrival m n h.crossing h.packet) (kept_named keep m n named) ends);
+      effects_are = subst AreNamed (sym h.effects_are) (effects_named m.keys m.next (arrival m n h.crossing) ends);
+      state = subst IsNamedState (sym h.state) (sent_named (with_kept keep m n) (arrival m n h.crossing) (kept_named keep m n named) ends);
     }
 
 drains_named : (most : ℕ) (m : State) (effects : List NetEffect) (after : State) → IsNamedState m → Drains most m effects after → AreStepNamed effects after
@@ -348,45 +374,58 @@ drains_named (suc most) m effects after named (inr h) =
     let first = arrives_named m h.n false h.own h.mid named h.arrives in
     both_named effects h.own h.more h.mid after h.all first (drains_named most h.mid h.more after first.state h.others)
 
-does_named : (m : State) (event : Event) (effects : List NetEffect) (after : State) → IsNamedState m → IsNamedEvent event → Does m event effects after → AreStepNamed effects after
-does_named m (Edit ops) effects after named fine h =
+found : {X : Type 0} (o : Option X) (x y : Option Refusal) (cause : Refusal) → y ≡ Some cause → cond (is_some o) x y ≡ None → (w : X) × (o ≡ Some w)
+found None x y cause is h = absurd (none-some cause (sym h ∙ is))
+found (Some w) x y cause is h = (w, refl)
+
+does_named : (m : State) (zones : List (Name × ℕ)) → IsConsistent m zones → (event : Event) → IsAdmitted event → refusal m event ≡ None → (effects : List NetEffect) (after : State) → IsNamedState m → IsNamedEvent event → Does m event effects after
+    → AreStepNamed effects after
+does_named m zones old (Edit ops) admitted allowed effects after named fine h =
     let owners = owners_of ops (event_count m + 1) in
     let between : AreRanged (retire m.keys []) = record { datapaths = named.keys.datapaths; ports = named.keys.ports } in
     let have = owners_named ops (event_count m + 1) fine in
     record {
       effects_are = subst AreNamed (sym h.effects_are) (keys_named (retire m.keys []) h.keys owners between have h.given);
       state = subst IsNamedState (sym h.state) (record {
-        ports = accepted_named m.net ops (event_count m + 1) named.ports fine;
+        ports = accepted_named m.config.net ops (event_count m + 1) named.ports fine;
         chassis = named.chassis;
-        bindings = named.bindings;
+        bindings = all_filtered HasNamedHome _ m.config.bindings named.bindings;
         waiting = named.waiting;
         keys = still_ranged (retire m.keys []) h.keys owners between have h.given;
       });
     }
-does_named m (Bind p chassis) effects after named fine h = nothing_else effects after _ h.0 h.1 (record {
+does_named m zones old (Bind p chassis) admitted allowed effects after named fine h = nothing_else effects after _ h.0 h.1 (record {
   ports = named.ports;
   chassis = named.chassis;
-  bindings = all_put HasNamedHome m.bindings p chassis named.bindings fine.1;
+  bindings = all_put HasNamedHome m.config.bindings p chassis named.bindings fine.1;
   waiting = named.waiting;
   keys = named.keys;
 })
-does_named m (AddChassis chassis) effects after named fine h = nothing_else effects after _ h.0 h.1 (record {
+does_named m zones old (AddChassis chassis) admitted allowed effects after named fine h = nothing_else effects after _ h.0 h.1 (record {
   ports = named.ports;
-  chassis = all_with IsName m.chassis chassis named.chassis fine;
+  chassis = all_with IsName m.config.chassis chassis named.chassis fine;
   bindings = named.bindings;
   waiting = named.waiting;
   keys = named.keys;
 })
-does_named m (Inject p frame) effects after named fine h = enters_named m p frame effects after named h
-does_named m (Deliver n) effects after named fine h = arrives_named m n false effects after named h
-does_named m (Lose n) effects after named fine h = nothing_else effects after (with_kept false m n) h.0 h.1 (kept_named false m n named)
-does_named m (Repeat n) effects after named fine h = arrives_named m n true effects after named h
-does_named m Drain effects after named fine h = drains_named most_arrivals m effects after named h
-does_named m (Packet p frame) effects after named fine h =
-    let first = enters_named m p frame h.own h.mid named h.enters in
-    both_named effects h.own h.more h.mid after h.all first (drains_named most_arrivals h.mid h.more after first.state h.drains)
-does_named m (Unread fault) effects after named fine h = absurd h
-does_named m NotBuilt effects after named fine h = absurd h
+does_named m zones old (Inject p frame) admitted allowed effects after named fine h =
+    enters_named m p frame effects after named (enters_back m old.valid p frame effects after admitted (can_enter m zones old.bound p allowed) h)
+does_named m zones old (Deliver n) admitted allowed effects after named fine h =
+    let x = found (numbered m.waiting n) None (Some (why.NoFrame n)) (why.NoFrame n) refl allowed in
+    arrives_named m n false effects after named (arrives_back m old.valid n false x.0 effects after x.1 h)
+does_named m zones old (Lose n) admitted allowed effects after named fine h =
+    let lost = loses_back m old.valid n effects after h in
+    nothing_else effects after (with_kept false m n) lost.0 lost.1 (kept_named false m n named)
+does_named m zones old (Repeat n) admitted allowed effects after named fine h =
+    let x = found (numbered m.waiting n) (cond (too_many_wait m) (Some why.TooManyFrames) None) (Some (why.NoFrame n)) (why.NoFrame n) refl allowed in
+    arrives_named m n true effects after named (arrives_back m old.valid n true x.0 effects after x.1 h)
+does_named m zones old Drain admitted allowed effects after named fine h = drains_named most_arrivals m effects after named (drains_back m old.valid effects after h)
+does_named m zones old (Packet p frame) admitted allowed effects after named fine h =
+    let s = sends_back m old.valid p frame effects after admitted (can_enter m zones old.bound p allowed) h in
+    let first = enters_named m p frame s.own s.mid named s.enters in
+    both_named effects s.own s.more s.mid after s.all first (drains_named most_arrivals s.mid s.more after first.state s.drains)
+does_named m zones old (Unread fault) admitted allowed effects after named fine h = absurd h
+does_named m zones old NotBuilt admitted allowed effects after named fine h = absurd h
 
 settled_ranged : (waiting : List (ℕ × Crossing)) (keys : Keys) → AreRanged keys → AreRanged (settled_where_none_waits waiting keys)
 settled_ranged [] keys ranged = record { datapaths = ranged.datapaths; ports = ranged.ports }
@@ -396,9 +435,10 @@ finished_named : (m : State) → IsNamedState m → IsNamedState (finished m)
 finished_named m named = record { ports = named.ports; chassis = named.chassis; bindings = named.bindings; waiting = named.waiting; keys = settled_ranged m.waiting m.keys named.keys }
 
 -- the effects of a step are in names, and the state after it too
-pub step_named : (m : State) (event : Event) (effects : List NetEffect) (after : State) → IsNamedState m → IsNamedEvent event → NetworkStep m event effects after → AreNamed effects × IsNamedState after
-step_named m event effects after named fine h =
-    let does = does_named m event effects h.mid named fine h.does in
+pub step_named : (m : State) (zones : List (Name × ℕ)) → IsConsistent m zones → (event : Event) → IsAdmitted event → refusal m event ≡ None → (effects : List NetEffect) (after : State) → IsNamedState m → IsNamedEvent event
+    → NetworkStep m event effects after → AreNamed effects × IsNamedState after
+step_named m zones old event admitted allowed effects after named fine h =
+    let does = does_named m zones old event admitted allowed effects h.mid named fine h.does in
     (does.effects_are, subst IsNamedState (sym h.state) (finished_named h.mid does.state))
 
 -- ---- refusals
@@ -420,22 +460,22 @@ record_cause_named net _ named = tt
 
 entry_cause_named : (m : State) (port : Name) → IsName port → IsNamedCause (refusal_of_entry m port)
 entry_cause_named m port named =
-    test_named (is_some (at m.net.switch_ports port)) (cond (is_some (at m.bindings port)) (cond (too_many_wait m) (Some why.TooManyFrames) None) (Some why.NotBuilt)) (Some (why.NoSuch port))
-    (test_named (is_some (at m.bindings port)) (cond (too_many_wait m) (Some why.TooManyFrames) None) (Some why.NotBuilt) (test_named (too_many_wait m) (Some why.TooManyFrames) None tt tt) tt) named
+    test_named (is_some (at m.config.net.switch_ports port)) (cond (is_some (at m.config.bindings port)) (cond (too_many_wait m) (Some why.TooManyFrames) None) (Some why.NotBuilt)) (Some (why.NoSuch port))
+    (test_named (is_some (at m.config.bindings port)) (cond (too_many_wait m) (Some why.TooManyFrames) None) (Some why.NotBuilt) (test_named (too_many_wait m) (Some why.TooManyFrames) None tt tt) tt) named
 
 cause_named : (m : State) (event : Event) → IsNamedEvent event → IsNamedCause (refusal m event)
 cause_named m (Edit []) named = tt
-cause_named m (Edit (Add row ∷ [])) named = record_cause_named m.net row named.0
+cause_named m (Edit (Add row ∷ [])) named = record_cause_named m.config.net row named.0
 cause_named m (Edit (Set k name change ∷ [])) named = tt
 cause_named m (Edit (Remove k name ∷ [])) named = tt
 cause_named m (Edit (Health balancer backend online ∷ [])) named = tt
 cause_named m (Edit (op ∷ next ∷ ops)) named = tt
 cause_named m (Bind port chassis) named =
-    test_named (is_some (at m.net.switch_ports port)) (cond (is_chassis m chassis) None (Some (why.NoSuch chassis))) (Some (why.NoSuch port))
-    (test_named (is_chassis m chassis) None (Some (why.NoSuch chassis)) tt named.1) named.0
+    test_named (is_some (at m.config.net.switch_ports port)) (cond (is_chassis m.config chassis) None (Some (why.NoSuch chassis))) (Some (why.NoSuch port))
+    (test_named (is_chassis m.config chassis) None (Some (why.NoSuch chassis)) tt named.1) named.0
 cause_named m (AddChassis chassis) named =
-    test_named (is_chassis m chassis) (Some (why.DuplicateName chassis)) (cond (nat_le 64 (length m.chassis)) (Some why.LimitChassis) None) named
-    (test_named (nat_le 64 (length m.chassis)) (Some why.LimitChassis) None tt tt)
+    test_named (is_chassis m.config chassis) (Some (why.DuplicateName chassis)) (cond (nat_le 64 (length m.config.chassis)) (Some why.LimitChassis) None) named
+    (test_named (nat_le 64 (length m.config.chassis)) (Some why.LimitChassis) None tt tt)
 cause_named m (Inject port frame) named = entry_cause_named m port named
 cause_named m (Deliver n) named = test_named _ None (Some (why.NoFrame n)) tt tt
 cause_named m (Lose n) named = test_named _ None (Some (why.NoFrame n)) tt tt

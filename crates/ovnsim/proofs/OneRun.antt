@@ -10,12 +10,12 @@ use Rattle.world_core.specs.Picks.{Fate, Run, was_accepted, was_refused}
 use Rattle.world_core.specs.Picks as network
 use Rattle.world_core.specs.Refusing.{refusal}
 use Rattle.world_core.specs.WorldView.{WorldView, IsSound}
-use Rattle.world_core.specs.State.{State, event_count}
+use Rattle.net_model.specs.State.{State, event_count}
 use Rattle.world_core.specs.Step as net
 use Rattle.world_core.specs.Zones.{zones_after}
 use Rattle.world_core.proofs.OneStep.{step_with}
 use Rattle.world_core.proofs.OnePass.{same_walks}
-use Rattle.world_core.proofs.Starting.{new_sound}
+use Rattle.world_core.proofs.EmptyWorld.{new_sound}
 use Rattle.ovnsim.specs.Runs.{Runs, RunsLines, Takes, accepts, refuses, IsTextOf, AreTexts}
 use Rattle.ovnsim.proofs.OneReading.{same_events}
 use Rattle.ovnsim.proofs.Taken.{step_counts}
@@ -41,7 +41,7 @@ takes_same one two event own their left more first other mid after sound also li
     let number : event_count one.state + 1 ≡ event_count two.state + 1 = ap (λ (s : State). event_count s + 1) like.state in
     record {
       texts = h.text ∙ (λ i. accepted_lines (number i) (step.effects_are i) (matched (walks i))) ∙ sym k.text;
-      like = record { state = step.state; zones = h.zones ∙ (λ i. zones_after (like.state i).bindings (like.zones i) event) ∙ sym k.zones };
+      like = record { state = step.state; zones = h.zones ∙ (λ i. zones_after (like.state i).config.bindings (like.zones i) event) ∙ sym k.zones };
       rest = step.rest;
     }
 takes_same one two event own their left more first other mid after sound also like (accepts h p) (refuses why k q) e =

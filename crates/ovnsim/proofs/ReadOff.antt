@@ -1,4 +1,7 @@
 -- The picks of a run are those that are read off its text.
+use Rattle.ovnsim.proofs.Admits.{all_admitted}
+use Rattle.world_core.proofs.EmptyWorld.{new_sound}
+use Rattle.world_core.specs.Admitted.{IsAdmitted}
 use Rattle.std.proofs.Common.{◌≡◌, ◌+◌, ◌++◌, ℕ, List, [], ◌∷◌, inl, inr, sym, ap, ◌∙◌, subst, append_assoc, append-nil, codes}
 use Rattle.std.specs.List.{AllByRecursion}
 use Rattle.serde_json.specs.Data.{Data}
@@ -10,8 +13,8 @@ use Rattle.event_lines.specs.Picks.{Pick, picks_in, AreWholeLines}
 use Rattle.event_lines.proofs.Reading as read
 use Rattle.world_core.specs.Outcome.{matched}
 use Rattle.world_core.specs.StepParts.{new_world}
-use Rattle.world_core.specs.WorldView.{WorldView}
-use Rattle.world_core.specs.State.{event_count}
+use Rattle.world_core.specs.WorldView.{WorldView, IsSound}
+use Rattle.net_model.specs.State.{event_count}
 use Rattle.ovnsim.specs.Events.{AreEvents, AsksFor, is_too_long, is_no_json, is_read}
 use Rattle.ovnsim.specs.Runs.{Runs, Takes, accepts, refuses}
 use Rattle.ovnsim.proofs.Named.{IsNamedRecord, IsNamedEvent, IsNamedState, none_named, refusal_named, step_named}
@@ -60,11 +63,11 @@ pub record IsReadOff (own : List Pick) (text : List ℕ) (new : WorldView) : Typ
   pub picks : picks_in text ≡ own
   pub named : IsNamedState new.state
 
-takes_read : (old : WorldView) (event : Event) (own : List Pick) (text : List ℕ) (new : WorldView) → IsNamedState old.state → IsNamedEvent event → Takes old event own text new → IsReadOff own text new
-takes_read old event own text new named fine (accepts h e) =
-    let step = step_named old.state event h.effects new.state named fine h.step in
+takes_read : (old : WorldView) → IsSound old → (event : Event) → IsAdmitted event → (own : List Pick) (text : List ℕ) (new : WorldView) → IsNamedState old.state → IsNamedEvent event → Takes old event own text new → IsReadOff own text new
+takes_read old sound event admitted own text new named fine (accepts h e) =
+    let step = step_named old.state old.zones sound.consistent event admitted h.admitted h.effects new.state named fine h.step in
     record { picks = ap picks_in h.text ∙ read.accepted (event_count old.state + 1) (matched new.walks) h.effects step.0 ∙ sym e; named = step.1 }
-takes_read old event own text new named fine (refuses why h e) = record {
+takes_read old sound event admitted own text new named fine (refuses why h e) = record {
   picks = ap picks_in h.text ∙ read.refused (event_count old.state + 1) why (refusal_named old.state event why fine h.first) ∙ sym e;
   named = subst (λ (w : WorldView). IsNamedState w.state) (sym h.kept) (record { ports = named.ports; chassis = named.chassis; bindings = named.bindings; waiting = named.waiting; keys = named.keys });
 }
@@ -80,15 +83,15 @@ run_whole old [] picks text last h = inl h.1
 run_whole old (event ∷ events) picks text last h =
     subst AreWholeLines (sym h.whole) (whole_joined h.first h.rest (takes_whole old event h.own h.first h.mid h.takes) (run_whole h.mid events h.left h.rest last h.others))
 
-run_read : (old : WorldView) (events : List Event) (picks : List Pick) (text : List ℕ) (last : WorldView) → IsNamedState old.state → AllByRecursion IsNamedEvent events → Runs old events picks text last → picks_in text ≡ picks
-run_read old [] picks text last named fine h = ap picks_in h.1 ∙ sym h.0
-run_read old (event ∷ events) picks text last named fine h =
-    let one = takes_read old event h.own h.first h.mid named fine.0 h.takes in
+run_read : (old : WorldView) → IsSound old → (events : List Event) → AllByRecursion IsAdmitted events → (picks : List Pick) (text : List ℕ) (last : WorldView) → IsNamedState old.state → AllByRecursion IsNamedEvent events → Runs old events picks text last → picks_in text ≡ picks
+run_read old sound [] admitted picks text last named fine h = ap picks_in h.1 ∙ sym h.0
+run_read old sound (event ∷ events) admitted picks text last named fine h =
+    let one = takes_read old sound event admitted.0 h.own h.first h.mid named fine.0 h.takes in
     ap picks_in h.whole ∙ read.joined h.first h.rest (takes_whole old event h.own h.first h.mid h.takes)
     ∙ ap (λ ps. ps ++ picks_in h.rest) one.picks
-    ∙ ap (λ ps. h.own ++ ps) (run_read h.mid events h.left h.rest last one.named fine.1 h.others)
+    ∙ ap (λ ps. h.own ++ ps) (run_read h.mid h.sound events admitted.1 h.left h.rest last one.named fine.1 h.others)
     ∙ sym h.picked
 
 -- what was picked is what is read off the text
 pub read_off : (lines : List (List ℕ)) (events : List Event) (picks : List Pick) (text : List ℕ) (last : WorldView) → AreEvents lines events → Runs new_world events picks text last → picks_in text ≡ picks
-read_off lines events picks text last are run = run_read new_world events picks text last none_named (events_named lines events are) run
+read_off lines events picks text last are run = run_read new_world new_sound events (all_admitted lines events are) picks text last none_named (events_named lines events are) run

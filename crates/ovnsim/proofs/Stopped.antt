@@ -11,7 +11,7 @@ use Rattle.edit_reader.specs.declared.event.Event.{Event}
 use Rattle.event_lines.specs.Lines.{end_line}
 use Rattle.world_core.specs.StepParts.{new_world}
 use Rattle.world_core.specs.WorldView.{WorldView}
-use Rattle.world_core.specs.State.{event_count}
+use Rattle.net_model.specs.State.{event_count}
 use Rattle.ovnsim.specs.declared.next_event.Next.TheVariants.{Found, End}
 use Rattle.ovnsim.specs.Answers.{Answers, GainsEvents, GainsFront, GainsRead, GainsTexts, GainsToLimit, GainsWhole, end_of, end_within, lines_in, then_last}
 use Rattle.ovnsim.specs.Events.{AsksFor, GivesNext}

@@ -9,8 +9,8 @@ use Rattle.event_lines.specs.Lines.{accepted_lines}
 use Rattle.event_lines.specs.Picks.{picks_of}
 use Rattle.world_core.specs.Outcome.{IsAccepted, IsRefused, matched}
 use Rattle.world_core.specs.WorldView.{WorldView, IsSound}
-use Rattle.world_core.specs.State.{State, event_count}
-use Rattle.world_core.specs.Step.{NetworkStep, Does, Arrives, Drains, most_arrivals}
+use Rattle.net_model.specs.State.{State, event_count}
+use Rattle.world_core.specs.Step.{NetworkStep, Does}
 use Rattle.ovnsim.specs.Runs.{Takes, accepts, refuses}
 use Rattle.ovnsim.specs.Taking.{TakesWith, WasCut}
 use Rattle.ovnsim.specs.declared.run.Stop.{Stop}
@@ -23,31 +23,16 @@ record HasCounts (m : State) (accepted refused : ℕ) : Type 0 where
 counts_kept : (m after next : State) → after ≡ next → HasCounts next m.accepted m.refused → HasCounts after m.accepted m.refused
 counts_kept m after next e h = subst (λ (s : State). HasCounts s m.accepted m.refused) (sym e) h
 
-arrives_counts : (m : State) (n : ℕ) (keep : Bool) (effects : List NetEffect) (after : State) → Arrives m n keep effects after → HasCounts after m.accepted m.refused
-arrives_counts m n true effects after h = counts_kept m after _ h.state (record { accepted_are = refl; refused_are = refl })
-arrives_counts m n false effects after h = counts_kept m after _ h.state (record { accepted_are = refl; refused_are = refl })
-
-drains_counts : (most : ℕ) (m : State) (effects : List NetEffect) (after : State) → Drains most m effects after → HasCounts after m.accepted m.refused
-drains_counts zero m effects after h = counts_kept m after m h.1 (record { accepted_are = refl; refused_are = refl })
-drains_counts (suc most) m effects after (inl h) = counts_kept m after m h.2 (record { accepted_are = refl; refused_are = refl })
-drains_counts (suc most) m effects after (inr h) =
-    let first = arrives_counts m h.n false h.own h.mid h.arrives in
-    let rest = drains_counts most h.mid h.more after h.others in
-    record { accepted_are = rest.accepted_are ∙ first.accepted_are; refused_are = rest.refused_are ∙ first.refused_are }
-
 does_counts : (m : State) (event : Event) (effects : List NetEffect) (after : State) → Does m event effects after → HasCounts after m.accepted m.refused
 does_counts m (Edit ops) effects after h = counts_kept m after _ h.state (record { accepted_are = refl; refused_are = refl })
 does_counts m (Bind port chassis) effects after h = counts_kept m after _ h.1 (record { accepted_are = refl; refused_are = refl })
 does_counts m (AddChassis chassis) effects after h = counts_kept m after _ h.1 (record { accepted_are = refl; refused_are = refl })
-does_counts m (Inject port frame) effects after h = counts_kept m after _ h.state (record { accepted_are = refl; refused_are = refl })
-does_counts m (Deliver n) effects after h = arrives_counts m n false effects after h
-does_counts m (Lose n) effects after h = counts_kept m after _ h.1 (record { accepted_are = refl; refused_are = refl })
-does_counts m (Repeat n) effects after h = arrives_counts m n true effects after h
-does_counts m Drain effects after h = drains_counts most_arrivals m effects after h
-does_counts m (Packet port frame) effects after h =
-    let first : HasCounts h.mid m.accepted m.refused = counts_kept m h.mid _ h.enters.state (record { accepted_are = refl; refused_are = refl }) in
-    let rest = drains_counts most_arrivals h.mid h.more after h.drains in
-    record { accepted_are = rest.accepted_are ∙ first.accepted_are; refused_are = rest.refused_are ∙ first.refused_are }
+does_counts m (Inject port frame) effects after h = counts_kept m after _ h.moves.travels.state (record { accepted_are = refl; refused_are = refl })
+does_counts m (Deliver n) effects after h = counts_kept m after _ h.travels.state (record { accepted_are = refl; refused_are = refl })
+does_counts m (Lose n) effects after h = counts_kept m after _ h.travels.state (record { accepted_are = refl; refused_are = refl })
+does_counts m (Repeat n) effects after h = counts_kept m after _ h.travels.state (record { accepted_are = refl; refused_are = refl })
+does_counts m Drain effects after h = counts_kept m after _ h.travels.state (record { accepted_are = refl; refused_are = refl })
+does_counts m (Packet port frame) effects after h = counts_kept m after _ h.moves.travels.state (record { accepted_are = refl; refused_are = refl })
 does_counts m (Unread fault) effects after h = absurd h
 does_counts m NotBuilt effects after h = absurd h
 

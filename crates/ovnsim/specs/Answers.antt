@@ -6,7 +6,7 @@ use Rattle.ovn_base.specs.lines.Lines.{lines_within}
 use Rattle.event_lines.specs.Lines.{end_line}
 use Rattle.event_lines.specs.Picks.{picks_in}
 use Rattle.world_core.specs.WorldView.{WorldView}
-use Rattle.world_core.specs.State.{event_count}
+use Rattle.net_model.specs.State.{event_count}
 use Rattle.ovnsim.specs.Runs.{RunsLines}
 
 -- the lines of an input: of 2^40 bytes or more, those that end within the first 2^40

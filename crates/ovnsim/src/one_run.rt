@@ -7,7 +7,7 @@ ghost use Rattle.world_core.specs.Admitted.{IsAdmitted};
 ghost use Rattle.world_core.specs.StepParts.{new_world};
 ghost use Rattle.world_core.specs.Picks.{Fate, Run};
 ghost use Rattle.world_core.specs.WorldView.{WorldView};
-ghost use Rattle.world_core.specs.State.{empty};
+ghost use Rattle.net_model.specs.State.{empty};
 ghost use Rattle.ovnsim.specs.Events.{AreEvents, AsksFor};
 ghost use Rattle.ovnsim.specs.Runs.{AreTexts, Runs, RunsLines};
 

@@ -7,7 +7,7 @@ ghost use Rattle.event_lines.specs.Lines.{end_line};
 ghost use Rattle.world_core.specs.Admitted.{IsAdmitted};
 ghost use Rattle.world_core.specs.StepParts.{new_world};
 ghost use Rattle.world_core.specs.WorldView.{IsSound, WorldView};
-ghost use Rattle.world_core.specs.State.{event_count};
+ghost use Rattle.net_model.specs.State.{event_count};
 ghost use Rattle.ovnsim.specs.Answers.{GainsTexts, GainsWhole};
 ghost use Rattle.ovnsim.specs.Stops.{CutsShort, HasCauses, StandsAt};
 ghost use Rattle.ovnsim.specs.Taking.{GainsCut, GainsText, TakesWith, WasCut};

@@ -19,7 +19,7 @@ use Rattle.ovn_base.specs.declared.name.Name.{Name}
 use Rattle.ovn_base.specs.lists.Among.{Among, here, there}
 use Rattle.ovn_base.specs.names.ByName.{at}
 use Rattle.ovn_base.specs.names.SameName.{same_name}
-use Rattle.sim_laws.specs.Built.{is_router_entry, is_plain_port, IsPlain}
+use Rattle.physical_flows.specs.Built.{is_router_entry, is_plain_port, IsPlain}
 
 -- ---- one port
 

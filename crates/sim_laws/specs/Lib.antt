@@ -1,4 +1,14 @@
 -- Definitions that contracts cite.
-pub mod Built
-pub mod PlainWays
+pub mod Consistent
+pub mod Effects
+pub mod Held
+pub mod Naming
+pub mod PacketSteps
+pub mod Passing
 pub mod PlainJourneys
+pub mod PlainWays
+pub mod Refinement
+pub mod SentFrames
+pub mod Sound
+pub mod Visit
+pub mod WalkLaw

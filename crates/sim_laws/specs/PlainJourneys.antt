@@ -1,5 +1,5 @@
 -- Journeys in a network of switches and plain ports: packets leave ends behind, and crossings that wait.
-use Rattle.std.specs.Prelude.{◌≡◌, ◌⊎◌, ℕ, zero, suc, ◌+◌, ◌++◌, Bool, true, false, List, [], ◌∷◌, length, Some}
+use Rattle.std.specs.Prelude.{◌≡◌, ◌⊎◌, ℕ, zero, suc, ◌+◌, ◌++◌, Bool, true, false, List, [], ◌∷◌, length, Option, Some}
 use Rattle.std.specs.BTreeMap.{is_at}
 use Rattle.std.specs.Map.{remove_entry}
 use Rattle.std.specs.Ordering.{nat_cmp}
@@ -9,7 +9,7 @@ use Rattle.net_model.specs.State.{State}
 use Rattle.net_model.specs.Trail.{Trail, End, choices_in, crossings_in}
 use Rattle.net_model.specs.declared.crossing.Crossing.{Crossing}
 use Rattle.ovn_base.specs.declared.name.Name.{Name}
-use Rattle.sim_laws.specs.Built.{IsPlain}
+use Rattle.physical_flows.specs.Built.{IsPlain}
 use Rattle.sim_laws.specs.PlainWays.{arrival_ends}
 
 -- ---- trails and journeys

@@ -1,4 +1,6 @@
 -- The crossing of a frame is one.
+use Rattle.inet_packet.specs.Frame.{frame_of}
+use Rattle.inet_packet.proofs.OnePacket.{one_packet_at_most}
 use Rattle.std.specs.Prelude.{◌≡◌, ◌<◌, ℕ, IsTrue, List, option_map, refl}
 use Rattle.std.proofs.Common.{sym, ap, ◌∙◌, subst, arith}
 use Rattle.std.proofs.lemmas.Bool.Decides.{Decides-eqb}
@@ -14,18 +16,19 @@ use Rattle.nb_records.specs.declared.switch.SwitchPort.{SwitchPort}
 use Rattle.tunnel_keys.specs.Keys.{held_ports}
 use Rattle.tunnel_keys.specs.declared.owner.HeldPort.{HeldPort}
 use Rattle.tunnel_keys.specs.declared.owner.Identity.{Identity}
-use Rattle.world_core.specs.declared.crossing.Aim.{Aim}
-use Rattle.world_core.specs.declared.crossing.Aim.TheVariants.{ToPort, ToGroup}
-use Rattle.world_core.specs.declared.crossing.Group.TheVariants.{Flood, Unknown}
-use Rattle.world_core.specs.declared.crossing.Crossing.{Crossing}
-use Rattle.world_core.specs.Effects.{spelled, datapath_key, port_key, aim_key}
-use Rattle.world_core.specs.Packets.{IsSentFrom}
-use Rattle.world_core.specs.Sound.{HaveKeys, HasAimKey, IsAimOnLive, MayWait}
-use Rattle.world_core.specs.State.{State}
-use Rattle.world_core.specs.Visit.{has_birth, is_switch}
-use Rattle.world_core.proofs.KeysFound.{datapath_key_is, port_key_is}
+use Rattle.net_model.specs.declared.crossing.Aim.{Aim}
+use Rattle.net_model.specs.declared.crossing.Aim.TheVariants.{ToPort, ToGroup}
+use Rattle.net_model.specs.declared.crossing.Group.TheVariants.{Flood, Unknown}
+use Rattle.net_model.specs.declared.crossing.Crossing.{Crossing}
+use Rattle.sim_laws.specs.Effects.{spelled, datapath_key, port_key, aim_key}
+use Rattle.sim_laws.specs.SentFrames.{IsSentFrom}
+use Rattle.physical_flows.specs.RecordKeys.{HaveKeys}
+use Rattle.sim_laws.specs.Sound.{HasAimKey, IsAimOnLive, MayWait}
+use Rattle.net_model.specs.State.{State}
+use Rattle.sim_laws.specs.Visit.{has_birth, is_switch}
+use Rattle.sim_laws.proofs.KeyLookups.{datapath_key_is, port_key_is}
 
-module _ (m : State) (have : HaveKeys m.net m.keys) where
+module _ (m : State) (have : HaveKeys m.config.net m.keys) where
   -- the keys of a crossing fit into the header
   pub record AreSmall (x : Crossing) : Type 0 where
     pub datapath : datapath_key m.keys x.datapath < 16777216
@@ -56,7 +59,7 @@ module _ (m : State) (have : HaveKeys m.net m.keys) where
   }
 
   -- whom the number names, among the ports of a switch and its groups
-  same_aim : (datapath : Identity) → IsTrue (is_switch m.net datapath) → (a b : Aim) → HasAimKey m.keys a → HasAimKey m.keys b → IsAimOnLive m datapath a → IsAimOnLive m datapath b → aim_key m.keys a ≡ aim_key m.keys b → a ≡ b
+  same_aim : (datapath : Identity) → IsTrue (is_switch m.config.net datapath) → (a b : Aim) → HasAimKey m.keys a → HasAimKey m.keys b → IsAimOnLive m datapath a → IsAimOnLive m datapath b → aim_key m.keys a ≡ aim_key m.keys b → a ≡ b
   same_aim d there (ToPort id) (ToPort other) j k on also e =
       let one = port_key_is m.keys have.hold j.0 id j.1 j.2 in
       let two = port_key_is m.keys have.hold k.0 other k.1 k.2 in
@@ -77,23 +80,24 @@ module _ (m : State) (have : HaveKeys m.net m.keys) where
   pub one_crossing : (p to : Name) (bytes : List ℕ) (x y : Crossing) → IsSentFrom m p to bytes x → IsSentFrom m p to bytes y → x ≡ y
   one_crossing p to bytes x y f g =
       let port : f.port ≡ g.port = same_Some f.port g.port (sym f.there ∙ g.there) in
-      let switch : f.switch ≡ g.switch = same_Some f.switch g.switch (sym f.on ∙ ap (λ (q : SwitchPort). at m.net.switches q.switch) port ∙ g.on) in
+      let switch : f.switch ≡ g.switch = same_Some f.switch g.switch (sym f.on ∙ ap (λ (q : SwitchPort). at m.config.net.switches q.switch) port ∙ g.on) in
       let datapath : x.datapath ≡ y.datapath = f.datapath ∙ (λ i. record { name = (port i).switch; birth = (switch i).birth }) ∙ sym g.datapath in
       let in_port : x.in_port ≡ y.in_port = f.in_port ∙ (λ i. record { name = p; birth = (port i).birth }) ∙ sym g.in_port in
       let sx = are_small x f.may in
       let sy = are_small y g.may in
       let read =
-      one_spelled (spelled m.keys y) (datapath_key m.keys x.datapath) (port_key m.keys x.in_port) (aim_key m.keys x.aim) x.frame (datapath_key m.keys y.datapath) (port_key m.keys y.in_port) (aim_key m.keys y.aim) y.frame
+      one_spelled (spelled m.keys y) (datapath_key m.keys x.datapath) (port_key m.keys x.in_port) (aim_key m.keys x.aim) (frame_of x.packet) (datapath_key m.keys y.datapath) (port_key m.keys y.in_port) (aim_key m.keys y.aim) (frame_of y.packet)
       (
-      subst (λ bs. Spells bs (datapath_key m.keys x.datapath) (port_key m.keys x.in_port) (aim_key m.keys x.aim) x.frame) (sym f.spelled_so ∙ g.spelled_so)
-      (canon_spells (datapath_key m.keys x.datapath) (port_key m.keys x.in_port) (aim_key m.keys x.aim) x.frame sx.datapath sx.in_key sx.aim)
+      subst (λ bs. Spells bs (datapath_key m.keys x.datapath) (port_key m.keys x.in_port) (aim_key m.keys x.aim) (frame_of x.packet)) (sym f.spelled_so ∙ g.spelled_so)
+      (canon_spells (datapath_key m.keys x.datapath) (port_key m.keys x.in_port) (aim_key m.keys x.aim) (frame_of x.packet) sx.datapath sx.in_key sx.aim)
       )
-      (canon_spells (datapath_key m.keys y.datapath) (port_key m.keys y.in_port) (aim_key m.keys y.aim) y.frame sy.datapath sy.in_key sy.aim) in
+      (canon_spells (datapath_key m.keys y.datapath) (port_key m.keys y.in_port) (aim_key m.keys y.aim) (frame_of y.packet) sy.datapath sy.in_key sy.aim) in
       let aim : x.aim ≡ y.aim = same_aim x.datapath (there_now p to bytes x f) x.aim y.aim f.may.aim_key g.may.aim_key f.may.aim_live (subst (λ d. IsAimOnLive m d y.aim) (sym datapath) g.may.aim_live) read.2 in
       let home : x.home ≡ y.home = f.home ∙ sym g.home in
-      λ i. record { datapath = datapath i; in_port = in_port i; aim = aim i; home = home i; frame = read.3 i }
+      let packet : x.packet ≡ y.packet = one_packet_at_most x.packet y.packet f.may.whole g.may.whole read.3 in
+      λ i. record { datapath = datapath i; in_port = in_port i; aim = aim i; home = home i; packet = packet i }
     where
-      there_now : (p to : Name) (bytes : List ℕ) (x : Crossing) → IsSentFrom m p to bytes x → IsTrue (is_switch m.net x.datapath)
+      there_now : (p to : Name) (bytes : List ℕ) (x : Crossing) → IsSentFrom m p to bytes x → IsTrue (is_switch m.config.net x.datapath)
       there_now p to bytes x f =
-          subst (λ (id : Identity). IsTrue (is_switch m.net id)) (sym f.datapath)
+          subst (λ (id : Identity). IsTrue (is_switch m.config.net id)) (sym f.datapath)
           (ap (λ o. has_birth (option_map (λ (s : Switch). s.birth) o) f.switch.birth) f.on ∙ (Decides-eqb f.switch.birth.0 f.switch.birth.0).1 refl)

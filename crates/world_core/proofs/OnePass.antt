@@ -30,12 +30,22 @@ use Rattle.chassis_sim.specs.declared.out.SimOut.{SimOut}
 use Rattle.chassis_sim.specs.declared.underlay.WaitingFrame.{WaitingFrame}
 use Rattle.edit_reader.specs.declared.event.Event.{Event}
 use Rattle.edit_reader.specs.declared.event.Event.TheVariants as event_of
-use Rattle.world_core.specs.Passing.{GoesIn, AreDrained, Passes, clock, no_out}
-use Rattle.world_core.specs.Step.{most_arrivals}
-use Rattle.world_core.specs.WorldView.{WorldView, IsSound, AreHeld}
-use Rattle.world_core.proofs.Found.{some_of, is_some_of}
-use Rattle.world_core.proofs.OneVisit.{first_number, some_wait}
-use Rattle.world_core.proofs.OneWalk as walk
+use Rattle.sim_laws.specs.Passing.{GoesIn, AreDrained, clock, no_out}
+use Rattle.world_core.specs.EventPasses.{Passes}
+use Rattle.sim_laws.specs.PacketSteps.{most_arrivals}
+use Rattle.world_core.specs.WorldView.{WorldView, IsSound}
+use Rattle.sim_laws.specs.Held.{AreHeld}
+use Rattle.physical_flows.proofs.Found.{some_of, is_some_of}
+use Rattle.sim_laws.proofs.OneWalk as walk
+
+-- the first number of those that wait
+abbrev first_number : {X : Type 0} → List (ℕ × X) → ℕ
+first_number [] = 0
+first_number (w ∷ ws) = w.0
+
+-- where one waits, not none does
+some_wait : {X : Type 0} (w : ℕ × X) (ws waiting : List (ℕ × X)) → waiting ≡ w ∷ ws → waiting ≢ []
+some_wait w ws waiting some none = cc
 
 -- through the first flows and through the others a packet takes one walk
 abbrev HaveOneWalk : List Flow → List Flow → Type 0

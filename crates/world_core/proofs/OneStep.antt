@@ -1,4 +1,11 @@
 -- An event and its picks determine its effects and the state after it, and so events and picks determine a run.
+use Rattle.inet_packet.specs.declared.packet.Packet as inet
+use Rattle.inet_packet.proofs.OnePacket.{one_packet_at_most}
+use Rattle.net_model.specs.Journey.{Traffic, enter_one, arrive_one, lose_one, arrive_all, enter_and_arrive}
+use Rattle.net_model.specs.Trail.{End, leaves, is_dropped, crosses, picks_backend, picks_port, is_lost}
+use Rattle.sim_laws.proofs.PlainTravels.{one_way}
+use Rattle.sim_laws.proofs.PlainVisit.{plain}
+use Rattle.sim_laws.specs.Effects.{effects_of}
 use Rattle.std.specs.Prelude.{◌≡◌, ◌+◌, ◌++◌, ◌||◌, ℕ, Bool, true, false, List, [], ◌∷◌, Some, None, Option, is_some, cond, flat_map, map, nat_le, length, unwrap_or, refl}
 use Rattle.std.specs.List.{AllByRecursion}
 use Rattle.std.specs.Option.{option_map}
@@ -31,18 +38,17 @@ use Rattle.tunnel_keys.specs.declared.owner.PortKey.{PortKey}
 use Rattle.tunnel_keys.proofs.Determined.{same_found}
 use Rattle.tunnel_keys.proofs.OwnerLaws.{datapaths_have, ports_have}
 use Rattle.world_core.specs.Admitted.{IsAdmitted}
-use Rattle.world_core.specs.Editing.{owners_of, datapath_effect, port_effect, added_ports, key_effects}
+use Rattle.world_core.specs.Editing.{owners_of, datapath_effect, port_effect, added_ports, key_effects, edited}
 use Rattle.nb_records.specs.Editing.{accepted}
-use Rattle.world_core.specs.Numbers.{datapath_number, port_number}
+use Rattle.physical_flows.specs.Numbers.{datapath_number, port_number}
 use Rattle.world_core.specs.Picks.{Fate, was_refused, was_accepted, Happens, Run}
 use Rattle.world_core.specs.Refusing.{refusal, refusal_of_record}
-use Rattle.world_core.specs.Sound.{IsValid}
-use Rattle.world_core.specs.State.{State, event_count, finished}
-use Rattle.world_core.specs.Step.{NetworkStep, Does, most_arrivals}
+use Rattle.physical_flows.specs.Valid.{IsValid}
+use Rattle.net_model.specs.State.{State, event_count, finished}
+use Rattle.world_core.specs.Step.{NetworkStep, Does, Moves, Sends}
 use Rattle.world_core.specs.Unbuilt.{is_unbuilt_port}
-use Rattle.world_core.proofs.Kept.{switch_valid, port_valid}
+use Rattle.world_core.proofs.RecordsKept.{switch_valid, port_valid}
 use Rattle.world_core.proofs.Refusals.{is_built, is_new}
-use Rattle.world_core.proofs.OneVisit.{AreOne, one_enters, one_arrives, one_drains, one_sends, none_of_both, enters_none, arrives_none, drains_none, enters_net, arrives_net, drains_net}
 
 -- the same effects, the same state, and the same picks left
 pub record Same (effects others : List NetEffect) (after later : State) (left more : List Pick) : Type 0 where
@@ -186,13 +192,38 @@ still effects others after later left more then h k a b e = record {
   rest = none_left effects others left more (ap (λ es. picks_of es) h) (ap (λ es. picks_of es) k) e;
 }
 
--- what happens to packets, where neither picks anything
-moves : (effects others : List NetEffect) (after later : State) (left more : List Pick) → AreOne effects others after later → picks_of effects ≡ [] → picks_of others ≡ [] → picks_of effects ++ left ≡ picks_of others ++ more
-    → Same effects others after later left more
-moves effects others after later left more one h k e = record { effects_are = one.effects_are; state = one.state; rest = none_left effects others left more h k e }
+-- the ends of packets name no key
+none_of_ends : (keys : Keys) (n : ℕ) (ends : List End) → picks_of (effects_of keys n ends) ≡ []
+none_of_ends keys n [] = refl
+none_of_ends keys n (leaves q packet ∷ ends) = none_of_ends keys n ends
+none_of_ends keys n (is_dropped d q cause ∷ ends) = none_of_ends keys n ends
+none_of_ends keys n (crosses chassis x ∷ ends) = none_of_ends keys (n + 1) ends
+none_of_ends keys n (picks_backend d vip backend ∷ ends) = none_of_ends keys n ends
+none_of_ends keys n (picks_port router port ∷ ends) = none_of_ends keys n ends
+none_of_ends keys n (is_lost k ∷ ends) = none_of_ends keys n ends
+
+none_moved : (m : State) (traffic : Traffic) (effects : List NetEffect) (after : State) → Moves m traffic effects after → picks_of effects ≡ []
+none_moved m traffic effects after h = ap (λ es. picks_of es) h.effects_are ∙ none_of_ends m.keys m.next h.ends
+
+-- what is asked of packets has one outcome
+moved_with : (m : State) → IsValid m.config.net → (traffic : Traffic) (effects others : List NetEffect) (after later : State) (left more : List Pick) → Moves m traffic effects after → Moves m traffic others later
+    → picks_of effects ++ left ≡ picks_of others ++ more → Same effects others after later left more
+moved_with m valid traffic effects others after later left more h k e =
+    let one = one_way m (plain m.config.net valid) traffic h.ends k.ends after later h.travels k.travels in
+    record {
+      effects_are = h.effects_are ∙ ap (λ es. effects_of m.keys m.next es) one.0 ∙ sym k.effects_are;
+      state = one.1;
+      rest = none_left effects others left more (none_moved m traffic effects after h) (none_moved m traffic others later k) e;
+    }
+
+sent_with : (m : State) → IsValid m.config.net → (frame : List ℕ) (asks : inet.Packet → Traffic) (effects others : List NetEffect) (after later : State) (left more : List Pick) → Sends m frame asks effects after → Sends m frame asks others later
+    → picks_of effects ++ left ≡ picks_of others ++ more → Same effects others after later left more
+sent_with m valid frame asks effects others after later left more h k e =
+    let packet : h.packet ≡ k.packet = one_packet_at_most h.packet k.packet h.whole k.whole (h.frame_is ∙ sym k.frame_is) in
+    moved_with m valid (asks k.packet) effects others after later left more (subst (λ x. Moves m (asks x) effects after) packet h.moves) k.moves e
 
 -- what an event does takes the same of two lists of picks that are one, and has the same effects and leaves the same state
-does_with : (m : State) (event : Event) (effects others : List NetEffect) (after later : State) (left more : List Pick) → IsValid m.net → Does m event effects after → Does m event others later
+does_with : (m : State) (event : Event) (effects others : List NetEffect) (after later : State) (left more : List Pick) → IsValid m.config.net → Does m event effects after → Does m event others later
     → picks_of effects ++ left ≡ picks_of others ++ more → Same effects others after later left more
 does_with m (Edit ops) effects others after later left more valid h k e =
     let owners = owners_of ops (event_count m + 1) in
@@ -200,37 +231,28 @@ does_with m (Edit ops) effects others after later left more valid h k e =
     let same = same_keys (retire m.keys []) owners h.keys k.keys h.given k.given h.hold.datapaths_in_order h.hold.ports_in_order k.hold.datapaths_in_order k.hold.ports_in_order left more picked in
     record {
       effects_are = h.effects_are ∙ ap (λ keys. key_effects owners keys) same.0 ∙ sym k.effects_are;
-      state = h.state ∙ ap (λ (keys : Keys). record m { net = accepted m.net ops (event_count m + 1); keys = keys }) same.0 ∙ sym k.state;
+      state = h.state ∙ ap (λ (keys : Keys). edited m (accepted m.config.net ops (event_count m + 1)) keys) same.0 ∙ sym k.state;
       rest = same.1;
     }
 does_with m (Bind p chassis) effects others after later left more valid h k e = still effects others after later left more _ h.0 k.0 h.1 k.1 e
 does_with m (AddChassis chassis) effects others after later left more valid h k e = still effects others after later left more _ h.0 k.0 h.1 k.1 e
-does_with m (Inject p frame) effects others after later left more valid h k e =
-    moves effects others after later left more (one_enters m valid p frame effects others after later h k) (enters_none m p frame effects after h) (enters_none m p frame others later k) e
-does_with m (Deliver n) effects others after later left more valid h k e =
-    moves effects others after later left more (one_arrives m n false effects others after later h k) (arrives_none m n false effects after h) (arrives_none m n false others later k) e
-does_with m (Lose n) effects others after later left more valid h k e = still effects others after later left more _ h.0 k.0 h.1 k.1 e
-does_with m (Repeat n) effects others after later left more valid h k e =
-    moves effects others after later left more (one_arrives m n true effects others after later h k) (arrives_none m n true effects after h) (arrives_none m n true others later k) e
-does_with m Drain effects others after later left more valid h k e =
-    moves effects others after later left more (one_drains most_arrivals m effects others after later h k) (drains_none most_arrivals m effects after h) (drains_none most_arrivals m others later k) e
-does_with m (Packet p frame) effects others after later left more valid h k e =
-    let one = one_sends most_arrivals m valid p frame h.own k.own h.more k.more h.mid k.mid after later h.enters k.enters h.drains k.drains in
-    moves effects others after later left more (record { effects_are = h.all ∙ one.effects_are ∙ sym k.all; state = one.state })
-    (ap (λ es. picks_of es) h.all ∙ none_of_both h.own h.more (enters_none m p frame h.own h.mid h.enters) (drains_none most_arrivals h.mid h.more after h.drains))
-    (ap (λ es. picks_of es) k.all ∙ none_of_both k.own k.more (enters_none m p frame k.own k.mid k.enters) (drains_none most_arrivals k.mid k.more later k.drains))
-    e
+does_with m (Inject p frame) effects others after later left more valid h k e = sent_with m valid frame (λ packet. enter_one p packet) effects others after later left more h k e
+does_with m (Deliver n) effects others after later left more valid h k e = moved_with m valid (arrive_one n false) effects others after later left more h k e
+does_with m (Lose n) effects others after later left more valid h k e = moved_with m valid (lose_one n) effects others after later left more h k e
+does_with m (Repeat n) effects others after later left more valid h k e = moved_with m valid (arrive_one n true) effects others after later left more h k e
+does_with m Drain effects others after later left more valid h k e = moved_with m valid arrive_all effects others after later left more h k e
+does_with m (Packet p frame) effects others after later left more valid h k e = sent_with m valid frame (λ packet. enter_and_arrive p packet) effects others after later left more h k e
 does_with m (Unread fault) effects others after later left more valid h k e = absurd h
 does_with m NotBuilt effects others after later left more valid h k e = absurd h
 
 -- so an event does
-pub step_with : (m : State) (event : Event) (effects others : List NetEffect) (after later : State) (left more : List Pick) → IsValid m.net → NetworkStep m event effects after → NetworkStep m event others later
+pub step_with : (m : State) (event : Event) (effects others : List NetEffect) (after later : State) (left more : List Pick) → IsValid m.config.net → NetworkStep m event effects after → NetworkStep m event others later
     → picks_of effects ++ left ≡ picks_of others ++ more → Same effects others after later left more
 step_with m event effects others after later left more valid h k e =
     let d = does_with m event effects others h.mid k.mid left more valid h.does k.does e in
     record { effects_are = d.effects_are; state = h.state ∙ ap finished d.state ∙ sym k.state; rest = d.rest }
 
-pub same_step : (m : State) (event : Event) (effects others : List NetEffect) (after later : State) → IsValid m.net → NetworkStep m event effects after → NetworkStep m event others later → picks_of effects ≡ picks_of others
+pub same_step : (m : State) (event : Event) (effects others : List NetEffect) (after later : State) → IsValid m.config.net → NetworkStep m event effects after → NetworkStep m event others later → picks_of effects ≡ picks_of others
     → (effects ≡ others) × (after ≡ later)
 same_step m event effects others after later valid h k e = let s = step_with m event effects others after later [] [] valid h k (ap (λ ps. ps ++ []) e) in (s.effects_are, s.state)
 
@@ -245,37 +267,36 @@ is_there true there x y h = cc
 is_there false true x y h = refl
 is_there false false x y h = cc
 
-valid_with : (m : State) (row : Record) → IsValid m.net → refusal_of_record m.net row ≡ None → IsValid (accepted m.net (Add row ∷ []) (event_count m + 1))
+valid_with : (m : State) (row : Record) → IsValid m.config.net → refusal_of_record m.config.net row ≡ None → IsValid (accepted m.config.net (Add row ∷ []) (event_count m + 1))
 valid_with m (record_of.Switch switch) valid allowed =
-    switch_valid m.net switch.name (record switch { birth = record { 0 = event_count m + 1 } }) valid (not_there (at m.net.switches switch.name) (nat_le 1024 (length m.net.switches)) why.NotBuilt allowed) refl
+    switch_valid m.config.net switch.name (record switch { birth = record { 0 = event_count m + 1 } }) valid (not_there (at m.config.net.switches switch.name) (nat_le 1024 (length m.config.net.switches)) why.NotBuilt allowed) refl
 valid_with m (record_of.SwitchPort port) valid allowed =
-    let new = is_new m.net port allowed in
-    port_valid m.net port.name (record port { birth = record { 0 = event_count m + 1 } }) valid (is_built m.net port allowed).absent refl
-    (is_there (is_unbuilt_port m.net port) (is_some (at m.net.switches port.switch)) why.NotBuilt (why.NoSuch port.switch) allowed)
+    let new = is_new m.config.net port allowed in
+    port_valid m.config.net port.name (record port { birth = record { 0 = event_count m + 1 } }) valid (is_built m.config.net port allowed).absent refl
+    (is_there (is_unbuilt_port m.config.net port) (is_some (at m.config.net.switches port.switch)) why.NotBuilt (why.NoSuch port.switch) allowed)
     (record { plain = new.plain; stations = new.stations; once = new.once; apart = new.apart; ips_apart = new.ips_apart })
 valid_with m _ valid allowed = cc
 
-does_valid : (m : State) (event : Event) (effects : List NetEffect) (after : State) → IsValid m.net → IsAdmitted event → refusal m event ≡ None → Does m event effects after → IsValid after.net
+does_valid : (m : State) (event : Event) (effects : List NetEffect) (after : State) → IsValid m.config.net → IsAdmitted event → refusal m event ≡ None → Does m event effects after → IsValid after.config.net
 does_valid m (Edit []) effects after valid admitted allowed h = cc
-does_valid m (Edit (Add row ∷ [])) effects after valid admitted allowed h = subst (λ (s : State). IsValid s.net) (sym h.state) (valid_with m row valid allowed)
+does_valid m (Edit (Add row ∷ [])) effects after valid admitted allowed h = subst (λ (s : State). IsValid s.config.net) (sym h.state) (valid_with m row valid allowed)
 does_valid m (Edit (Set k name c ∷ [])) effects after valid admitted allowed h = cc
 does_valid m (Edit (Remove k name ∷ [])) effects after valid admitted allowed h = cc
 does_valid m (Edit (Health balancer backend online ∷ [])) effects after valid admitted allowed h = cc
 does_valid m (Edit (op ∷ next ∷ ops)) effects after valid admitted allowed h = cc
-does_valid m (Bind p chassis) effects after valid admitted allowed h = subst (λ (s : State). IsValid s.net) (sym h.1) valid
-does_valid m (AddChassis chassis) effects after valid admitted allowed h = subst (λ (s : State). IsValid s.net) (sym h.1) valid
-does_valid m (Inject p frame) effects after valid admitted allowed h = subst IsValid (sym (enters_net m p frame effects after h)) valid
-does_valid m (Deliver n) effects after valid admitted allowed h = subst IsValid (sym (arrives_net m n false effects after h)) valid
-does_valid m (Lose n) effects after valid admitted allowed h = subst (λ (s : State). IsValid s.net) (sym h.1) valid
-does_valid m (Repeat n) effects after valid admitted allowed h = subst IsValid (sym (arrives_net m n true effects after h)) valid
-does_valid m Drain effects after valid admitted allowed h = subst IsValid (sym (drains_net most_arrivals m effects after h)) valid
-does_valid m (Packet p frame) effects after valid admitted allowed h =
-    subst IsValid (sym (drains_net most_arrivals h.mid h.more after h.drains ∙ enters_net m p frame h.own h.mid h.enters)) valid
+does_valid m (Bind p chassis) effects after valid admitted allowed h = subst (λ (s : State). IsValid s.config.net) (sym h.1) valid
+does_valid m (AddChassis chassis) effects after valid admitted allowed h = subst (λ (s : State). IsValid s.config.net) (sym h.1) valid
+does_valid m (Inject p frame) effects after valid admitted allowed h = subst (λ (s : State). IsValid s.config.net) (sym h.moves.travels.state) valid
+does_valid m (Deliver n) effects after valid admitted allowed h = subst (λ (s : State). IsValid s.config.net) (sym h.travels.state) valid
+does_valid m (Lose n) effects after valid admitted allowed h = subst (λ (s : State). IsValid s.config.net) (sym h.travels.state) valid
+does_valid m (Repeat n) effects after valid admitted allowed h = subst (λ (s : State). IsValid s.config.net) (sym h.travels.state) valid
+does_valid m Drain effects after valid admitted allowed h = subst (λ (s : State). IsValid s.config.net) (sym h.travels.state) valid
+does_valid m (Packet p frame) effects after valid admitted allowed h = subst (λ (s : State). IsValid s.config.net) (sym h.moves.travels.state) valid
 does_valid m (Unread fault) effects after valid admitted allowed h = absurd h
 does_valid m NotBuilt effects after valid admitted allowed h = absurd h
 
-pub step_valid : (m : State) (event : Event) (effects : List NetEffect) (after : State) → IsValid m.net → IsAdmitted event → refusal m event ≡ None → NetworkStep m event effects after → IsValid after.net
-step_valid m event effects after valid admitted allowed h = subst (λ (s : State). IsValid s.net) (sym h.state) (does_valid m event effects h.mid valid admitted allowed h.does)
+pub step_valid : (m : State) (event : Event) (effects : List NetEffect) (after : State) → IsValid m.config.net → IsAdmitted event → refusal m event ≡ None → NetworkStep m event effects after → IsValid after.config.net
+step_valid m event effects after valid admitted allowed h = subst (λ (s : State). IsValid s.config.net) (sym h.state) (does_valid m event effects h.mid valid admitted allowed h.does)
 
 -- ---- runs
 
@@ -285,7 +306,7 @@ pub record SameFate (fate other : Fate) (after later : State) (left more : List 
   pub state : after ≡ later
   pub rest : left ≡ more
 
-pub happens_with : (m : State) (event : Event) (own their left more : List Pick) (fate other : Fate) (after later : State) → IsValid m.net → Happens m event own fate after → Happens m event their other later
+pub happens_with : (m : State) (event : Event) (own their left more : List Pick) (fate other : Fate) (after later : State) → IsValid m.config.net → Happens m event own fate after → Happens m event their other later
     → own ++ left ≡ their ++ more → SameFate fate other after later left more
 happens_with m event own their left more fate other after later valid (Happens.refuses why r n f s) (Happens.refuses who q o g t) e =
     let cause : why ≡ who = same_Some why who (sym r ∙ q) in
@@ -296,11 +317,11 @@ happens_with m event own their left more fate other after later valid (Happens.a
     let s = step_with m event effects others after later left more valid step walk (sym (ap (λ ps. ps ++ left) n) ∙ e ∙ ap (λ ps. ps ++ more) o) in
     record { fates_are = f ∙ ap was_accepted s.effects_are ∙ sym g; state = s.state; rest = s.rest }
 
-happens_valid : (m : State) (event : Event) (own : List Pick) (fate : Fate) (after : State) → IsValid m.net → IsAdmitted event → Happens m event own fate after → IsValid after.net
-happens_valid m event own fate after valid admitted (Happens.refuses why r n f s) = subst (λ (w : State). IsValid w.net) (sym s) valid
+happens_valid : (m : State) (event : Event) (own : List Pick) (fate : Fate) (after : State) → IsValid m.config.net → IsAdmitted event → Happens m event own fate after → IsValid after.config.net
+happens_valid m event own fate after valid admitted (Happens.refuses why r n f s) = subst (λ (w : State). IsValid w.config.net) (sym s) valid
 happens_valid m event own fate after valid admitted (Happens.accepts effects r step n f) = step_valid m event effects after valid admitted r step
 
-pub same_run : (m : State) (events : List Event) (picks : List Pick) (fates others : List Fate) (last end : State) → IsValid m.net → AllByRecursion IsAdmitted events → Run m events picks fates last → Run m events picks others end
+pub same_run : (m : State) (events : List Event) (picks : List Pick) (fates others : List Fate) (last end : State) → IsValid m.config.net → AllByRecursion IsAdmitted events → Run m events picks fates last → Run m events picks others end
     → (fates ≡ others) × (last ≡ end)
 same_run m [] picks fates others last end valid admitted h k = (h.1 ∙ sym k.1, h.2 ∙ sym k.2)
 same_run m (event ∷ events) picks fates others last end valid admitted h k =

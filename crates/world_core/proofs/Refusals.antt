@@ -18,9 +18,10 @@ use Rattle.event_lines.specs.declared.refusal.Refusal.TheVariants as why
 use Rattle.std.proofs.lemmas.Bool.{leb-false}
 use Rattle.world_core.specs.NewPort.{AreNew}
 use Rattle.world_core.specs.Refusing.{refusal, refusal_of_entry, refusal_of_record, too_many_wait}
-use Rattle.world_core.specs.State.{State, is_chassis}
+use Rattle.net_model.specs.State.{State}
+use Rattle.net_model.specs.Config.{is_chassis}
 use Rattle.world_core.specs.Unbuilt.{is_unbuilt_port}
-use Rattle.world_core.proofs.Unheld.{built, IsBuiltPort, all_of_stations, macs_once}
+use Rattle.world_core.proofs.FreeAddresses.{built, IsBuiltPort, all_of_stations, macs_once}
 
 both : (a b : Bool) (x y : Refusal) → cond a (cond b None (Some x)) (Some y) ≡ None → b ≡ true
 both true true x y h = refl
@@ -32,8 +33,8 @@ none_first true x rest h = cc
 none_first false x rest h = refl
 
 -- a packet's port is bound
-pub is_bound : (m : State) (p : Name) → refusal_of_entry m p ≡ None → is_some (at m.bindings p) ≡ true
-is_bound m p h = by (is_some (at m.net.switch_ports p)) (is_some (at m.bindings p)) (too_many_wait m) h
+pub is_bound : (m : State) (p : Name) → refusal_of_entry m p ≡ None → is_some (at m.config.bindings p) ≡ true
+is_bound m p h = by (is_some (at m.config.net.switch_ports p)) (is_some (at m.config.bindings p)) (too_many_wait m) h
   where
     by : (a b c : Bool) → cond a (cond b (cond c (Some why.TooManyFrames) None) (Some why.NotBuilt)) (Some (why.NoSuch p)) ≡ None → b ≡ true
     by true true c h = refl
@@ -57,17 +58,17 @@ repeated_so m n h = by (is_some (numbered m.waiting n)) (too_many_wait m) h
     by false b h = h
 
 -- a chassis that comes is new, and there is room for it
-pub chassis_new : (m : State) (c : Name) → refusal m (event_of.AddChassis c) ≡ None → (is_chassis m c ≡ false) × (length m.chassis < 64)
-chassis_new m c h = by (is_chassis m c) (nat_le 64 (length m.chassis)) refl h
+pub chassis_new : (m : State) (c : Name) → refusal m (event_of.AddChassis c) ≡ None → (is_chassis m.config c ≡ false) × (length m.config.chassis < 64)
+chassis_new m c h = by (is_chassis m.config c) (nat_le 64 (length m.config.chassis)) refl h
   where
-    by : (a b : Bool) → nat_le 64 (length m.chassis) ≡ b → cond a (Some (why.DuplicateName c)) (cond b (Some why.LimitChassis) None) ≡ None → (a ≡ false) × (length m.chassis < 64)
+    by : (a b : Bool) → nat_le 64 (length m.config.chassis) ≡ b → cond a (Some (why.DuplicateName c)) (cond b (Some why.LimitChassis) None) ≡ None → (a ≡ false) × (length m.config.chassis < 64)
     by true b is h = cc
     by false true is h = cc
-    by false false is h = (refl, leb-false 64 (length m.chassis) is)
+    by false false is h = (refl, leb-false 64 (length m.config.chassis) is)
 
 -- the chassis of a binding is there
-pub is_known : (m : State) (p chassis : Name) → refusal m (event_of.Bind p chassis) ≡ None → is_chassis m chassis ≡ true
-is_known m p chassis h = both (is_some (at m.net.switch_ports p)) (is_chassis m chassis) _ _ h
+pub is_known : (m : State) (p chassis : Name) → refusal m (event_of.Bind p chassis) ≡ None → is_chassis m.config chassis ≡ true
+is_known m p chassis h = both (is_some (at m.config.net.switch_ports p)) (is_chassis m.config chassis) _ _ h
 
 pub among_chassis : (names : List Name) (chassis : Name) → list_any (λ c. same_name c chassis) names ≡ true → Among chassis names
 among_chassis [] chassis h = cc

@@ -1,7 +1,7 @@
 -- What an accepted edit does to the records and the keys. Its effects name the keys that were picked.
+use Rattle.nb_records.specs.Network.{Network}
+use Rattle.net_model.specs.Transition.{turned_by, edit}
 use Rattle.std.specs.Prelude.{◌≡◌, ◌+◌, ◌++◌, ℕ, List, [], ◌∷◌, map, flat_map, unwrap_or}
-use Rattle.std.specs.Ordering.{nat_cmp, match_ordering}
-use Rattle.std.specs.Cmp.Lexicographic.{slice_cmp}
 use Rattle.ovn_base.specs.declared.address.Birth.{Birth}
 use Rattle.ovn_base.specs.declared.name.Name.{Name}
 use Rattle.ovn_base.specs.names.ByName.{in_order}
@@ -17,8 +17,8 @@ use Rattle.tunnel_keys.specs.Keys.{Keys, IsKeys}
 use Rattle.tunnel_keys.specs.Owners.{datapaths_in, ports_in}
 use Rattle.tunnel_keys.specs.declared.owner.KeyOwner.{KeyOwner}
 use Rattle.tunnel_keys.specs.declared.owner.KeyOwner.TheVariants.{Datapath, Port}
-use Rattle.world_core.specs.Numbers.{datapath_number, port_number}
-use Rattle.world_core.specs.State.{State, event_count}
+use Rattle.physical_flows.specs.Numbers.{datapath_number, port_number}
+use Rattle.net_model.specs.State.{State, event_count}
 
 -- who gets a key with the record, where the event of this number adds it
 abbrev pub owner_of : Record → ℕ → List KeyOwner
@@ -49,6 +49,10 @@ added_ports owners keys = flat_map (λ d. in_order (ports_in d.0 owners)) keys.d
 abbrev pub key_effects : List KeyOwner → Keys → List NetEffect
 key_effects owners keys = map (datapath_effect keys) (in_order (datapaths_in owners)) ++ map (port_effect keys) (added_ports owners keys)
 
+-- the state with other records and keys: what was bound stays so where its port stays
+abbrev pub edited : State → Network → Keys → State
+edited m net keys = record (turned_by (edit m.config net) m) { keys = keys }
+
 -- an accepted edit: the records come, keys are given, legal ones, and its effects name them
 pub record Edits (m : State) (ops : List Op) (effects : List NetEffect) (after : State) : Type 0 where
   pub keys : Keys
@@ -56,9 +60,4 @@ pub record Edits (m : State) (ops : List Op) (effects : List NetEffect) (after :
   pub hold : IsKeys keys
   pub given : GivesKeys m.keys (owners_of ops (event_count m + 1)) [] keys
   pub effects_are : effects ≡ key_effects (owners_of ops (event_count m + 1)) keys
-  pub state : after ≡ record m { net = accepted m.net ops (event_count m + 1); keys = keys }
-
--- the names with one more, in order
-abbrev pub with_name : List Name → Name → List Name
-with_name [] name = name ∷ []
-with_name (first ∷ names) name = match_ordering (slice_cmp nat_cmp name first) (name ∷ first ∷ names) (first ∷ names) (first ∷ with_name names name)
+  pub state : after ≡ edited m (accepted m.config.net ops (event_count m + 1)) keys

@@ -7,8 +7,8 @@ use Rattle.ovn_base.specs.lists.Once.{EachOnce}
 use Rattle.ovn_base.specs.names.ByName.{at}
 use Rattle.nb_records.specs.Network.{Network}
 use Rattle.nb_records.specs.declared.switch.SwitchPort.{SwitchPort}
-use Rattle.world_core.specs.Addresses.{macs_in, HasMac, HasIp, IsOfStation}
-use Rattle.world_core.specs.Built.{is_plain_port}
+use Rattle.physical_flows.specs.Addresses.{macs_in, HasMac, HasIp, IsOfStation}
+use Rattle.physical_flows.specs.Built.{is_plain_port}
 
 -- it is plain; its addresses are Ethernet addresses of stations, each of one entry, and no port of its switch has one of them, or one of its IPs
 pub record AreNew (net : Network) (port : SwitchPort) : Type 0 where

@@ -12,21 +12,21 @@ use Rattle.chassis_sim.specs.InNames.{frames_sent}
 use Rattle.chassis_sim.specs.Passing as sim
 use Rattle.chassis_sim.specs.State as held
 use Rattle.chassis_sim.specs.declared.out.SimOut.{SimOut}
-use Rattle.nb_records.specs.declared.switch.Switch.{Switch}
 use Rattle.nb_records.specs.declared.switch.SwitchPort.{SwitchPort}
 use Rattle.switch_engine.specs.declared.effect.NetEffect.{NetEffect}
-use Rattle.world_core.specs.Crossing.{group_key}
-use Rattle.world_core.specs.Effects.{spelled}
-use Rattle.world_core.specs.Naming.{HasPortKey}
-use Rattle.world_core.specs.Passing.{AreDrained, GoesIn, clock}
-use Rattle.world_core.specs.Refinement.{IsAmidst}
-use Rattle.world_core.specs.WorldView.{WorldView, AreHeld, frame_of_crossing}
-use Rattle.world_core.specs.Sound.{MayWait}
-use Rattle.world_core.specs.State.{State}
-use Rattle.world_core.specs.Step.{Enters, Arrives, Drains}
-use Rattle.world_core.specs.declared.crossing.Aim.{Aim}
-use Rattle.world_core.specs.declared.crossing.Aim.TheVariants.{ToPort, ToGroup}
-use Rattle.world_core.specs.declared.crossing.Crossing.{Crossing}
+use Rattle.physical_flows.specs.GroupKeys.{group_key}
+use Rattle.sim_laws.specs.Effects.{spelled}
+use Rattle.sim_laws.specs.Naming.{HasPortKey}
+use Rattle.sim_laws.specs.Passing.{AreDrained, GoesIn, clock}
+use Rattle.sim_laws.specs.Refinement.{IsAmidst}
+use Rattle.world_core.specs.WorldView.{WorldView}
+use Rattle.sim_laws.specs.Held.{AreHeld, frame_of_crossing}
+use Rattle.net_model.specs.State.{State}
+use Rattle.sim_laws.specs.PacketSteps.{Enters, Arrives, Drains}
+use Rattle.net_model.specs.declared.crossing.Aim.{Aim}
+use Rattle.net_model.specs.declared.crossing.Aim.TheVariants.{ToPort, ToGroup}
+use Rattle.net_model.specs.declared.crossing.Crossing.{Crossing}
+use Rattle.sim_laws.specs.SentFrames.{IsSentFrom}
 
 -- how many frames an event may send, beside those for which its number of events leaves room
 abbrev pub most_sent : ℕ
@@ -55,18 +55,6 @@ HasArrived old n keep before after new = HasPassed old before after new (λ s b 
 abbrev pub AreGone : ℕ → WorldView → SimOut → SimOut → WorldView → Type 0
 AreGone most old before after new = HasPassed old before after new (λ s b a t. AreDrained most s b a t) (λ m effects k. Drains most m effects k)
 
--- the crossing is one of a packet from the port, which its frame spells under the keys
-pub record IsSentFrom (m : State) (p to : Name) (bytes : List ℕ) (x : Crossing) : Type 0 where
-  pub port : SwitchPort
-  pub there : at m.net.switch_ports p ≡ Some port
-  pub switch : Switch
-  pub on : at m.net.switches port.switch ≡ Some switch
-  pub datapath : x.datapath ≡ record { name = port.switch; birth = switch.birth }
-  pub in_port : x.in_port ≡ record { name = p; birth = port.birth }
-  pub may : MayWait m x
-  pub home : x.home ≡ to
-  pub spelled_so : bytes ≡ spelled m.keys x
-
 -- these crossings, each with its number, are those of the frames among the effects of a packet from the port
 pub record AreSentBy (m : State) (p : Name) (effects : List NetEffect) (crossings : List (ℕ × Crossing)) : Type 0 where
   pub frames : frames_sent effects ≡ map (frame_of_crossing m.keys) crossings
@@ -75,7 +63,7 @@ pub record AreSentBy (m : State) (p : Name) (effects : List NetEffect) (crossing
 -- the number is that of whom a packet in the switch goes to
 abbrev pub IsNumberOf : State → Name → ℕ → Aim → Type 0
 IsNumberOf m switch key (ToGroup g) = key ≡ group_key g
-IsNumberOf m switch key (ToPort id) = HasPortKey m.keys switch id.name key × ((port : SwitchPort) × (at m.net.switch_ports id.name ≡ Some port) × (port.birth ≡ id.birth))
+IsNumberOf m switch key (ToPort id) = HasPortKey m.keys switch id.name key × ((port : SwitchPort) × (at m.config.net.switch_ports id.name ≡ Some port) × (port.birth ≡ id.birth))
 
 -- these crossings of a packet from the port can be put behind those that wait
 pub record CanBeKept (m : State) (p : Name) (effects : List NetEffect) (crossings : List (ℕ × Crossing)) : Type 0 where

@@ -5,7 +5,7 @@ use Rattle.event_lines.specs.declared.refusal.Refusal.{Refusal}
 use Rattle.event_lines.specs.Picks.{Pick, picks_of}
 use Rattle.switch_engine.specs.declared.effect.NetEffect.{NetEffect}
 use Rattle.world_core.specs.Refusing.{refusal}
-use Rattle.world_core.specs.State.{State}
+use Rattle.net_model.specs.State.{State}
 use Rattle.world_core.specs.Step.{NetworkStep}
 
 -- what became of an event

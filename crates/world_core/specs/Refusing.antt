@@ -13,7 +13,8 @@ use Rattle.edit_reader.specs.declared.event.Event.TheVariants.{Edit, Bind, AddCh
 use Rattle.event_lines.specs.declared.refusal.Refusal.{Refusal}
 use Rattle.event_lines.specs.declared.refusal.Refusal.TheVariants as why
 use Rattle.chassis_sim.specs.State.{numbered}
-use Rattle.world_core.specs.State.{State, is_chassis}
+use Rattle.net_model.specs.State.{State}
+use Rattle.net_model.specs.Config.{is_chassis}
 use Rattle.world_core.specs.Unbuilt.{is_unbuilt_port}
 
 -- why an added record is refused
@@ -40,14 +41,14 @@ too_many_wait m = nat_le MAX_WAITING (length m.waiting)
 -- why a packet that would enter at the port is refused: the port isn't there, or isn't bound, or too many frames wait
 abbrev pub refusal_of_entry : State → Name → Option Refusal
 refusal_of_entry m port =
-    if is_some (at m.net.switch_ports port) then (if is_some (at m.bindings port) then (if too_many_wait m then Some why.TooManyFrames else None) else Some why.NotBuilt) else Some (why.NoSuch port)
+    if is_some (at m.config.net.switch_ports port) then (if is_some (at m.config.bindings port) then (if too_many_wait m then Some why.TooManyFrames else None) else Some why.NotBuilt) else Some (why.NoSuch port)
 
 -- why the event is refused, if it is: the port comes before the chassis, and a port that isn't there before one that isn't bound
 abbrev pub refusal : State → Event → Option Refusal
-refusal m (Edit ops) = refusal_of_edit m.net ops
+refusal m (Edit ops) = refusal_of_edit m.config.net ops
 refusal m (Bind port chassis) =
-    if is_some (at m.net.switch_ports port) then (if is_chassis m chassis then None else Some (why.NoSuch chassis)) else Some (why.NoSuch port)
-refusal m (AddChassis chassis) = if is_chassis m chassis then Some (why.DuplicateName chassis) else (if nat_le MAX_CHASSIS (length m.chassis) then Some why.LimitChassis else None)
+    if is_some (at m.config.net.switch_ports port) then (if is_chassis m.config chassis then None else Some (why.NoSuch chassis)) else Some (why.NoSuch port)
+refusal m (AddChassis chassis) = if is_chassis m.config chassis then Some (why.DuplicateName chassis) else (if nat_le MAX_CHASSIS (length m.config.chassis) then Some why.LimitChassis else None)
 refusal m (Inject port frame) = refusal_of_entry m port
 refusal m (Deliver n) = if is_some (numbered m.waiting n) then None else Some (why.NoFrame n)
 refusal m (Lose n) = if is_some (numbered m.waiting n) then None else Some (why.NoFrame n)

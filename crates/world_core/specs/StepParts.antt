@@ -13,12 +13,13 @@ use Rattle.event_lines.specs.declared.refusal.StepFault.{StepFault}
 use Rattle.event_lines.specs.declared.refusal.StepFault.TheVariants.{Refused, Memory}
 use Rattle.switch_engine.specs.declared.effect.NetEffect.{NetEffect}
 use Rattle.switch_engine.specs.declared.walk.Walk.{Walk}
-use Rattle.world_core.specs.Consistent.{IsConsistent}
+use Rattle.sim_laws.specs.Consistent.{IsConsistent}
 use Rattle.world_core.specs.Outcome.{matched, IsAccepted, IsRefused}
-use Rattle.world_core.specs.Passing.{Passes}
-use Rattle.world_core.specs.WorldView.{WorldView, AreHeld}
-use Rattle.world_core.specs.Sound.{AreFlowsOf}
-use Rattle.world_core.specs.State.{empty}
+use Rattle.world_core.specs.EventPasses.{Passes}
+use Rattle.world_core.specs.WorldView.{WorldView}
+use Rattle.sim_laws.specs.Held.{AreHeld}
+use Rattle.physical_flows.specs.ChassisFlows.{AreFlowsOf}
+use Rattle.net_model.specs.State.{empty}
 use Rattle.world_core.specs.Step as net
 use Rattle.world_core.specs.Zones.{zones_after}
 use Rattle.std.specs.Prelude.{map}
@@ -26,9 +27,9 @@ use Rattle.std.specs.Prelude.{map}
 -- the chassis of a state hold exactly its flows; ports are bound and keys are named as is said, and nothing else changed
 pub record IsRecompiled (bound : List (Name × Option Name)) (names : List (ℕ × ℕ × Name)) (old new : WorldView) : Type 0 where
   pub kept : new ≡ record old { sim = new.sim }
-  pub held : (c : Name) → Among c new.state.chassis → IsSome (at_name new.sim.chassis c)
-  pub flows : (c : Name) (flows : List Flow) → Among c new.state.chassis → at_name new.sim.chassis c ≡ Some flows → AreFlowsOf new.state new.zones c flows
-  pub others : (c : Name) → ¬ Among c new.state.chassis → at_name new.sim.chassis c ≡ at_name old.sim.chassis c
+  pub held : (c : Name) → Among c new.state.config.chassis → IsSome (at_name new.sim.chassis c)
+  pub flows : (c : Name) (flows : List Flow) → Among c new.state.config.chassis → at_name new.sim.chassis c ≡ Some flows → AreFlowsOf new.state new.zones c flows
+  pub others : (c : Name) → ¬ Among c new.state.config.chassis → at_name new.sim.chassis c ≡ at_name old.sim.chassis c
   pub bindings : AreSet same_name bound old.sim.bindings new.sim.bindings
   pub names_are : AreSet same_pair (map given_name names) old.sim.names new.sim.names
   pub waiting : new.sim.waiting ≡ old.sim.waiting
@@ -49,7 +50,7 @@ pub record IsDone (old : WorldView) (event : Event) (effects : List NetEffect) (
   pub step : net.NetworkStep old.state event effects new.state
   pub passed : Passes old.sim event (record { effects = effects; walks = walks }) new.sim
   pub counts : count ≡ matched walks
-  pub zones : new.zones ≡ zones_after old.state.bindings old.zones event
+  pub zones : new.zones ≡ zones_after old.state.config.bindings old.zones event
   pub now : IsTaken new
 
 -- what a taken event leaves, before the world is marked as whole again

@@ -10,7 +10,7 @@ use Rattle.ovn_base.specs.names.SameName.{same_name}
 use Rattle.ovn_base.specs.declared.limits.TheConstants.{MAX_PORTS}
 use Rattle.nb_records.specs.Network.{Network}
 use Rattle.nb_records.specs.Switches.{same_mac}
-use Rattle.world_core.specs.Built.{is_plain_port}
+use Rattle.physical_flows.specs.Built.{is_plain_port}
 use Rattle.nb_records.specs.declared.switch.PortAddress.{PortAddress}
 use Rattle.nb_records.specs.declared.switch.PortAddress.TheVariants.{Ether, Unknown, Router}
 use Rattle.nb_records.specs.declared.switch.SwitchPort.{SwitchPort}

@@ -5,7 +5,7 @@ use Rattle.ovn_base.specs.declared.name.Name.{Name}
 use Rattle.edit_reader.specs.declared.event.Event.{Event}
 use Rattle.edit_reader.specs.declared.event.Event.TheVariants.{Edit, Bind, AddChassis, Inject, Deliver, Lose, Repeat, Drain, Packet, Unread, NotBuilt}
 use Rattle.tunnel_keys.specs.Keys.{free_in}
-use Rattle.world_core.specs.Homes.{is_at}
+use Rattle.physical_flows.specs.Homes.{is_at}
 
 -- the numbers of the zones on the chassis
 abbrev pub zones_on : List (Name × Name) → List (Name × ℕ) → Name → List ℕ

@@ -7,11 +7,11 @@ ghost use Rattle.edit_reader.specs.declared.event.Event.{Event};
 ghost use Rattle.event_lines.specs.Picks.{Pick, picks_of};
 ghost use Rattle.switch_engine.specs.declared.effect.NetEffect.{NetEffect};
 ghost use Rattle.world_core.specs.Admitted.{IsAdmitted};
-ghost use Rattle.world_core.specs.Passing.{Passes};
+ghost use Rattle.world_core.specs.EventPasses.{Passes};
 ghost use Rattle.world_core.specs.Picks.{Fate, Run};
 ghost use Rattle.world_core.specs.WorldView.{IsSound, WorldView};
-ghost use Rattle.world_core.specs.Sound.{IsValid};
-ghost use Rattle.world_core.specs.State.{State};
+ghost use Rattle.physical_flows.specs.Valid.{IsValid};
+ghost use Rattle.net_model.specs.State.{State};
 ghost use Rattle.world_core.specs.Step.{NetworkStep};
 
 /// An event and what was picked for it determine its effects and the state after it. So events and picks determine a run:
@@ -19,10 +19,10 @@ ghost use Rattle.world_core.specs.Step.{NetworkStep};
 /// same zones, an event also matches the same flows.
 pub fn one_run()
     ensures step { (m : State) (event : Event) (effects others : List NetEffect) (after later : State)
-        → IsValid m.net → NetworkStep m event effects after → NetworkStep m event others later
+        → IsValid m.config.net → NetworkStep m event effects after → NetworkStep m event others later
         → picks_of effects ≡ picks_of others → (effects ≡ others) × (after ≡ later) }
     ensures run { (m : State) (events : List Event) (picks : List Pick) (fates others : List Fate) (last end : State)
-        → IsValid m.net → AllByRecursion IsAdmitted events
+        → IsValid m.config.net → AllByRecursion IsAdmitted events
         → Run m events picks fates last → Run m events picks others end → (fates ≡ others) × (last ≡ end) }
     ensures walks { (one two : WorldView) (event : Event) (out more : SimOut) (new other : sim.SimState)
         → IsSound one → IsSound two → one.state ≡ two.state → one.zones ≡ two.zones

@@ -2,7 +2,7 @@
 ghost use Rattle.std.specs.Prelude.{◌≡◌};
 ghost use Rattle.std.specs.List.{list_any};
 ghost use Rattle.nb_records.specs.Switches.{has_some, is_virtual};
-ghost use Rattle.world_core.specs.Built.{is_router_entry, is_plain_port};
+ghost use Rattle.physical_flows.specs.Built.{is_router_entry, is_plain_port};
 ghost use Rattle.world_core.specs.Unbuilt.{is_among, has_common, clash, clashes, share, repeats, has_no_entry, is_no_entry, is_held, is_unbuilt_port};
 
 use nb_records::records::Records;

@@ -10,9 +10,8 @@ ghost use Rattle.world_core.specs.Admitted.{IsAdmitted};
 ghost use Rattle.world_core.specs.Outcome.{Outcome};
 ghost use Rattle.world_core.specs.StepParts.{IsTaken, Leaves, new_world};
 ghost use Rattle.world_core.specs.WorldView.{IsSound};
-ghost use Rattle.world_core.specs.State.{event_count, finished};
+ghost use Rattle.net_model.specs.State.{event_count, finished};
 
-use crate::crossing::Crossing;
 use chassis_sim::sim::Sim;
 use edit_reader::event::Event;
 use event_lines::lines::{accepted, refused};
@@ -20,6 +19,7 @@ use event_lines::refusal::{Refusal, StepFault};
 use flow_table::flow::Flow;
 use flow_table::tables::Tables;
 use nb_records::records::Records;
+use net_model::crossing::Crossing;
 use ovn_base::limits::{MAX_DATAPATH_KEY, MAX_PORT_KEY};
 use ovn_base::list::List;
 use ovn_base::memory::NoMemory;
@@ -125,7 +125,7 @@ impl World {
 
     /// The chassis of this index, in order of name; `None` past the last.
     pub fn chassis(&self, index: usize) -> Option<&Name>
-        ensures { option_copied result ≡ slice_get self.now.state.chassis index }
+        ensures { option_copied result ≡ slice_get self.now.state.config.chassis index }
     {
         self.chassis.as_slice().get(index)
     }

@@ -10,8 +10,8 @@ ghost use Rattle.tunnel_keys.specs.declared.owner.PortKey.{PortKey};
 ghost use Rattle.ovn_base.specs.declared.limits.TheConstants.{MAX_DATAPATHS, MAX_PORTS};
 ghost use Rattle.world_core.specs.Editing.{Edits};
 ghost use Rattle.world_core.specs.NewPort.{AreNew};
-ghost use Rattle.world_core.specs.Consistent.{IsConsistent};
-ghost use Rattle.world_core.specs.State.{event_count, finished};
+ghost use Rattle.sim_laws.specs.Consistent.{IsConsistent};
+ghost use Rattle.net_model.specs.State.{event_count, finished};
 
 use crate::world::World;
 use nb_records::record::Record;
@@ -47,8 +47,8 @@ impl World {
         requires consistent { IsConsistent self.old.state self.old.zones }
         requires taken { self.old.whole ≡ false }
         requires room { event_count self.old.state < 2 ^ 42 }
-        requires absent { at self.old.state.net.switches switch.now.name ≡ None }
-        requires few { length self.old.state.net.switches < MAX_DATAPATHS }
+        requires absent { at self.old.state.config.net.switches switch.now.name ≡ None }
+        requires few { length self.old.state.config.net.switches < MAX_DATAPATHS }
         ensures edits { IfOk result (λ effects. Edits self.old.state (Add (record_of.Switch switch.now) ∷ []) effects self.new.state) }
         ensures consistent { OnOk result (IsConsistent (finished self.new.state) self.new.zones) }
         ensures rest { OnOk result (self.new ≡ record self.old { state = self.new.state }) }
@@ -69,10 +69,10 @@ impl World {
         requires consistent { IsConsistent self.old.state self.old.zones }
         requires taken { self.old.whole ≡ false }
         requires room { event_count self.old.state < 2 ^ 42 }
-        requires absent { at self.old.state.net.switch_ports port.now.name ≡ None }
-        requires few { length self.old.state.net.switch_ports < MAX_PORTS }
-        requires on_switch { IsSome (at self.old.state.net.switches port.now.switch) }
-        requires new { AreNew self.old.state.net port.now }
+        requires absent { at self.old.state.config.net.switch_ports port.now.name ≡ None }
+        requires few { length self.old.state.config.net.switch_ports < MAX_PORTS }
+        requires on_switch { IsSome (at self.old.state.config.net.switches port.now.switch) }
+        requires new { AreNew self.old.state.config.net port.now }
         ensures edits { IfOk result (λ effects. Edits self.old.state (Add (record_of.SwitchPort port.now) ∷ []) effects self.new.state) }
         ensures consistent { OnOk result (IsConsistent (finished self.new.state) self.new.zones) }
         ensures rest { OnOk result (self.new ≡ record self.old { state = self.new.state }) }

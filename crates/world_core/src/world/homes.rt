@@ -1,12 +1,15 @@
 //! Chassis that come, and where ports are bound.
+ghost use Rattle.net_model.specs.Transition.{turned_by, add_chassis, bind};
+ghost use Rattle.std.specs.Ordering.{nat_cmp};
+ghost use Rattle.std.specs.Cmp.Lexicographic.{slice_cmp};
+ghost use Rattle.std.specs.BTreeSet.{insert_key};
 ghost use Rattle.std.specs.Prelude.{◌≡◌, ◌<◌, ◌^◌, [], ◌∷◌, Some, false, IfOk, OnOk, IsSome, length};
 ghost use Rattle.ovn_base.specs.lists.Among.{Among};
 ghost use Rattle.ovn_base.specs.names.ByName.{at, put};
 ghost use Rattle.ovn_base.specs.declared.limits.TheConstants.{MAX_CHASSIS};
-ghost use Rattle.world_core.specs.Consistent.{IsConsistent};
-ghost use Rattle.world_core.specs.Editing.{with_name};
-ghost use Rattle.world_core.specs.Homes.{is_at};
-ghost use Rattle.world_core.specs.State.{event_count, finished};
+ghost use Rattle.sim_laws.specs.Consistent.{IsConsistent};
+ghost use Rattle.physical_flows.specs.Homes.{is_at};
+ghost use Rattle.net_model.specs.State.{event_count, finished};
 ghost use Rattle.world_core.specs.Zones.{zone_for, zones_on, least_free};
 
 use crate::world::World;
@@ -19,7 +22,7 @@ use std::collections::BTreeMap;
 
 // The names with one more, in order.
 fn names_with(alloc: Global, names: &[Name], name: Name) -> Result<List<Name>, NoMemory>
-    ensures { IfOk result (λ longer. longer ≡ with_name names.now name) }
+    ensures { IfOk result (λ longer. longer ≡ insert_key (slice_cmp nat_cmp) names.now name) }
 {
     let mut longer = List::new(alloc);
     'names: for index in 0..names.len() {
@@ -87,9 +90,9 @@ impl World {
         requires consistent { IsConsistent self.old.state self.old.zones }
         requires taken { self.old.whole ≡ false }
         requires room { event_count self.old.state < 2 ^ 42 }
-        requires new { ¬ Among chassis self.old.state.chassis }
-        requires few { length self.old.state.chassis < MAX_CHASSIS }
-        ensures state { OnOk result (self.new ≡ record self.old { state = record self.old.state { chassis = with_name self.old.state.chassis chassis } }) }
+        requires new { ¬ Among chassis self.old.state.config.chassis }
+        requires few { length self.old.state.config.chassis < MAX_CHASSIS }
+        ensures state { OnOk result (self.new ≡ record self.old { state = turned_by (add_chassis self.old.state.config chassis) self.old.state }) }
         ensures consistent { OnOk result (IsConsistent (finished self.new.state) self.new.zones) }
     {
         let alloc = self.walks.allocator();
@@ -100,7 +103,7 @@ impl World {
     // The number of the zone of a port that is bound to the chassis: the one that it has there, or the least that is free.
     fn zone_at(&self, alloc: Global, port: &Name, chassis: &Name) -> Result<u16, NoMemory>
         requires consistent { IsConsistent self.now.state self.now.zones }
-        ensures { IfOk result (λ zone. zone ≡ zone_for self.now.state.bindings self.now.zones port.now chassis.now) }
+        ensures { IfOk result (λ zone. zone ≡ zone_for self.now.state.config.bindings self.now.zones port.now chassis.now) }
     {
         if is_at(&self.bindings, port, chassis) {
             return Ok(self.zones.get(port).copied().unwrap_or(0));
@@ -114,10 +117,10 @@ impl World {
         requires consistent { IsConsistent self.old.state self.old.zones }
         requires taken { self.old.whole ≡ false }
         requires room { event_count self.old.state < 2 ^ 42 }
-        requires there { IsSome (at self.old.state.net.switch_ports port) }
-        requires known { Among chassis self.old.state.chassis }
-        ensures state { OnOk result (self.new.state ≡ record self.old.state { bindings = put self.old.state.bindings port chassis }) }
-        ensures zones { OnOk result (self.new.zones ≡ put self.old.zones port (zone_for self.old.state.bindings self.old.zones port chassis)) }
+        requires there { IsSome (at self.old.state.config.net.switch_ports port) }
+        requires known { Among chassis self.old.state.config.chassis }
+        ensures state { OnOk result (self.new.state ≡ turned_by (bind self.old.state.config port chassis) self.old.state) }
+        ensures zones { OnOk result (self.new.zones ≡ put self.old.zones port (zone_for self.old.state.config.bindings self.old.zones port chassis)) }
         ensures rest { OnOk result (self.new ≡ record self.old { state = self.new.state; zones = self.new.zones }) }
         ensures consistent { OnOk result (IsConsistent (finished self.new.state) self.new.zones) }
     {

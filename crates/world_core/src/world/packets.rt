@@ -7,23 +7,26 @@ ghost use Rattle.chassis_sim.specs.Passing.{arrived};
 ghost use Rattle.chassis_sim.specs.State.{numbered};
 ghost use Rattle.inet_packet.specs.Frame.{frame_of};
 ghost use Rattle.inet_packet.specs.Whole.{IsWhole};
+ghost use Rattle.inet_packet.specs.declared.packet.Packet.{Packet};
 ghost use Rattle.edit_reader.specs.Reads.{IsPlainFrame};
-ghost use Rattle.world_core.specs.Step.{most_arrivals, with_kept};
-ghost use Rattle.world_core.specs.Refinement.{IsAmidst};
-ghost use Rattle.world_core.specs.WorldView.{AreHeld};
-ghost use Rattle.world_core.specs.State.{event_count};
-ghost use Rattle.world_core.specs.Packets.{AreGone, CanBeKept, HasArrived, HasEntered, IsNumberOf, IsSentFrom, most_sent, port_of_key};
-ghost use Rattle.world_core.specs.Sound.{HaveKeys};
-ghost use Rattle.world_core.specs.declared.crossing.Aim.{Aim};
-ghost use Rattle.world_core.specs.declared.crossing.Crossing.{Crossing};
+ghost use Rattle.sim_laws.specs.PacketSteps.{most_arrivals};
+ghost use Rattle.sim_laws.specs.PlainJourneys.{with_kept};
+ghost use Rattle.sim_laws.specs.Refinement.{IsAmidst};
+ghost use Rattle.sim_laws.specs.Held.{AreHeld};
+ghost use Rattle.net_model.specs.State.{event_count};
+ghost use Rattle.world_core.specs.Packets.{AreGone, CanBeKept, HasArrived, HasEntered, IsNumberOf, most_sent, port_of_key};
+ghost use Rattle.sim_laws.specs.SentFrames.{IsSentFrom};
+ghost use Rattle.physical_flows.specs.RecordKeys.{HaveKeys};
+ghost use Rattle.net_model.specs.declared.crossing.Aim.{Aim};
+ghost use Rattle.net_model.specs.declared.crossing.Crossing.{Crossing};
 
-use crate::crossing::{Aim, Crossing, Group};
 use crate::world::World;
 use chassis_sim::out::{SimFault, SimOut};
 use geneve_frames::read;
 use inet_packet::decode::decode;
 use inet_packet::frame::FrameFault;
 use inet_packet::packet::Packet;
+use net_model::crossing::{Aim, Crossing, Group};
 use ovn_base::limits::{FLOOD_KEY, MAX_ARRIVALS, UNKNOWN_KEY};
 use ovn_base::list::List;
 use ovn_base::memory::NoMemory;
@@ -37,6 +40,20 @@ fn packet_of(alloc: Global, frame: &[u8]) -> Result<Packet, NoMemory>
     requires { IsPlainFrame frame.now }
     ensures frame { IfOk result (λ packet. frame_of packet ≡ frame.now) }
     ensures whole { IfOk result IsWhole }
+{
+    match decode(alloc, frame) {
+        Ok(packet) => Ok(packet),
+        Err(FrameFault::Memory) => Err(NoMemory),
+        Err(FrameFault::TooShort) => unreachable!(),
+        Err(FrameFault::TooBig) => unreachable!(),
+        Err(FrameFault::BadIp4) => unreachable!(),
+    }
+}
+
+// The packet that a frame carries inside.
+fn packet_in(alloc: Global, frame: &[u8]) -> Result<Packet, NoMemory>
+    requires { (packet : Packet) × IsWhole packet × (frame_of packet ≡ frame.now) }
+    ensures { (packet : Packet) → IsWhole packet → frame_of packet ≡ frame.now → IfOk result (λ found. found ≡ packet) }
 {
     match decode(alloc, frame) {
         Ok(packet) => Ok(packet),
@@ -62,7 +79,7 @@ fn port_of_key(ports: &[(Name, u16)], key: u16) -> Option<Name>
 impl World {
     // To whom a packet from a port of the switch goes, by the key of the port or group.
     fn aim(&self, switch: &Name, key: u16) -> Option<Aim>
-        requires keys { HaveKeys self.now.state.net self.now.state.keys }
+        requires keys { HaveKeys self.now.state.config.net self.now.state.keys }
         ensures { (aim : Aim) → IsNumberOf self.now.state switch.now key aim → result ≡ Some aim }
     {
         if key == FLOOD_KEY {
@@ -94,7 +111,7 @@ impl World {
         to: &Name,
         bytes: &[u8],
     ) -> Result<Crossing, NoMemory>
-        requires keys { HaveKeys self.now.state.net self.now.state.keys }
+        requires keys { HaveKeys self.now.state.config.net self.now.state.keys }
         requires sent { (x : Crossing) × IsSentFrom self.now.state port.now to.now bytes.now x }
         ensures { IfOk result (λ found. (x : Crossing) → IsSentFrom self.now.state port.now to.now bytes.now x → found ≡ x) }
     {
@@ -121,7 +138,7 @@ impl World {
             },
             aim,
             home: *to,
-            frame: List::from_slice(alloc, view.inner)?,
+            packet: packet_in(alloc, view.inner)?,
         })
     }
 
@@ -142,7 +159,7 @@ impl World {
         effects: &[NetEffect],
     ) -> Result<(), NoMemory>
         requires taken { self.old.whole ≡ false }
-        requires keys { HaveKeys self.old.state.net self.old.state.keys }
+        requires keys { HaveKeys self.old.state.config.net self.old.state.keys }
         requires sent { (ws : List (ℕ × Crossing)) × CanBeKept self.old.state port.now effects.now ws }
         ensures { OnOk result ((ws : List (ℕ × Crossing)) → CanBeKept self.old.state port.now effects.now ws
             → self.new ≡ record self.old { state = record self.old.state { waiting = self.old.state.waiting ++ ws } }) }
@@ -173,7 +190,7 @@ impl World {
         requires amidst { IsAmidst self.old.state self.old.zones 0 }
         requires held { AreHeld self.old.state self.old.zones self.old.sim }
         requires taken { self.old.whole ≡ false }
-        requires bound { IsSome (at self.old.state.bindings port.now) }
+        requires bound { IsSome (at self.old.state.config.bindings port.now) }
         requires frame { IsPlainFrame frame.now }
         ensures { OnOk result (HasEntered self.old port.now frame.now out.old out.new self.new) }
     {

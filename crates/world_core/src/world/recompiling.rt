@@ -2,17 +2,17 @@
 ghost use Rattle.std.specs.Prelude.{◌≡◌, false, IfOk, OnOk};
 ghost use Rattle.std.specs.List.{AllByRecursion};
 ghost use Rattle.std.specs.Map.{keys_of};
-ghost use Rattle.world_core.specs.Consistent.{IsConsistent};
+ghost use Rattle.sim_laws.specs.Consistent.{IsConsistent};
 ghost use Rattle.world_core.specs.StepParts.{IsRecompiled};
-ghost use Rattle.world_core.specs.Sound.{AreFlowsOf};
+ghost use Rattle.physical_flows.specs.ChassisFlows.{AreFlowsOf};
 
-use crate::compile::Maps;
 use crate::world::World;
 use chassis_sim::change::SimChange;
 use flow_table::tables::Tables;
 use ovn_base::list::List;
 use ovn_base::memory::NoMemory;
 use ovn_base::name::Name;
+use physical_flows::compile::Maps;
 use std::alloc::Global;
 
 impl World {
@@ -36,7 +36,7 @@ impl World {
     // Each chassis with its tables.
     fn all_tables(&self, alloc: Global) -> Result<List<(Name, Tables)>, NoMemory>
         requires consistent { IsConsistent self.now.state self.now.zones }
-        ensures chassis { IfOk result (λ added. keys_of added ≡ self.now.state.chassis) }
+        ensures chassis { IfOk result (λ added. keys_of added ≡ self.now.state.config.chassis) }
         ensures flows { IfOk result (λ added. AllByRecursion (λ e. AreFlowsOf self.now.state self.now.zones e.0 e.1.flows) added) }
     {
         let mut added = List::new(alloc);

@@ -8,7 +8,8 @@ ghost use Rattle.world_core.specs.Admitted.{IsAdmitted};
 ghost use Rattle.world_core.specs.StepParts.{IsTaken, IsDone};
 ghost use Rattle.world_core.specs.Outcome.{matched};
 ghost use Rattle.world_core.specs.Refusing.{refusal, refusal_of_record, refusal_of_edit, refusal_of_entry, too_many_wait};
-ghost use Rattle.world_core.specs.State.{event_count, is_chassis};
+ghost use Rattle.net_model.specs.State.{event_count};
+ghost use Rattle.net_model.specs.Config.{is_chassis};
 
 use crate::refusing::is_unbuilt_port;
 use crate::world::{Done, World};
@@ -68,7 +69,7 @@ fn done_from(out: SimOut) -> Done
 impl World {
     // Why the added record is refused.
     fn refusal_of_record(&self, row: &Record) -> Option<Refusal>
-        ensures { result ≡ refusal_of_record self.now.state.net row.now }
+        ensures { result ≡ refusal_of_record self.now.state.config.net row.now }
     {
         match row {
             Record::Switch(switch) => {
@@ -94,7 +95,7 @@ impl World {
 
     // Why the edit is refused: it has one operation.
     fn refusal_of_edit(&self, ops: &[Op]) -> Option<Refusal>
-        ensures { result ≡ refusal_of_edit self.now.state.net ops.now }
+        ensures { result ≡ refusal_of_edit self.now.state.config.net ops.now }
     {
         match ops {
             [Op::Add(row)] => self.refusal_of_record(row),
@@ -117,7 +118,7 @@ impl World {
 
     // Whether the chassis is there.
     fn is_chassis(&self, chassis: &Name) -> bool
-        ensures { result ≡ is_chassis self.now.state chassis.now }
+        ensures { result ≡ is_chassis self.now.state.config chassis.now }
     {
         self.chassis
             .as_slice()
@@ -206,7 +207,7 @@ impl World {
     fn take_switch(&mut self, alloc: Global, switch: &Switch) -> Result<Done, NoMemory>
         requires taken { IsTaken self.old }
         requires room { event_count self.old.state < 2 ^ 42 }
-        requires admitted { refusal_of_record self.old.state.net (record_of.Switch switch.now) ≡ None }
+        requires admitted { refusal_of_record self.old.state.config.net (record_of.Switch switch.now) ≡ None }
         ensures { IfOk result (λ done. IsDone self.old (event_of.Edit (Add (record_of.Switch switch.now) ∷ [])) done.effects done.walks done.matched self.new) }
     {
         let effects = self.add_switch(switch)?;
@@ -220,7 +221,7 @@ impl World {
     fn take_port(&mut self, alloc: Global, port: &SwitchPort) -> Result<Done, NoMemory>
         requires taken { IsTaken self.old }
         requires room { event_count self.old.state < 2 ^ 42 }
-        requires admitted { refusal_of_record self.old.state.net (record_of.SwitchPort port.now) ≡ None }
+        requires admitted { refusal_of_record self.old.state.config.net (record_of.SwitchPort port.now) ≡ None }
         ensures { IfOk result (λ done. IsDone self.old (event_of.Edit (Add (record_of.SwitchPort port.now) ∷ [])) done.effects done.walks done.matched self.new) }
     {
         let effects = self.add_port(port)?;
@@ -234,7 +235,7 @@ impl World {
     fn take_edit(&mut self, alloc: Global, ops: &[Op]) -> Result<Done, NoMemory>
         requires taken { IsTaken self.old }
         requires room { event_count self.old.state < 2 ^ 42 }
-        requires refused { refusal_of_edit self.old.state.net ops.now ≡ None }
+        requires refused { refusal_of_edit self.old.state.config.net ops.now ≡ None }
         ensures { IfOk result (λ done. IsDone self.old (event_of.Edit ops.now) done.effects done.walks done.matched self.new) }
     {
         match ops {

@@ -3,12 +3,13 @@ use Rattle.std.proofs.lemmas.Option.{none-some}
 use Rattle.chassis_sim.specs.State.{numbered}
 use Rattle.world_core.specs.Inside.{seen_of}
 use Rattle.world_core.specs.Packets.{HasArrived, most_sent}
-use Rattle.world_core.specs.Refinement.{IsAmidst}
-use Rattle.world_core.specs.WorldView.{WorldView, AreHeld, frame_of_crossing}
-use Rattle.world_core.specs.Step.{with_kept}
-use Rattle.world_core.proofs.Found.{some_of}
-use Rattle.world_core.proofs.Passed.{arrived_passed, world_with}
-use Rattle.world_core.proofs.Waiting.{numbered_map}
+use Rattle.sim_laws.specs.Refinement.{IsAmidst}
+use Rattle.world_core.specs.WorldView.{WorldView}
+use Rattle.sim_laws.specs.Held.{AreHeld, frame_of_crossing}
+use Rattle.sim_laws.specs.PlainJourneys.{with_kept}
+use Rattle.physical_flows.proofs.Found.{some_of}
+use Rattle.world_core.proofs.PacketsHeld.{arrived_passed, world_with}
+use Rattle.sim_laws.proofs.WaitingLists.{numbered_map}
 use Rattle.world_core.proofs.world.World.arrive.Goals as goal
 use Rattle.world_core.proofs.world.World.arrive.Goals.{in-Some-1, in-None-1}
 

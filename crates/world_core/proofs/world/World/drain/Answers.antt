@@ -2,7 +2,7 @@ use Rattle.std.proofs.Common.{◌≡◌, ◌-◌, [], ◌∷◌, sym, ap, ◌∙
 use Rattle.std.proofs.lemmas.Bool.{false≢true}
 use Rattle.world_core.specs.Packets.{HasArrived}
 use Rattle.world_core.specs.WorldView.{WorldView}
-use Rattle.world_core.proofs.Draining.{AreDraining, drain_begins, drain_goes_on, drain_ends, first_is, none_there, one_less}
+use Rattle.world_core.proofs.DrainSteps.{AreDraining, drain_begins, drain_goes_on, drain_ends, first_is, none_there, one_less}
 use Rattle.world_core.proofs.world.World.drain.Goals as goal
 
 pub arrivals-init : goal.arrivals-init

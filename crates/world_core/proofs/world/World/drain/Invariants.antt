@@ -1,5 +1,5 @@
 use Rattle.std.proofs.Common.{◌≡◌, false}
-use Rattle.world_core.proofs.Draining.{AreDraining}
+use Rattle.world_core.proofs.DrainSteps.{AreDraining}
 use Rattle.world_core.proofs.world.World.drain.Given as goal
 
 abbrev pub invariant-arrivals : goal.invariant-arrivals

@@ -3,10 +3,11 @@ use Rattle.std.proofs.lemmas.List.{take_rest}
 use Rattle.ovn_base.specs.names.ByName.{at}
 use Rattle.world_core.specs.Inside.{seen_of}
 use Rattle.world_core.specs.Packets.{HasEntered}
-use Rattle.world_core.specs.Passing.{GoesIn}
-use Rattle.world_core.specs.Refinement.{IsAmidst}
-use Rattle.world_core.specs.WorldView.{WorldView, AreHeld}
-use Rattle.world_core.proofs.Passed.{goes_on, behind_with}
+use Rattle.sim_laws.specs.Passing.{GoesIn}
+use Rattle.sim_laws.specs.Refinement.{IsAmidst}
+use Rattle.world_core.specs.WorldView.{WorldView}
+use Rattle.sim_laws.specs.Held.{AreHeld}
+use Rattle.world_core.proofs.PacketsHeld.{goes_on, behind_with}
 use Rattle.world_core.proofs.world.World.enter.Goals as goal
 
 pub keep_crossings-requires-clause-sent : goal.keep_crossings-requires-clause-sent
@@ -14,7 +15,7 @@ keep_crossings-requires-clause-sent c =
     let old = seen_of c.self.inside in
     let amidst : IsAmidst old.state old.zones 0 = subst (λ (v : WorldView). IsAmidst v.state v.zones 0) (sym c.self.view_is) c.requires.amidst in
     let held : AreHeld old.state old.zones old.sim = subst (λ (v : WorldView). AreHeld v.state v.zones v.sim) (sym c.self.view_is) c.requires.held in
-    let bound : IsSome (at old.state.bindings c.args.port.now) = subst (λ (v : WorldView). IsSome (at v.state.bindings c.args.port.now)) (sym c.self.view_is) c.requires.bound in
+    let bound : IsSome (at old.state.config.bindings c.args.port.now) = subst (λ (v : WorldView). IsSome (at v.state.config.bindings c.args.port.now)) (sym c.self.view_is) c.requires.bound in
     let in' : GoesIn old.sim c.args.port.now c.args.frame.now c.args.out.now c.inject.new.out c.inject.new.self.state =
     record { packet = c.in_ok-packet.packet; whole = c.in_ok-packet.ensures.whole; frame_is = c.in_ok-packet.ensures.frame; injected = c.in-Ok.ensures.answer } in
     let after = c.inject.new.out.effects in
@@ -27,7 +28,7 @@ returns c =
     let old = seen_of c.self.inside in
     let amidst : IsAmidst old.state old.zones 0 = subst (λ (v : WorldView). IsAmidst v.state v.zones 0) (sym c.self.view_is) c.requires.amidst in
     let held : AreHeld old.state old.zones old.sim = subst (λ (v : WorldView). AreHeld v.state v.zones v.sim) (sym c.self.view_is) c.requires.held in
-    let bound : IsSome (at old.state.bindings c.args.port.now) = subst (λ (v : WorldView). IsSome (at v.state.bindings c.args.port.now)) (sym c.self.view_is) c.requires.bound in
+    let bound : IsSome (at old.state.config.bindings c.args.port.now) = subst (λ (v : WorldView). IsSome (at v.state.config.bindings c.args.port.now)) (sym c.self.view_is) c.requires.bound in
     let in' : GoesIn old.sim c.args.port.now c.args.frame.now c.args.out.now c.inject.new.out c.inject.new.self.state =
     record { packet = c.in_ok-packet.packet; whole = c.in_ok-packet.ensures.whole; frame_is = c.in_ok-packet.ensures.frame; injected = c.in-Ok.ensures.answer } in
     let after = c.inject.new.out.effects in

@@ -2,9 +2,9 @@ use Rattle.std.proofs.Common.{arith, ◌≡◌, ◌+◌, ◌∷◌, drop, sym, a
 use Rattle.std.proofs.lemmas.List.{drop_more, drop_all}
 use Rattle.switch_engine.specs.declared.effect.NetEffect.{NetEffect}
 use Rattle.switch_engine.specs.declared.effect.NetEffect.TheVariants as net
-use Rattle.world_core.specs.Packets.{IsSentFrom}
+use Rattle.sim_laws.specs.SentFrames.{IsSentFrom}
 use Rattle.world_core.specs.WorldView.{WorldView}
-use Rattle.world_core.proofs.Keeping.{IsKeeping, keeping_ends, keeping_goes_on, keeping_passes, next_of, next_sent, sends_none}
+use Rattle.world_core.proofs.CrossingStore.{IsKeeping, keeping_ends, keeping_goes_on, keeping_passes, next_of, next_sent, sends_none}
 use Rattle.world_core.proofs.world.World.keep_crossings.Goals as goal
 use Rattle.world_core.proofs.world.World.keep_crossings.Goals.{in-Tunnel+in_ok-crossing+in_ok-keep, in_default}
 

@@ -1,7 +1,7 @@
 use Rattle.std.proofs.Common.{◌≡◌, ℕ, List, drop, false}
 use Rattle.world_core.specs.Packets.{CanBeKept}
-use Rattle.world_core.specs.declared.crossing.Crossing.{Crossing}
-use Rattle.world_core.proofs.Keeping.{IsKeeping}
+use Rattle.net_model.specs.declared.crossing.Crossing.{Crossing}
+use Rattle.world_core.proofs.CrossingStore.{IsKeeping}
 use Rattle.world_core.proofs.world.World.keep_crossings.Given as goal
 
 abbrev pub invariant-effects : goal.invariant-effects

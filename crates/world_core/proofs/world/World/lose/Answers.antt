@@ -2,9 +2,10 @@ use Rattle.std.proofs.Common.{IsSome, option_map, sym, ap, ◌∙◌, subst}
 use Rattle.std.proofs.lemmas.Option.{none-some}
 use Rattle.chassis_sim.specs.State.{numbered}
 use Rattle.world_core.specs.Inside.{seen_of}
-use Rattle.world_core.specs.WorldView.{WorldView, AreHeld, frame_of_crossing}
-use Rattle.world_core.proofs.Found.{some_of}
-use Rattle.world_core.proofs.Waiting.{numbered_map}
+use Rattle.world_core.specs.WorldView.{WorldView}
+use Rattle.sim_laws.specs.Held.{AreHeld, frame_of_crossing}
+use Rattle.physical_flows.proofs.Found.{some_of}
+use Rattle.sim_laws.proofs.WaitingLists.{numbered_map}
 use Rattle.world_core.proofs.world.World.lose.Goals as goal
 
 pub unreachable-requires-in-Err-NoFrame : goal.unreachable-requires-in-Err-NoFrame

@@ -1,4 +1,4 @@
-use Rattle.world_core.proofs.Starting.{starts_sound}
+use Rattle.world_core.proofs.EmptyWorld.{starts_sound}
 use Rattle.world_core.proofs.world.World.new.Goals as goal
 
 pub invariant_of-result : goal.invariant_of-result

@@ -9,13 +9,13 @@ use Rattle.flow_table.specs.declared.tables.Tables.{Tables}
 use Rattle.ovn_base.specs.declared.delta.Delta.{Delta}
 use Rattle.ovn_base.specs.declared.name.Name.{Name}
 use Rattle.switch_engine.specs.Proper.{IsProper}
-use Rattle.world_core.specs.Consistent.{IsConsistent}
+use Rattle.sim_laws.specs.Consistent.{IsConsistent}
 use Rattle.world_core.specs.Inside.{seen_of}
 use Rattle.world_core.specs.StepParts.{IsRecompiled}
 use Rattle.world_core.specs.WorldView.{WorldView}
-use Rattle.world_core.specs.Sound.{AreFlowsOf}
-use Rattle.world_core.specs.State.{State}
-use Rattle.world_core.proofs.Renewed.{all_flows, all_held, all_proper, others_stay}
+use Rattle.physical_flows.specs.ChassisFlows.{AreFlowsOf}
+use Rattle.net_model.specs.State.{State}
+use Rattle.world_core.proofs.NewTables.{all_flows, all_held, all_proper, others_stay}
 use Rattle.world_core.proofs.world.World.recompile.Goals as goal
 
 abbrev flows_of : Tables → List Flow
@@ -38,7 +38,7 @@ returns c =
     let m : State = (seen_of c.self.inside).state in
     let zones = (seen_of c.self.inside).zones in
     let change : SimChange Tables = record { added = c.in_ok-added.added; removed = c.new.result; tables = c.new-2.result; emptied = c.new-3.result; bound = c.args.bound; names = c.args.names } in
-    let names : keys_of c.in_ok-added.added ≡ m.chassis = subst (λ (v : WorldView). keys_of c.in_ok-added.added ≡ v.state.chassis) (sym c.self.view_is) c.in_ok-added.ensures.chassis in
+    let names : keys_of c.in_ok-added.added ≡ m.config.chassis = subst (λ (v : WorldView). keys_of c.in_ok-added.added ≡ v.state.config.chassis) (sym c.self.view_is) c.in_ok-added.ensures.chassis in
     let all : AllByRecursion (λ e. AreFlowsOf m zones e.0 e.1.flows) c.in_ok-added.added = subst (λ (v : WorldView). AllByRecursion (λ e. AreFlowsOf v.state v.zones e.0 e.1.flows) c.in_ok-added.added) (sym c.self.view_is) c.in_ok-added.ensures.flows in
     let old = c.self.inside.sim.state in
     let new = c.apply.new.self.state in

@@ -1,7 +1,7 @@
 use Rattle.std.proofs.Common.{◌≡◌, ◌+◌, [], subst, sym, ap}
 use Rattle.world_core.specs.Inside.{seen_of}
 use Rattle.world_core.specs.StepParts.{IsTaken}
-use Rattle.world_core.proofs.Ending.{refused_taken}
+use Rattle.world_core.proofs.Refusal.{refused_taken}
 use Rattle.world_core.proofs.world.World.refuse.Goals as goal
 
 pub returns-clause-taken : goal.returns-clause-taken

@@ -1,5 +1,5 @@
 use Rattle.world_core.specs.Inside.{seen_of}
-use Rattle.world_core.proofs.Ending.{half_done, front_kept}
+use Rattle.world_core.proofs.Refusal.{half_done, front_kept}
 use Rattle.world_core.proofs.world.World.step.Goals as goal
 
 pub returns-in-Err-Memory : goal.returns-in-Err-Memory

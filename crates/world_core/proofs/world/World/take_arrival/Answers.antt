@@ -1,7 +1,7 @@
 use Rattle.std.proofs.Common.{subst, cond}
 use Rattle.edit_reader.specs.declared.event.Event.TheVariants as event_of
 use Rattle.world_core.specs.StepParts.{IsDone}
-use Rattle.world_core.proofs.PacketsDone.{arrival_done, handed_on}
+use Rattle.world_core.proofs.PacketEvents.{arrival_done, handed_on}
 use Rattle.world_core.proofs.world.World.take_arrival.Goals as goal
 
 pub returns : goal.returns

@@ -1,16 +1,16 @@
+use Rattle.net_model.specs.Transition.{turned_by, bind}
 use Rattle.std.proofs.Common.{◌≡◌, [], ◌∷◌, ◌++◌, Some, subst, sym, ap, ◌∙◌}
-use Rattle.ovn_base.specs.names.ByName.{put}
 use Rattle.edit_reader.specs.declared.event.Event.TheVariants as event_of
-use Rattle.world_core.specs.Consistent.{IsConsistent}
+use Rattle.sim_laws.specs.Consistent.{IsConsistent}
 use Rattle.world_core.specs.StepParts.{IsRecompiled}
 use Rattle.world_core.specs.WorldView.{WorldView}
-use Rattle.world_core.specs.State.{State, finished}
-use Rattle.world_core.proofs.Doing.{binding_done, done_so}
+use Rattle.net_model.specs.State.{State, finished}
+use Rattle.world_core.proofs.TurnEvents.{binding_done, done_so}
 use Rattle.world_core.proofs.Refusals.{is_known, among_chassis}
 use Rattle.world_core.proofs.world.World.take_binding.Goals as goal
 
 pub bind-requires-clause-known : goal.bind-requires-clause-known
-bind-requires-clause-known c = among_chassis c.args.self.now.state.chassis c.args.chassis (is_known c.args.self.now.state c.args.port c.args.chassis c.requires.admitted)
+bind-requires-clause-known c = among_chassis c.args.self.now.state.config.chassis c.args.chassis (is_known c.args.self.now.state c.args.port c.args.chassis c.requires.admitted)
 
 pub returns : goal.returns
 returns c =
@@ -20,7 +20,7 @@ returns c =
     let new : WorldView = c.recompile.new.self in
     let p = c.args.port in
     let chassis = c.args.chassis in
-    let mid : State = record old.state { bindings = put old.state.bindings p chassis } in
+    let mid : State = turned_by (bind old.state.config p chassis) old.state in
     let state : between.state ≡ mid = c.in_ok-bind.ensures.state in
     let finish : done ≡ record between { state = finished between.state } = c.finish.ensures in
     let rest : between ≡ record old { state = between.state; zones = between.zones } = c.in_ok-bind.ensures.rest in

@@ -1,8 +1,8 @@
 use Rattle.std.specs.Prelude.{◌<◌, ◌^◌}
 use Rattle.std.proofs.Common.{sym, subst}
 use Rattle.edit_reader.specs.declared.event.Event.TheVariants as event_of
-use Rattle.world_core.specs.Step.{most_arrivals}
-use Rattle.world_core.proofs.PacketsDone.{drain_done, drains_events, handed_on}
+use Rattle.sim_laws.specs.PacketSteps.{most_arrivals}
+use Rattle.world_core.proofs.PacketEvents.{drain_done, drains_events, handed_on}
 use Rattle.world_core.proofs.world.World.take_drain.Goals as goal
 
 pub finish-requires-clause-room : goal.finish-requires-clause-room

@@ -1,7 +1,7 @@
 use Rattle.std.proofs.Common.{subst, ◌∙◌}
 use Rattle.edit_reader.specs.declared.event.Event.TheVariants as event_of
 use Rattle.world_core.specs.StepParts.{IsDone}
-use Rattle.world_core.proofs.PacketsDone.{loss_done}
+use Rattle.world_core.proofs.PacketEvents.{loss_done}
 use Rattle.world_core.proofs.world.World.take_loss.Goals as goal
 
 pub returns : goal.returns

@@ -1,9 +1,10 @@
+use Rattle.edit_reader.specs.Reads.{IsPlainFrame}
 use Rattle.std.specs.Prelude.{◌<◌, ◌^◌}
 use Rattle.std.proofs.Common.{sym, subst, ◌∙◌}
 use Rattle.edit_reader.specs.declared.event.Event.TheVariants as event_of
 use Rattle.world_core.specs.StepParts.{IsDone}
-use Rattle.world_core.specs.Step.{most_arrivals}
-use Rattle.world_core.proofs.PacketsDone.{packet_done, drains_events, enters_events, handed_on}
+use Rattle.sim_laws.specs.PacketSteps.{most_arrivals}
+use Rattle.world_core.proofs.PacketEvents.{packet_done, drains_events, enters_events, handed_on}
 use Rattle.world_core.proofs.world.World.take_packet.Goals as goal
 
 pub finish-requires-clause-room : goal.finish-requires-clause-room
@@ -19,5 +20,5 @@ returns c =
     let done = c.done_from.result in
     subst (λ f. IsDone c.args.self.now (event_of.Packet c.args.port.now f) done.effects done.walks done.matched c.finish.new.self) c.as_slice.ensures
     (handed_on c.args.self.now c.finish.new.self (event_of.Packet c.args.port.now frame) c.drain.new.out done.effects done.walks done.matched c.done_from.ensures.effects c.done_from.ensures.walks
-    (packet_done c.args.self.now c.args.port.now frame c.new-out.result c.enter.new.out c.drain.new.out c.enter.new.self c.drain.new.self c.finish.new.self done.matched c.requires.taken c.requires.room
+    (packet_done c.args.self.now c.args.port.now frame c.new-out.result c.enter.new.out c.drain.new.out c.enter.new.self c.drain.new.self c.finish.new.self done.matched (subst IsPlainFrame (sym c.as_slice.ensures) c.requires.admitted) c.requires.taken c.requires.room
     (record { effects = c.new-out.ensures.effects; walks = c.new-out.ensures.walks }) c.in_ok-enter.ensures c.in_ok-drain.ensures c.finish.ensures c.done_from.ensures.matched))

@@ -2,22 +2,22 @@ use Rattle.std.proofs.Common.{◌≡◌, [], ◌∷◌, subst, sym, ap, ◌∙�
 use Rattle.edit_reader.specs.declared.event.Event.TheVariants as event_of
 use Rattle.nb_records.specs.declared.change.Op.TheVariants.{Add}
 use Rattle.nb_records.specs.declared.record.Record.TheVariants as record_of
-use Rattle.world_core.specs.Consistent.{IsConsistent}
+use Rattle.sim_laws.specs.Consistent.{IsConsistent}
 use Rattle.world_core.specs.StepParts.{IsRecompiled}
 use Rattle.world_core.specs.WorldView.{WorldView}
-use Rattle.world_core.specs.State.{finished}
-use Rattle.world_core.proofs.Doing.{done_so, port_done}
+use Rattle.net_model.specs.State.{finished}
+use Rattle.world_core.proofs.TurnEvents.{done_so, port_done}
 use Rattle.world_core.proofs.Refusals.{is_built, is_new}
 use Rattle.world_core.proofs.world.World.take_port.Goals as goal
 
 pub add_port-requires-clause-absent : goal.add_port-requires-clause-absent
-add_port-requires-clause-absent c = (is_built c.args.self.now.state.net c.args.port.now c.requires.admitted).absent
+add_port-requires-clause-absent c = (is_built c.args.self.now.state.config.net c.args.port.now c.requires.admitted).absent
 
 pub add_port-requires-clause-few : goal.add_port-requires-clause-few
-add_port-requires-clause-few c = (is_built c.args.self.now.state.net c.args.port.now c.requires.admitted).few
+add_port-requires-clause-few c = (is_built c.args.self.now.state.config.net c.args.port.now c.requires.admitted).few
 
 pub add_port-requires-clause-new : goal.add_port-requires-clause-new
-add_port-requires-clause-new c = is_new c.args.self.now.state.net c.args.port.now c.requires.admitted
+add_port-requires-clause-new c = is_new c.args.self.now.state.config.net c.args.port.now c.requires.admitted
 
 pub returns : goal.returns
 returns c =
@@ -37,4 +37,4 @@ returns c =
     let now : IsConsistent (finished between.state) done.zones = subst (λ z. IsConsistent (finished between.state) z) (sym zones) c.in_ok-effects.ensures.consistent in
     let made : IsRecompiled [] names done new = subst (λ l. IsRecompiled l names done new) c.new.ensures c.in_ok-recompile.ensures in
     done_so old new (event_of.Edit (Add (record_of.SwitchPort p) ∷ [])) effects c.done_with.result.effects c.done_with.result.walks c.done_with.result.matched c.done_with.ensures.effects c.done_with.ensures.walks c.done_with.ensures.matched
-    (port_done old done new between.state names c.requires.taken now over same made p effects c.in_ok-effects.ensures.edits c.in_ok-names.ensures)
+    (port_done old done new between.state names c.requires.taken now over same made p effects (is_built old.state.config.net p c.requires.admitted).absent c.in_ok-effects.ensures.edits c.in_ok-names.ensures)

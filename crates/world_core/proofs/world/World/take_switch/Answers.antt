@@ -2,11 +2,11 @@ use Rattle.std.proofs.Common.{◌≡◌, [], ◌∷◌, subst, sym, ap, ◌∙�
 use Rattle.edit_reader.specs.declared.event.Event.TheVariants as event_of
 use Rattle.nb_records.specs.declared.change.Op.TheVariants.{Add}
 use Rattle.nb_records.specs.declared.record.Record.TheVariants as record_of
-use Rattle.world_core.specs.Consistent.{IsConsistent}
+use Rattle.sim_laws.specs.Consistent.{IsConsistent}
 use Rattle.world_core.specs.StepParts.{IsRecompiled}
 use Rattle.world_core.specs.WorldView.{WorldView}
-use Rattle.world_core.specs.State.{finished}
-use Rattle.world_core.proofs.Doing.{done_so, switch_done, switch_new}
+use Rattle.net_model.specs.State.{finished}
+use Rattle.world_core.proofs.TurnEvents.{done_so, switch_done, switch_new}
 use Rattle.world_core.proofs.world.World.take_switch.Goals as goal
 
 pub returns : goal.returns
@@ -27,4 +27,4 @@ returns c =
     let now : IsConsistent (finished between.state) done.zones = subst (λ z. IsConsistent (finished between.state) z) (sym zones) c.in_ok-effects.ensures.consistent in
     let made : IsRecompiled [] names done new = subst (λ l. IsRecompiled l names done new) c.new.ensures c.in_ok-recompile.ensures in
     done_so old new (event_of.Edit (Add (record_of.Switch s) ∷ [])) effects c.done_with.result.effects c.done_with.result.walks c.done_with.result.matched c.done_with.ensures.effects c.done_with.ensures.walks c.done_with.ensures.matched
-    (switch_done old done new between.state names c.requires.taken now over same made s effects (switch_new old.state.net s c.requires.admitted) c.in_ok-effects.ensures.edits c.in_ok-names.ensures)
+    (switch_done old done new between.state names c.requires.taken now over same made s effects (switch_new old.state.config.net s c.requires.admitted) c.in_ok-effects.ensures.edits c.in_ok-names.ensures)

@@ -1,7 +1,7 @@
 use Rattle.std.proofs.Common.{◌≡◌, ◌≤◌, ◌<◌, ◌^◌, suc, true, false, length, arith, ap, sym, ◌∙◌}
 use Rattle.std.specs.List.{list_any}
 use Rattle.std.proofs.Math.Dec.{eqb as nat_eq}
-use Rattle.world_core.proofs.Zoning.{passed_few, passed_least, passed_more, passed_none}
+use Rattle.world_core.proofs.ZoneNumbers.{passed_few, passed_least, passed_more, passed_none}
 use Rattle.world_core.proofs.world.homes.least_free_of.Goals as goal
 
 pub taken-init : goal.taken-init

@@ -1,5 +1,5 @@
 use Rattle.std.proofs.Common.{◌≡◌, ◌++◌, filter, map}
-use Rattle.world_core.specs.Homes.{is_at}
+use Rattle.physical_flows.specs.Homes.{is_at}
 use Rattle.world_core.specs.Zones.{zones_on}
 use Rattle.world_core.proofs.world.homes.zones_on.Given as goal
 

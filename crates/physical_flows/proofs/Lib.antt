@@ -1,0 +1,13 @@
+-- Lemmas.
+pub mod AllTables
+pub mod FlowsOnce
+pub mod Found
+pub mod KeyLaws
+pub mod Macs
+pub mod Members
+pub mod OnceLaws
+pub mod ProperTables
+pub mod RetiredKeys
+pub mod RowFits
+pub mod TableSets
+pub mod Tables

@@ -1,0 +1,224 @@
+-- The members of a group, found by the keys of the switch's ports.
+use Rattle.std.specs.Prelude.{◌≡◌, ℕ, Bool, true, false, ◌&&◌, ◌||◌, not, cond, nat_lt, List, [], ◌∷◌, ◌++◌, length, map, filter, Option, Some, None, IsSome, is_some, unwrap_or, refl}
+use Rattle.std.specs.List.{list_any, cons_option}
+use Rattle.std.specs.List.Sorted.{IsStrictlySortedBy}
+use Rattle.std.specs.Map.{keys_of}
+use Rattle.std.specs.Ordering.{nat_cmp}
+use Rattle.std.specs.Option.{option_map}
+use Rattle.std.specs.Cmp.Lexicographic.{slice_cmp}
+use Rattle.std.specs.declared.cmp.Ordering.TheVariants.{Less}
+use Rattle.std.proofs.Common.{append_assoc}
+use Rattle.std.proofs.lemmas.Bool.{false≢true}
+use Rattle.std.proofs.lemmas.Cmp.{nat_list_cmp_total}
+use Rattle.std.proofs.lemmas.List.{length-map}
+use Rattle.std.proofs.lemmas.Option.{same_Some}
+use mathlib.Core.Path.{sym, ap, subst, ◌∙◌}
+use mathlib.Core.Logic.{inl, inr}
+use Rattle.ovn_base.specs.lists.Among.{Among, here, there}
+use Rattle.ovn_base.specs.names.ByName.{at, IsByName}
+use Rattle.ovn_base.specs.names.SameName.{bytes_decides, same_name}
+use Rattle.ovn_base.specs.declared.name.Name.{Name}
+use Rattle.ovn_base.proofs.AmongLaws.{among_cases, among_none, among_all, among_filter, filter_among, among_map, map_among}
+use Rattle.ovn_base.proofs.ByNameLaws.{below_apart, among_at, at_among}
+use Rattle.flow_table.specs.declared.flow.Flow.{Flow}
+use Rattle.nb_records.specs.declared.switch.SwitchPort.{SwitchPort}
+use Rattle.tunnel_keys.specs.Keys.{ports_on}
+use Rattle.tunnel_keys.specs.declared.owner.PortKey.{PortKey}
+use Rattle.tunnel_keys.proofs.Lists.{filter_sorted}
+use Rattle.net_model.specs.declared.crossing.Group.{Group}
+use Rattle.net_model.specs.declared.crossing.Group.TheVariants.{Flood, Unknown}
+use Rattle.physical_flows.specs.Homes.{is_home, is_at, is_group_member, members}
+use Rattle.physical_flows.specs.Numbers.{port_number}
+use Rattle.physical_flows.specs.Valid.{IsValid}
+use Rattle.physical_flows.specs.RecordKeys.{HaveKeys}
+use Rattle.physical_flows.specs.Stages.{Basis, member_of, members_here, homes_of, has_unknown}
+use Rattle.physical_flows.specs.TableList.{ingress_rows, egress_rows, group_rows, switch_rows, is_record_in, group_among, here_among, bound_among, others_among}
+
+-- ---- names in order
+
+-- the names ascend
+abbrev InOrder : List Name → Type 0
+InOrder names = IsStrictlySortedBy (slice_cmp nat_cmp) names
+
+both_below : (a c : Name) → slice_cmp nat_cmp a c ≡ Less → ¬ (slice_cmp nat_cmp c a ≡ Less)
+both_below a c below above = below_apart a a (nat_list_cmp_total.trans a c a below above) refl
+
+same_first : (a c : Name) (as' cs : List Name) → InOrder (a ∷ as') → InOrder (c ∷ cs) → Among a (c ∷ cs) → Among c (a ∷ as') → a ≡ c
+unfolding IsStrictlySortedBy
+same_first a c as' cs s t m n = elim (among_cases a c cs m) [
+  | inl e ↦ e
+  | inr later ↦ elim (among_cases c a as' n) [
+    | inl e ↦ sym e
+    | inr after ↦ absurd (both_below a c (among_all (λ y. slice_cmp nat_cmp a y ≡ Less) c as' s.0 after) (among_all (λ y. slice_cmp nat_cmp c y ≡ Less) a cs t.0 later))
+  ]
+]
+
+-- what stands behind the first stands behind it there too
+behind_too : (a c : Name) (as' cs : List Name) → a ≡ c → InOrder (a ∷ as') → (q : Name) → Among q as' → Among q (c ∷ cs) → Among q cs
+unfolding IsStrictlySortedBy
+behind_too a c as' cs same s q m n = elim (among_cases q c cs n) [
+  | inl e ↦ absurd (below_apart a q (among_all (λ y. slice_cmp nat_cmp a y ≡ Less) q as' s.0 m) (e ∙ sym same))
+  | inr later ↦ later
+]
+
+rest_in_order : (a : Name) (as' : List Name) → InOrder (a ∷ as') → InOrder as'
+unfolding IsStrictlySortedBy
+rest_in_order a as' s = s.1
+
+-- two such lists with the same names are one
+one_order : (as' cs : List Name) → InOrder as' → InOrder cs → ((q : Name) → Among q as' → Among q cs) → ((q : Name) → Among q cs → Among q as') → as' ≡ cs
+one_order [] [] s t there_too here_too = refl
+one_order [] (c ∷ cs) s t there_too here_too = absurd (among_none c (here_too c here))
+one_order (a ∷ as') [] s t there_too here_too = absurd (among_none a (there_too a here))
+one_order (a ∷ as') (c ∷ cs) s t there_too here_too =
+    let same = same_first a c as' cs s t (there_too a here) (here_too c here) in
+    let rest = one_order as' cs (rest_in_order a as' s) (rest_in_order c cs t)
+    (λ q m. behind_too a c as' cs same s q m (there_too q (there m)))
+    (λ q m. behind_too c a cs as' (sym same) t q m (here_too q (there m))) in
+    λ i. same i ∷ rest i
+
+-- ---- tests
+
+both_true : (x y : Bool) → (x && y) ≡ true → (x ≡ true) × (y ≡ true)
+both_true true y e = (refl, e)
+both_true false y e = absurd (false≢true e)
+
+true_both : (x y : Bool) → x ≡ true → y ≡ true → (x && y) ≡ true
+true_both x y e f = ap (λ b. b && y) e ∙ f
+
+module _ {X : Type 0} where
+  all_pass : (test : X → Bool) (xs : List X) → ((x : X) → Among x xs → test x ≡ true) → filter test xs ≡ xs
+  all_pass test [] h = refl
+  all_pass test (x ∷ xs) h = ap (λ b. cond b (x ∷ filter test xs) (filter test xs)) (h x here) ∙ ap (λ ys. x ∷ ys) (all_pass test xs (λ y m. h y (there m)))
+
+module _ (b : Basis) (valid : IsValid b.net) (keys : HaveKeys b.net b.keys) (a : Name) where
+  -- ---- the ports that have keys of the switch
+
+  abbrev ports : List (Name × ℕ)
+  ports = ports_on b.keys.ports a
+
+  -- each has its key in the records
+  port_on : (e : Name × ℕ) → Among e ports → (k : PortKey) × (at b.keys.ports e.0 ≡ Some k) × (k.datapath ≡ a) × (k.key ≡ e.1)
+  port_on e m =
+      let r = map_among (λ (k : Name × PortKey). (k.0, k.1.key)) e (filter (λ k. same_name a k.1.datapath) b.keys.ports) m in
+      let f = filter_among (λ (k : Name × PortKey). same_name a k.1.datapath) r.0 b.keys.ports r.1 in
+      let name : e.0 ≡ r.0.0 = ap (λ (p : Name × ℕ). p.0) r.2 in
+      (r.0.1, ap (λ q. at b.keys.ports q) name ∙ among_at r.0.0 r.0.1 b.keys.ports keys.hold.ports_in_order f.0, sym ((bytes_decides a r.0.1.datapath).0 f.1), sym (ap (λ (p : Name × ℕ). p.1) r.2))
+
+  on_ports : (q : Name) (k : PortKey) → at b.keys.ports q ≡ Some k → k.datapath ≡ a → Among (q, k.key) ports
+  on_ports q k has on =
+      among_map (λ (e : Name × PortKey). (e.0, e.1.key)) (q, k) (filter (λ e. same_name a e.1.datapath) b.keys.ports)
+      (among_filter (λ (e : Name × PortKey). same_name a e.1.datapath) (q, k) b.keys.ports (at_among b.keys.ports q k has) ((bytes_decides a k.datapath).1 (sym on)))
+
+  -- its record is one of the switch
+  record_on : (e : Name × ℕ) → Among e ports → (port : SwitchPort) × (at b.net.switch_ports e.0 ≡ Some port) × (port.switch ≡ a)
+  record_on e m =
+      let k = port_on e m in
+      by (at b.net.switch_ports e.0) refl (keys.port_of e.0 k.0 k.1)
+    where
+      by : (o : Option SwitchPort) → at b.net.switch_ports e.0 ≡ o → IsSome (at b.net.switch_ports e.0) → (port : SwitchPort) × (at b.net.switch_ports e.0 ≡ Some port) × (port.switch ≡ a)
+      by None is some = absurd (false≢true (sym (ap (λ p. is_some p) is) ∙ some))
+      by (Some port) is some =
+          let k = port_on e m in
+          let own = keys.port_has e.0 port is in
+          (port, is, sym own.3 ∙ ap (λ (p : PortKey). p.datapath) (same_Some own.0 k.0 (sym own.1 ∙ k.1)) ∙ k.2)
+
+  number_on : (e : Name × ℕ) → Among e ports → port_number b.keys e.0 ≡ Some e.1
+  number_on e m = let k = port_on e m in ap (λ (o : Option PortKey). option_map (λ p. p.key) o) k.1 ∙ ap (λ n. Some n) k.3
+
+  names_kept : (es : List (Name × PortKey)) → keys_of (map (λ e. (e.0, e.1.key)) es) ≡ keys_of es
+  names_kept [] = refl
+  names_kept (e ∷ es) = ap (λ ns. e.0 ∷ ns) (names_kept es)
+
+  ports_sorted : IsByName ports
+  ports_sorted = subst InOrder (sym (names_kept (filter (λ e. same_name a e.1.datapath) b.keys.ports))) (filter_sorted (λ e. same_name a e.1.datapath) b.keys.ports keys.hold.ports_in_order)
+
+  -- ---- the members of a group
+
+  module _ (group : Group) where
+    abbrev of_group : Name × SwitchPort → Bool
+    of_group e = same_name e.1.switch a && is_group_member group e.1
+
+    member_found : (q : Name) → Among q (members b.net a group) → Among q (keys_of (group_among b group ports))
+    member_found q m =
+        let r = map_among (λ (e : Name × SwitchPort). e.0) q (filter of_group b.net.switch_ports) m in
+        let f = filter_among of_group r.0 b.net.switch_ports r.1 in
+        let found : at b.net.switch_ports r.0.0 ≡ Some r.0.1 = among_at r.0.0 r.0.1 b.net.switch_ports valid.ports_sorted f.0 in
+        let both = both_true (same_name r.0.1.switch a) (is_group_member group r.0.1) f.1 in
+        let own = keys.port_has r.0.0 r.0.1 found in
+        let on = on_ports r.0.0 own.0 own.1 (own.3 ∙ (bytes_decides r.0.1.switch a).0 both.0) in
+        let kept = among_filter (λ (e : Name × ℕ). is_record_in group (at b.net.switch_ports e.0)) (r.0.0, own.0.key) ports on (ap (λ o. is_record_in group o) found ∙ both.1) in
+        subst (λ n. Among n (keys_of (group_among b group ports))) (sym r.2) (among_map (λ (e : Name × ℕ). e.0) (r.0.0, own.0.key) (group_among b group ports) kept)
+
+    found_member : (q : Name) → Among q (keys_of (group_among b group ports)) → Among q (members b.net a group)
+    found_member q m =
+        let r = map_among (λ (e : Name × ℕ). e.0) q (group_among b group ports) m in
+        let f = filter_among (λ (e : Name × ℕ). is_record_in group (at b.net.switch_ports e.0)) r.0 ports r.1 in
+        let port = record_on r.0 f.0 in
+        let both = true_both (same_name port.0.switch a) (is_group_member group port.0) ((bytes_decides port.0.switch a).1 port.2) (ap (λ o. is_record_in group o) (sym port.1) ∙ f.1) in
+        let kept = among_filter of_group (r.0.0, port.0) b.net.switch_ports (at_among b.net.switch_ports r.0.0 port.0 port.1) both in
+        subst (λ n. Among n (members b.net a group)) (sym r.2) (among_map (λ (e : Name × SwitchPort). e.0) (r.0.0, port.0) (filter of_group b.net.switch_ports) kept)
+
+    pub members_are : members b.net a group ≡ keys_of (group_among b group ports)
+    members_are =
+        one_order (members b.net a group) (keys_of (group_among b group ports)) (filter_sorted of_group b.net.switch_ports valid.ports_sorted)
+        (filter_sorted (λ e. is_record_in group (at b.net.switch_ports e.0)) ports ports_sorted) member_found found_member
+
+    -- as the flows of a chassis know them
+    here_same : (es : List (Name × ℕ)) → ((e : Name × ℕ) → Among e es → port_number b.keys e.0 ≡ Some e.1)
+        → map (λ q. member_of b q) (filter (λ q. is_at b.bindings q b.chassis) (keys_of es)) ≡ here_among b es
+    here_same [] numbers = refl
+    here_same (e ∷ es) numbers = by (is_at b.bindings e.0 b.chassis) (here_same es (λ f m. numbers f (there m)))
+      where
+        number : member_of b e.0 ≡ record { key = e.1; zone = unwrap_or (at b.zones e.0) 0 }
+        number = ap (λ o. record { key = unwrap_or o 0; zone = unwrap_or (at b.zones e.0) 0 }) (numbers e here)
+
+        by : (at_home : Bool) → map (λ q. member_of b q) (filter (λ q. is_at b.bindings q b.chassis) (keys_of es)) ≡ here_among b es
+            → map (λ q. member_of b q) (cond at_home (e.0 ∷ filter (λ q. is_at b.bindings q b.chassis) (keys_of es)) (filter (λ q. is_at b.bindings q b.chassis) (keys_of es)))
+            ≡ map (λ f. record { key = f.1; zone = unwrap_or (at b.zones f.0) 0 }) (cond at_home (e ∷ filter (λ f. is_at b.bindings f.0 b.chassis) es) (filter (λ f. is_at b.bindings f.0 b.chassis) es))
+        by true rest = λ i. number i ∷ rest i
+        by false rest = rest
+
+    pub here_are : members_here b a group ≡ here_among b (group_among b group ports)
+    here_are =
+        ap (λ ms. map (λ q. member_of b q) (filter (λ q. is_at b.bindings q b.chassis) ms)) members_are
+        ∙ here_same (group_among b group ports) (λ e m. number_on e (filter_among (λ (f : Name × ℕ). is_record_in group (at b.net.switch_ports f.0)) e ports m).0)
+
+    -- and their homes
+    bound_same : (c : Name) (es : List (Name × ℕ)) → list_any (λ q. is_at b.bindings q c) (keys_of es) ≡ list_any (λ home. same_name home c) (bound_among b es)
+    bound_same c [] = refl
+    bound_same c (e ∷ es) = by (at b.bindings e.0) (bound_same c es)
+      where
+        by : (o : Option Name) → list_any (λ q. is_at b.bindings q c) (keys_of es) ≡ list_any (λ home. same_name home c) (bound_among b es)
+            → (is_home o c || list_any (λ q. is_at b.bindings q c) (keys_of es)) ≡ list_any (λ home. same_name home c) (cons_option o (bound_among b es))
+        by None rest = rest
+        by (Some home) rest = ap (λ t. same_name home c || t) rest
+
+    pub homes_are : homes_of b a group ≡ others_among b (bound_among b (group_among b group ports))
+    homes_are =
+        ap (λ ms. filter (λ c. not (same_name c b.chassis) && list_any (λ q. is_at b.bindings q c) ms) b.all) members_are
+        ∙ (λ i. filter (λ c. not (same_name c b.chassis) && bound_same c (group_among b group ports) i) b.all)
+
+  -- all ports are members of the one group
+  pub flood_are : group_among b Flood ports ≡ ports
+  flood_are = all_pass (λ e. is_record_in Flood (at b.net.switch_ports e.0)) ports (λ e m. ap (λ o. is_record_in Flood o) (record_on e m).1)
+
+  pub taken_is : has_unknown b a ≡ nat_lt 0 (length (group_among b Unknown ports))
+  taken_is = ap (λ ms. nat_lt 0 (length ms)) (members_are Unknown) ∙ ap (λ n. nat_lt 0 n) (length-map (group_among b Unknown ports) (λ e. e.0))
+
+  -- the rows that the compiler adds for the switch
+  pub switch_rows_are : (dp : ℕ) (all unknown : List (Name × ℕ)) (flows : List Flow) → all ≡ ports → unknown ≡ group_among b Unknown all
+      → (((flows ++ ingress_rows dp (nat_lt 0 (length unknown))) ++ egress_rows dp) ++ group_rows dp Flood (others_among b (bound_among b all)) (here_among b all))
+      ++ group_rows dp Unknown (others_among b (bound_among b unknown)) (here_among b unknown) ≡ flows ++ switch_rows b a dp
+  switch_rows_are dp all unknown flows is_all is_unknown =
+      let mine : unknown ≡ group_among b Unknown ports = is_unknown ∙ ap (λ es. group_among b Unknown es) is_all in
+      let flood : all ≡ group_among b Flood ports = is_all ∙ sym flood_are in
+      let ingress : ingress_rows dp (nat_lt 0 (length unknown)) ≡ ingress_rows dp (has_unknown b a) = ap (λ es. ingress_rows dp (nat_lt 0 (length es))) mine ∙ ap (λ t. ingress_rows dp t) (sym taken_is) in
+      let of_flood : group_rows dp Flood (others_among b (bound_among b all)) (here_among b all) ≡ group_rows dp Flood (homes_of b a Flood) (members_here b a Flood) =
+      ap (λ es. group_rows dp Flood (others_among b (bound_among b es)) (here_among b es)) flood ∙ (λ i. group_rows dp Flood (sym (homes_are Flood) i) (sym (here_are Flood) i)) in
+      let of_unknown : group_rows dp Unknown (others_among b (bound_among b unknown)) (here_among b unknown) ≡ group_rows dp Unknown (homes_of b a Unknown) (members_here b a Unknown) =
+      ap (λ es. group_rows dp Unknown (others_among b (bound_among b es)) (here_among b es)) mine ∙ (λ i. group_rows dp Unknown (sym (homes_are Unknown) i) (sym (here_are Unknown) i)) in
+      (λ i. (((flows ++ ingress i) ++ egress_rows dp) ++ of_flood i) ++ of_unknown i)
+      ∙ append_assoc ((flows ++ ingress_rows dp (has_unknown b a)) ++ egress_rows dp) (group_rows dp Flood (homes_of b a Flood) (members_here b a Flood)) _
+      ∙ append_assoc (flows ++ ingress_rows dp (has_unknown b a)) (egress_rows dp) _
+      ∙ append_assoc flows (ingress_rows dp (has_unknown b a)) _

@@ -1,0 +1,118 @@
+-- The flows of a chassis, as a list: the rows that the compiler makes, in its order.
+use Rattle.std.specs.Prelude.{◌++◌, ℕ, Bool, true, false, ◌&&◌, not, cond, List, [], ◌∷◌, Some, None, Option, filter, filter_map, map, flat_map, unwrap_or}
+use Rattle.std.specs.List.{list_any}
+use Rattle.ovn_base.specs.declared.name.Name.{Name}
+use Rattle.ovn_base.specs.declared.stages.TheConstants.{ACL_TABLE, ADMIT_TABLE, ARP_TABLE, EGRESS_ACL_TABLE, EGRESS_SECURITY_TABLE, EGRESS_STATE_TABLE, EGRESS_TRACK_TABLE, LOOKUP_TABLE, OUTPUT_TABLE, PORT_SECURITY_TABLE, STATE_TABLE, TRACK_TABLE}
+use Rattle.flow_table.specs.declared.flow.Flow.{Flow}
+use Rattle.flow_table.specs.declared.flow.Member.{Member}
+use Rattle.ovn_base.specs.names.ByName.{at}
+use Rattle.ovn_base.specs.names.SameName.{same_name}
+use Rattle.nb_records.specs.declared.switch.PortAddress.{PortAddress}
+use Rattle.nb_records.specs.declared.switch.SwitchPort.{SwitchPort}
+use Rattle.physical_flows.specs.Addresses.{macs_in}
+use Rattle.net_model.specs.declared.crossing.Group.{Group}
+use Rattle.net_model.specs.declared.crossing.Group.TheVariants.{Flood, Unknown}
+use Rattle.physical_flows.specs.Homes.{is_at, is_group_member}
+use Rattle.physical_flows.specs.Numbers.{datapath_number, port_number}
+use Rattle.physical_flows.specs.Rows.{entry_row, arrival_row, pass_row, bad_source_row, vlan_row, flood_row, address_row, unknown_row, remote_row, spread_row, stay_row, home_row, copies_row, return_row, leave_row, output_row}
+use Rattle.physical_flows.specs.Stages.{Basis, members_here, homes_of, has_unknown}
+
+-- ---- switches
+
+-- the rows that let the packets of a switch in
+abbrev pub admit_rows : ℕ → List Flow
+admit_rows dp = pass_row dp ADMIT_TABLE PORT_SECURITY_TABLE ∷ vlan_row dp ∷ bad_source_row dp ∷ []
+
+-- those of the stages that each packet passes
+abbrev pub transit_rows : ℕ → List Flow
+transit_rows dp = pass_row dp PORT_SECURITY_TABLE TRACK_TABLE ∷ pass_row dp TRACK_TABLE ACL_TABLE ∷ pass_row dp ACL_TABLE STATE_TABLE ∷ pass_row dp STATE_TABLE ARP_TABLE ∷ pass_row dp ARP_TABLE LOOKUP_TABLE ∷ []
+
+-- those that look addresses up, but for the addresses of ports
+abbrev pub lookup_rows : ℕ → Bool → List Flow
+lookup_rows dp taken = unknown_row dp taken ∷ flood_row dp ∷ []
+
+-- all rows of a switch up to its look-up of addresses
+abbrev pub ingress_rows : ℕ → Bool → List Flow
+ingress_rows dp taken = admit_rows dp ++ transit_rows dp ++ lookup_rows dp taken
+
+-- and those after it
+abbrev pub egress_rows : ℕ → List Flow
+egress_rows dp = pass_row dp EGRESS_TRACK_TABLE EGRESS_ACL_TABLE ∷ pass_row dp EGRESS_ACL_TABLE EGRESS_STATE_TABLE ∷ pass_row dp EGRESS_STATE_TABLE EGRESS_SECURITY_TABLE ∷ pass_row dp EGRESS_SECURITY_TABLE OUTPUT_TABLE ∷ []
+
+-- those of a group
+abbrev pub group_rows : ℕ → Group → List Name → List Member → List Flow
+group_rows dp group homes members = spread_row dp group homes ∷ copies_row dp group false members ∷ copies_row dp group true members ∷ []
+
+abbrev pub switch_rows : Basis → Name → ℕ → List Flow
+switch_rows b a dp =
+    ingress_rows dp (has_unknown b a) ++ egress_rows dp
+    ++ group_rows dp Flood (homes_of b a Flood) (members_here b a Flood) ++ group_rows dp Unknown (homes_of b a Unknown) (members_here b a Unknown)
+
+abbrev pub switch_part : Basis → Name → Option ℕ → List Flow
+switch_part b a None = []
+switch_part b a (Some dp) = switch_rows b a dp
+
+-- ---- ports
+
+-- the rows of a port's addresses
+abbrev pub address_rows : ℕ → List PortAddress → ℕ → List Flow
+address_rows dp addresses key = map (λ mac. address_row dp mac key) (macs_in addresses)
+
+-- the rows of a port, wherever it is bound
+abbrev pub port_rows : ℕ → Name → SwitchPort → ℕ → List Flow
+port_rows dp q port key = return_row dp key ∷ output_row dp q key ∷ address_rows dp port.addresses key
+
+-- those on its home, where it has the zone: it comes in, and is reached
+abbrev pub local_rows : ℕ → Name → ℕ → ℕ → List Flow
+local_rows dp q key zone = entry_row q dp key zone ∷ home_row dp key zone ∷ []
+
+abbrev pub local_part : Option ℕ → ℕ → Name → ℕ → List Flow
+local_part None dp q key = []
+local_part (Some zone) dp q key = local_rows dp q key zone
+
+-- the rows of a port by its home: elsewhere than there it is reached through a tunnel
+abbrev pub bound_rows : Name → Option Name → Option ℕ → ℕ → Name → ℕ → List Flow
+bound_rows chassis None number dp q key = []
+bound_rows chassis (Some home) number dp q key = cond (same_name home chassis) (local_part number dp q key) (remote_row dp key home ∷ [])
+
+abbrev pub port_part : Basis → Name → SwitchPort → Option ℕ → Option ℕ → List Flow
+port_part b q port (Some dp) (Some key) = port_rows dp q port key ++ bound_rows b.chassis (at b.bindings q) (at b.zones q) dp q key
+port_part b q port (Some dp) None = []
+port_part b q port None key = []
+
+-- ---- the whole
+
+-- the rows that are no unit's
+abbrev pub common_rows : List Flow
+common_rows = arrival_row ∷ stay_row ∷ leave_row ∷ []
+
+-- the rows of all units
+abbrev pub table_flows : Basis → List Flow
+table_flows b =
+    common_rows ++ flat_map (λ e. switch_part b e.0 (datapath_number b.keys e.0)) b.net.switches
+    ++ flat_map (λ e. port_part b e.0 e.1 (datapath_number b.keys e.1.switch) (port_number b.keys e.0)) b.net.switch_ports
+
+-- ---- groups, among ports of a switch with their keys
+
+-- the record is one of the group
+abbrev pub is_record_in : Group → Option SwitchPort → Bool
+is_record_in group None = false
+is_record_in group (Some port) = is_group_member group port
+
+abbrev pub group_among : Basis → Group → List (Name × ℕ) → List (Name × ℕ)
+group_among b group ports = filter (λ e. is_record_in group (at b.net.switch_ports e.0)) ports
+
+-- those that are at home on this chassis, as its flows know them
+abbrev pub here_among : Basis → List (Name × ℕ) → List Member
+here_among b ports = map (λ e. record { key = e.1; zone = unwrap_or (at b.zones e.0) 0 }) (filter (λ e. is_at b.bindings e.0 b.chassis) ports)
+
+-- where they are at home
+abbrev pub bound_among : Basis → List (Name × ℕ) → List Name
+bound_among b ports = filter_map (λ e. at b.bindings e.0) ports
+
+-- the other chassis among these
+abbrev pub is_other_among : Basis → List Name → Name → Bool
+is_other_among b homes c = not (same_name c b.chassis) && list_any (λ home. same_name home c) homes
+
+abbrev pub others_among : Basis → List Name → List Name
+others_among b homes = filter (λ c. is_other_among b homes c) b.all

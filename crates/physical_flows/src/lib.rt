@@ -1,0 +1,6 @@
+//! The flows of the tables of a chassis: what the records, the keys and the homes of ports make of them.
+#![tactic(auto)]
+
+pub mod compile;
+mod priorities;
+mod rows;

@@ -1,0 +1,536 @@
+//! The flows that a chassis holds, row by row.
+ghost use Rattle.std.specs.Prelude.{◌≡◌, ◌++◌, [], ◌∷◌, map, IfOk, OnOk};
+ghost use Rattle.flow_table.specs.declared.flow.FlowOp.TheVariants.{Set, Go, Frame};
+ghost use Rattle.physical_flows.specs.GroupKeys.{group_key};
+ghost use Rattle.inet_packet.specs.Cubes.{any, exactly, everything};
+ghost use Rattle.physical_flows.specs.Rows.{on_entry, on_tunnel, on_datapath, on_address, on_exit, on_return, on_group, of_a_group, from_a_group, to_a_group, with_tag, arrived_is, flow_of, pass_row, remote_row, spread_row, copies_row, unknown_ops, address_row};
+ghost use Rattle.physical_flows.specs.TableList.{admit_rows, transit_rows, lookup_rows, ingress_rows, egress_rows, group_rows, address_rows, port_rows, local_rows, common_rows};
+
+use crate::priorities::{
+    ADDRESS_PRIORITY, BAD_SOURCE_PRIORITY, BASE_PRIORITY, FLOOD_PRIORITY, PHYSICAL_PRIORITY,
+    VLAN_PRIORITY,
+};
+use flow_table::flow::{Cause, Flow, FlowOp, Member};
+use inet_packet::cube::{Bits, Cube};
+use inet_packet::regs::{At, Reg};
+use nb_records::switch::{PortAddress, SwitchPort};
+use net_model::crossing::Group;
+use ovn_base::address::Mac;
+use ovn_base::limits::{FLOOD_KEY, UNKNOWN_KEY};
+use ovn_base::list::List;
+use ovn_base::memory::NoMemory;
+use ovn_base::name::Name;
+use ovn_base::stages::{
+    ACL_TABLE, ADMIT_TABLE, ARP_TABLE, EGRESS_ACL_TABLE, EGRESS_SECURITY_TABLE, EGRESS_STATE_TABLE,
+    EGRESS_TRACK_TABLE, ENTRY_TABLE, LOCAL_TABLE, LOOKUP_TABLE, LOOPBACK_TABLE, OUTPUT_TABLE,
+    PORT_SECURITY_TABLE, REMOTE_TABLE, STATE_TABLE, TRACK_TABLE,
+};
+use std::alloc::Global;
+
+// The lowest bit of an Ethernet address's first byte, which the addresses of groups have.
+const OF_A_GROUP: Bits = Bits {
+    value: 0x0100_0000_0000,
+    mask: 0x0100_0000_0000,
+};
+
+// The number of a group.
+fn number_of(group: Group) -> u16
+    ensures { result ≡ group_key group }
+{
+    match group {
+        Group::Flood => FLOOD_KEY,
+        Group::Unknown => UNKNOWN_KEY,
+    }
+}
+
+fn entry_cube(port: Name) -> Cube
+    ensures { result ≡ on_entry port }
+{
+    Cube {
+        at: Some(At::Local(port)),
+        ..Cube::EVERYTHING
+    }
+}
+
+fn tunnel_cube() -> Cube
+    ensures { result ≡ on_tunnel }
+{
+    Cube {
+        at: Some(At::Tunnel),
+        ..Cube::EVERYTHING
+    }
+}
+
+fn datapath_cube(dp: u32) -> Cube
+    ensures { result ≡ on_datapath dp }
+{
+    Cube {
+        dp: Bits::exactly(24, u64::from(dp)),
+        ..Cube::EVERYTHING
+    }
+}
+
+fn address_cube(dp: u32, mac: Mac) -> Cube
+    ensures { result ≡ on_address dp mac }
+{
+    Cube {
+        dp: Bits::exactly(24, u64::from(dp)),
+        eth_dst: Bits::exactly(48, mac.number()),
+        ..Cube::EVERYTHING
+    }
+}
+
+fn bad_source_cube(dp: u32) -> Cube
+    ensures { result ≡ from_a_group dp }
+{
+    Cube {
+        dp: Bits::exactly(24, u64::from(dp)),
+        eth_src: OF_A_GROUP,
+        ..Cube::EVERYTHING
+    }
+}
+
+fn flood_cube(dp: u32) -> Cube
+    ensures { result ≡ to_a_group dp }
+{
+    Cube {
+        dp: Bits::exactly(24, u64::from(dp)),
+        eth_dst: OF_A_GROUP,
+        ..Cube::EVERYTHING
+    }
+}
+
+fn vlan_cube(dp: u32) -> Cube
+    ensures { result ≡ with_tag dp }
+{
+    Cube {
+        dp: Bits::exactly(24, u64::from(dp)),
+        eth_type: Bits::exactly(16, 0x8100),
+        ..Cube::EVERYTHING
+    }
+}
+
+fn exit_cube(dp: u32, key: u16) -> Cube
+    ensures { result ≡ on_exit dp key }
+{
+    Cube {
+        dp: Bits::exactly(24, u64::from(dp)),
+        out_port: Bits::exactly(16, u64::from(key)),
+        ..Cube::EVERYTHING
+    }
+}
+
+fn return_cube(dp: u32, key: u16) -> Cube
+    ensures { result ≡ on_return dp key }
+{
+    Cube {
+        dp: Bits::exactly(24, u64::from(dp)),
+        in_port: Bits::exactly(16, u64::from(key)),
+        out_port: Bits::exactly(16, u64::from(key)),
+        flags: Bits { value: 0, mask: 1 },
+        ..Cube::EVERYTHING
+    }
+}
+
+fn group_cube(dp: u32, group: Group, arrived: bool) -> Cube
+    ensures { result ≡ on_group dp group arrived }
+{
+    let value = if arrived { 16 } else { 0 };
+    Cube {
+        dp: Bits::exactly(24, u64::from(dp)),
+        out_port: Bits::exactly(16, u64::from(number_of(group))),
+        flags: Bits { value, mask: 16 },
+        ..Cube::EVERYTHING
+    }
+}
+
+// Adds a flow of rank 0.
+fn push_flow(
+    table: u8,
+    priority: u16,
+    cube: Cube,
+    ops: List<FlowOp>,
+    flows: &mut List<Flow>,
+) -> Result<(), NoMemory>
+    ensures { OnOk result (flows.new ≡ flows.old ++ flow_of table priority cube ops ∷ []) }
+{
+    flows.push(Flow {
+        table,
+        priority,
+        rank: 0,
+        cube,
+        ops,
+        cookie: 0,
+    })
+}
+
+// Adds a flow with one action.
+fn push_one(
+    alloc: Global,
+    table: u8,
+    priority: u16,
+    cube: Cube,
+    op: FlowOp,
+    flows: &mut List<Flow>,
+) -> Result<(), NoMemory>
+    ensures { OnOk result (flows.new ≡ flows.old ++ flow_of table priority cube (op ∷ []) ∷ []) }
+{
+    let ops = List::from_vec(vec![in alloc; op]?);
+    push_flow(table, priority, cube, ops, flows)
+}
+
+// The actions that set a register and go on.
+fn set_and_go(alloc: Global, reg: Reg, value: u32, table: u8) -> Result<List<FlowOp>, NoMemory>
+    ensures { IfOk result (λ ops. ops ≡ Set reg value ∷ Go table ∷ []) }
+{
+    Ok(List::from_vec(vec![in alloc; FlowOp::Set { reg, value }, FlowOp::Go(table)]?))
+}
+
+// Adds the row of a stage that a packet passes where nothing else matches.
+fn push_pass(
+    alloc: Global,
+    dp: u32,
+    table: u8,
+    next: u8,
+    flows: &mut List<Flow>,
+) -> Result<(), NoMemory>
+    ensures { OnOk result (flows.new ≡ flows.old ++ pass_row dp table next ∷ []) }
+{
+    push_one(
+        alloc,
+        table,
+        BASE_PRIORITY,
+        datapath_cube(dp),
+        FlowOp::Go(next),
+        flows,
+    )
+}
+
+// What is done with a packet for an address that no port has.
+fn ops_of_unknown(alloc: Global, taken: bool) -> Result<List<FlowOp>, NoMemory>
+    ensures { IfOk result (λ ops. ops ≡ unknown_ops taken) }
+{
+    if taken {
+        set_and_go(
+            alloc,
+            Reg::OutPort,
+            u32::from(number_of(Group::Unknown)),
+            REMOTE_TABLE,
+        )
+    } else {
+        Ok(List::from_vec(vec![in alloc; FlowOp::Drop(Cause::UnknownAddress)]?))
+    }
+}
+
+// Adds the rows of a switch that let its packets in.
+fn push_admit(alloc: Global, dp: u32, flows: &mut List<Flow>) -> Result<(), NoMemory>
+    ensures { OnOk result (flows.new ≡ flows.old ++ admit_rows dp) }
+{
+    push_pass(alloc, dp, ADMIT_TABLE, PORT_SECURITY_TABLE, flows)?;
+    push_one(
+        alloc,
+        ADMIT_TABLE,
+        VLAN_PRIORITY,
+        vlan_cube(dp),
+        FlowOp::Drop(Cause::Vlan),
+        flows,
+    )?;
+    let drop = FlowOp::Drop(Cause::BadSource);
+    push_one(
+        alloc,
+        ADMIT_TABLE,
+        BAD_SOURCE_PRIORITY,
+        bad_source_cube(dp),
+        drop,
+        flows,
+    )
+}
+
+// Adds the rows of a switch that look addresses up, but for those of its ports.
+fn push_lookup(alloc: Global, dp: u32, taken: bool, flows: &mut List<Flow>) -> Result<(), NoMemory>
+    ensures { OnOk result (flows.new ≡ flows.old ++ lookup_rows dp taken) }
+{
+    let ops = ops_of_unknown(alloc, taken)?;
+    push_flow(LOOKUP_TABLE, BASE_PRIORITY, datapath_cube(dp), ops, flows)?;
+    let ops = set_and_go(
+        alloc,
+        Reg::OutPort,
+        u32::from(number_of(Group::Flood)),
+        REMOTE_TABLE,
+    )?;
+    push_flow(LOOKUP_TABLE, FLOOD_PRIORITY, flood_cube(dp), ops, flows)
+}
+
+// Adds the rows of the stages between them.
+fn push_transit(alloc: Global, dp: u32, flows: &mut List<Flow>) -> Result<(), NoMemory>
+    ensures { OnOk result (flows.new ≡ flows.old ++ transit_rows dp) }
+{
+    push_pass(alloc, dp, PORT_SECURITY_TABLE, TRACK_TABLE, flows)?;
+    push_pass(alloc, dp, TRACK_TABLE, ACL_TABLE, flows)?;
+    push_pass(alloc, dp, ACL_TABLE, STATE_TABLE, flows)?;
+    push_pass(alloc, dp, STATE_TABLE, ARP_TABLE, flows)?;
+    push_pass(alloc, dp, ARP_TABLE, LOOKUP_TABLE, flows)
+}
+
+/// Adds the rows of a switch up to its look-up of addresses. `taken` tells whether some port takes packets for addresses
+/// that no port has.
+pub fn push_ingress(
+    alloc: Global,
+    dp: u32,
+    taken: bool,
+    flows: &mut List<Flow>,
+) -> Result<(), NoMemory>
+    ensures { OnOk result (flows.new ≡ flows.old ++ ingress_rows dp taken) }
+{
+    push_admit(alloc, dp, flows)?;
+    push_transit(alloc, dp, flows)?;
+    push_lookup(alloc, dp, taken, flows)?;
+    Ok(())
+}
+
+/// Adds the rows of a switch after its look-up of addresses.
+pub fn push_egress(alloc: Global, dp: u32, flows: &mut List<Flow>) -> Result<(), NoMemory>
+    ensures { OnOk result (flows.new ≡ flows.old ++ egress_rows dp) }
+{
+    push_pass(alloc, dp, EGRESS_TRACK_TABLE, EGRESS_ACL_TABLE, flows)?;
+    push_pass(alloc, dp, EGRESS_ACL_TABLE, EGRESS_STATE_TABLE, flows)?;
+    push_pass(alloc, dp, EGRESS_STATE_TABLE, EGRESS_SECURITY_TABLE, flows)?;
+    push_pass(alloc, dp, EGRESS_SECURITY_TABLE, OUTPUT_TABLE, flows)
+}
+
+// The actions that send a frame to each of the chassis.
+fn frames_to(alloc: Global, homes: &[Name]) -> Result<List<FlowOp>, NoMemory>
+    ensures { IfOk result (λ ops. ops ≡ map (λ home. Frame home) homes.now) }
+{
+    let mut ops = List::new(alloc);
+    'homes: for home in homes {
+        ops.push(FlowOp::Frame(*home))?;
+    }
+    Ok(ops)
+}
+
+// Adds the row that sends a packet for a group to the other chassis that have a member.
+fn push_spread(
+    alloc: Global,
+    dp: u32,
+    group: Group,
+    homes: &[Name],
+    flows: &mut List<Flow>,
+) -> Result<(), NoMemory>
+    ensures { OnOk result (flows.new ≡ flows.old ++ spread_row dp group homes.now ∷ []) }
+{
+    let mut ops = frames_to(alloc, homes)?;
+    ops.push(FlowOp::Go(LOCAL_TABLE))?;
+    push_flow(
+        REMOTE_TABLE,
+        PHYSICAL_PRIORITY,
+        group_cube(dp, group, false),
+        ops,
+        flows,
+    )
+}
+
+// Adds the row that makes a copy for each member here.
+fn push_copies(
+    alloc: Global,
+    dp: u32,
+    group: Group,
+    arrived: bool,
+    members: &[Member],
+    flows: &mut List<Flow>,
+) -> Result<(), NoMemory>
+    ensures { OnOk result (flows.new ≡ flows.old ++ copies_row dp group arrived members.now ∷ []) }
+{
+    let copies = FlowOp::Copies(List::from_slice(alloc, members)?);
+    push_one(
+        alloc,
+        LOCAL_TABLE,
+        PHYSICAL_PRIORITY,
+        group_cube(dp, group, arrived),
+        copies,
+        flows,
+    )
+}
+
+/// Adds the rows of a group of a switch: `homes` are the other chassis that have a member, and `members` those that are here.
+pub fn push_group(
+    alloc: Global,
+    dp: u32,
+    group: Group,
+    homes: &[Name],
+    members: &[Member],
+    flows: &mut List<Flow>,
+) -> Result<(), NoMemory>
+    ensures { OnOk result (flows.new ≡ flows.old ++ group_rows dp group homes.now members.now) }
+{
+    push_spread(alloc, dp, group, homes, flows)?;
+    push_copies(alloc, dp, group, false, members, flows)?;
+    push_copies(alloc, dp, group, true, members, flows)
+}
+
+// Adds the row of an address of a port.
+fn push_address(
+    alloc: Global,
+    dp: u32,
+    mac: Mac,
+    key: u16,
+    flows: &mut List<Flow>,
+) -> Result<(), NoMemory>
+    ensures { OnOk result (flows.new ≡ flows.old ++ address_row dp mac key ∷ []) }
+{
+    let ops = set_and_go(alloc, Reg::OutPort, u32::from(key), REMOTE_TABLE)?;
+    push_flow(
+        LOOKUP_TABLE,
+        ADDRESS_PRIORITY,
+        address_cube(dp, mac),
+        ops,
+        flows,
+    )
+}
+
+// Adds the rows of a port's addresses.
+fn push_addresses(
+    alloc: Global,
+    dp: u32,
+    addresses: &List<PortAddress>,
+    key: u16,
+    flows: &mut List<Flow>,
+) -> Result<(), NoMemory>
+    ensures { OnOk result (flows.new ≡ flows.old ++ address_rows dp addresses.now key) }
+{
+    'addresses: for address in addresses.as_slice() {
+        match address {
+            PortAddress::Ether { mac, .. } => push_address(alloc, dp, *mac, key, flows)?,
+            PortAddress::Unknown | PortAddress::Router => {}
+        }
+    }
+    Ok(())
+}
+
+/// Adds the rows of a port, wherever it is bound.
+pub fn push_port(
+    alloc: Global,
+    dp: u32,
+    name: Name,
+    port: &SwitchPort,
+    key: u16,
+    flows: &mut List<Flow>,
+) -> Result<(), NoMemory>
+    ensures { OnOk result (flows.new ≡ flows.old ++ port_rows dp name port.now key) }
+{
+    let drop = FlowOp::Drop(Cause::Loopback);
+    push_one(
+        alloc,
+        LOOPBACK_TABLE,
+        PHYSICAL_PRIORITY,
+        return_cube(dp, key),
+        drop,
+        flows,
+    )?;
+    push_one(
+        alloc,
+        OUTPUT_TABLE,
+        PHYSICAL_PRIORITY,
+        exit_cube(dp, key),
+        FlowOp::Output(name),
+        flows,
+    )?;
+    push_addresses(alloc, dp, &port.addresses, key, flows)
+}
+
+/// Adds the row of a port that is at home on another chassis.
+pub fn push_remote(
+    alloc: Global,
+    dp: u32,
+    key: u16,
+    home: Name,
+    flows: &mut List<Flow>,
+) -> Result<(), NoMemory>
+    ensures { OnOk result (flows.new ≡ flows.old ++ remote_row dp key home ∷ []) }
+{
+    push_one(
+        alloc,
+        REMOTE_TABLE,
+        PHYSICAL_PRIORITY,
+        exit_cube(dp, key),
+        FlowOp::Frame(home),
+        flows,
+    )
+}
+
+/// Adds the rows of a port that is bound here.
+pub fn push_local(
+    alloc: Global,
+    dp: u32,
+    name: Name,
+    key: u16,
+    zone: u16,
+    flows: &mut List<Flow>,
+) -> Result<(), NoMemory>
+    ensures { OnOk result (flows.new ≡ flows.old ++ local_rows dp name key zone) }
+{
+    let entry = vec![in alloc;
+        set(Reg::Dp, dp),
+        set(Reg::InPort, u32::from(key)),
+        set(Reg::ZIn, u32::from(zone)),
+        FlowOp::Go(ADMIT_TABLE),
+    ]?;
+    push_flow(
+        ENTRY_TABLE,
+        PHYSICAL_PRIORITY,
+        entry_cube(name),
+        List::from_vec(entry),
+        flows,
+    )?;
+    let home = set_and_go(alloc, Reg::ZOut, u32::from(zone), LOOPBACK_TABLE)?;
+    push_flow(
+        LOCAL_TABLE,
+        PHYSICAL_PRIORITY,
+        exit_cube(dp, key),
+        home,
+        flows,
+    )
+}
+
+/// Adds the rows that are no unit's.
+pub fn push_common(alloc: Global, flows: &mut List<Flow>) -> Result<(), NoMemory>
+    ensures { OnOk result (flows.new ≡ flows.old ++ common_rows) }
+{
+    let on = FlowOp::Go(LOCAL_TABLE);
+    let arrival = vec![in alloc; FlowOp::Header, set(Reg::Arrived, 1), on]?;
+    push_flow(
+        ENTRY_TABLE,
+        PHYSICAL_PRIORITY,
+        tunnel_cube(),
+        List::from_vec(arrival),
+        flows,
+    )?;
+    push_one(
+        alloc,
+        REMOTE_TABLE,
+        BASE_PRIORITY,
+        Cube::EVERYTHING,
+        FlowOp::Go(LOCAL_TABLE),
+        flows,
+    )?;
+    let leave = vec![in alloc;
+        set(Reg::Tracked, 0),
+        set(Reg::State, 0),
+        set(Reg::Blocked, 0),
+        set(Reg::Verdict, 0),
+        FlowOp::Go(EGRESS_TRACK_TABLE),
+    ]?;
+    push_flow(
+        LOOPBACK_TABLE,
+        BASE_PRIORITY,
+        Cube::EVERYTHING,
+        List::from_vec(leave),
+        flows,
+    )
+}
+
+fn set(reg: Reg, value: u32) -> FlowOp
+    ensures { result ≡ Set reg value }
+{
+    FlowOp::Set { reg, value }
+}

@@ -1,0 +1,49 @@
+-- What the simulated chassis do with packets.
+use Rattle.std.specs.Prelude.{◌≡◌, ◌⊎◌, ℕ, zero, suc, false, List, [], ◌∷◌}
+use Rattle.ovn_base.specs.declared.name.Name.{Name}
+use Rattle.inet_packet.specs.Frame.{frame_of}
+use Rattle.inet_packet.specs.Whole.{IsWhole}
+use Rattle.inet_packet.specs.declared.packet.Packet as inet
+use Rattle.chassis_sim.specs.Passing.{IsArrived, IsInjected}
+use Rattle.chassis_sim.specs.State as sim
+use Rattle.chassis_sim.specs.declared.out.SimOut.{SimOut}
+use Rattle.chassis_sim.specs.declared.underlay.WaitingFrame.{WaitingFrame}
+use Rattle.sim_laws.specs.PacketSteps.{most_arrivals}
+
+-- the time of every event: no event moves the clock yet
+abbrev pub clock : ℕ
+clock = 0
+
+-- nothing came of it yet
+abbrev pub no_out : SimOut
+no_out = record { effects = []; walks = [] }
+
+-- the packet of the frame goes in at the port
+pub record GoesIn (s : sim.SimState) (p : Name) (frame : List ℕ) (before after : SimOut) (new : sim.SimState) : Type 0 where
+  pub packet : inet.Packet
+  pub whole : IsWhole packet
+  pub frame_is : frame_of packet ≡ frame
+  pub injected : IsInjected s p clock packet before after new
+
+-- the frame of the lowest number arrives, and then the others do
+pub record ArrivesFirst (s : sim.SimState) (before : SimOut) (Others : sim.SimState → SimOut → Type 0) : Type 0 where
+  pub n : ℕ
+  pub frame : WaitingFrame
+  pub behind : List (ℕ × WaitingFrame)
+  pub first : s.waiting ≡ (n, frame) ∷ behind
+  pub between : SimOut
+  pub mid : sim.SimState
+  pub arrives : IsArrived s n false clock before between mid
+  pub others : Others mid between
+
+-- the lowest frame arrives again and again, until none waits or so many arrived
+abbrev pub AreDrained : ℕ → sim.SimState → SimOut → SimOut → sim.SimState → Type 0
+AreDrained zero s before after new = (after ≡ before) × (new ≡ s)
+AreDrained (suc k) s before after new = ((s.waiting ≡ []) × (after ≡ before) × (new ≡ s)) ⊎ ArrivesFirst s before (λ mid between. AreDrained k mid between after new)
+
+-- the packet goes in, and then all that wait arrive
+pub record GoesThrough (s : sim.SimState) (p : Name) (frame : List ℕ) (after : SimOut) (new : sim.SimState) : Type 0 where
+  pub between : SimOut
+  pub mid : sim.SimState
+  pub goes_in : GoesIn s p frame no_out between mid
+  pub drained : AreDrained most_arrivals mid between after new

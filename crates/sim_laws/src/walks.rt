@@ -1,0 +1,31 @@
+//! What the tables of a chassis do with packets, and what the simulated chassis do. Each function does nothing: call it, and
+//! its clause is a fact of the call.
+ghost use Rattle.sim_laws.specs.Refinement.{ArrivalRefines, Begins, EntryRefines, Finishes};
+ghost use Rattle.sim_laws.specs.WalkLaw.{ArrivalLaw, EntryLaw, OneWalkLaw};
+
+/// What the tables of a chassis do with a packet from a port is what the logical network says.
+pub fn entry_law()
+    ensures { EntryLaw }
+{}
+
+/// What they do with the packet of a crossing is what the logical network says of its arrival.
+pub fn arrival_law()
+    ensures { ArrivalLaw }
+{}
+
+/// Through the flows of a chassis, in whatever order they are held, a packet takes one walk.
+pub fn one_walk()
+    ensures { OneWalkLaw }
+{}
+
+/// What the simulated chassis do with a packet, and with a frame that arrives, is a step of the network, whose state they hold
+/// afterwards.
+pub fn refinement()
+    ensures begins { Begins }
+    ensures enters { EntryRefines }
+    ensures arrives { ArrivalRefines }
+    ensures finishes { Finishes }
+{
+    entry_law();
+    arrival_law();
+}

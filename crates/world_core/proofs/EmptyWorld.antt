@@ -1,0 +1,134 @@
+-- The empty world is sound.
+use Rattle.world_core.specs.Untracked.{untracked}
+use Rattle.std.proofs.Common.{◌≡◌, ℕ, true, List, [], refl, arith}
+use Rattle.std.specs.List.Sorted.{IsStrictlySortedBy}
+use Rattle.std.proofs.lemmas.Option.{none-some}
+use Rattle.ovn_base.proofs.AmongLaws.{among_none}
+use Rattle.ovn_base.specs.declared.name.Name.{Name}
+use Rattle.chassis_sim.specs.State as sim
+use Rattle.chassis_sim.specs.State.{at_name, nothing_held}
+use Rattle.nb_records.specs.Network.{Network, empty_network}
+use Rattle.switch_engine.specs.declared.walk.Walk.{Walk}
+use Rattle.net_model.specs.declared.crossing.Crossing.{Crossing}
+use Rattle.tunnel_keys.specs.Keys.{Keys, IsKeys, no_keys}
+use Rattle.sim_laws.specs.Consistent.{IsConsistent}
+use Rattle.world_core.specs.StepParts.{new_world}
+use Rattle.tunnel_keys.proofs.Invariant.{none_hold}
+use Rattle.world_core.specs.WorldView.{IsSound}
+use Rattle.sim_laws.specs.Held.{AreHeld}
+use Rattle.physical_flows.specs.Valid.{IsValid}
+use Rattle.physical_flows.specs.RecordKeys.{HaveKeys}
+use Rattle.physical_flows.specs.Bindings.{AreBound}
+use Rattle.sim_laws.specs.Sound.{AreBorn, AreCrossings}
+use Rattle.net_model.specs.State.{empty}
+use Rattle.physical_flows.proofs.Found.{some_of}
+
+abbrev first_keys : Keys
+first_keys = no_keys 16777215 32767
+
+new_keys : IsKeys first_keys
+new_keys = none_hold 16777215 32767 (omega arith, omega arith) (omega arith, omega arith)
+
+new_valid : IsValid empty.config.net
+unfolding IsStrictlySortedBy
+new_valid = record {
+  switches_sorted = tt;
+  ports_sorted = tt;
+  switch_names = λ a switch e. absurd (none-some switch e);
+  port_names = λ q port e. absurd (none-some port e);
+  on_switch = λ q port e. absurd (none-some port e);
+  stations = λ q port mac e has. absurd (none-some port e);
+  once = λ q port e. absurd (none-some port e);
+  apart = λ p q ours theirs mac e f switch has also. absurd (none-some ours e);
+  ips_apart = λ p q ours theirs ip e f switch has also. absurd (none-some ours e);
+  built = record { others = refl; ports = λ q port e. absurd (none-some port e) };
+}
+
+new_have : HaveKeys empty.config.net first_keys
+new_have = record {
+  hold = new_keys;
+  datapath_has = λ a switch e. absurd (none-some switch e);
+  datapath_of = λ a k e. absurd (none-some k e);
+  port_has = λ q port e. absurd (none-some port e);
+  port_of = λ q k e. absurd (none-some k e);
+  datapath_range = refl;
+  port_range = refl;
+  no_retired_datapaths = refl;
+  no_retired_ports = refl;
+}
+
+new_bound : AreBound empty []
+unfolding IsStrictlySortedBy
+new_bound = record {
+  bindings_sorted = tt;
+  port_there = λ q c e. absurd (none-some c e);
+  chassis_there = λ q c e. absurd (none-some c e);
+  chassis_sorted = tt;
+  few_chassis = omega arith;
+  zones_sorted = tt;
+  has_zone = λ q c e. absurd (none-some c e);
+  zone_of = λ q z e. absurd (none-some z e);
+  zone_fits = λ q z e. absurd (none-some z e);
+  zones_apart = λ p q c z e f. absurd (none-some c e);
+}
+
+new_born : AreBorn empty
+new_born = record {
+  switches = λ a switch e. absurd (none-some switch e);
+  ports = λ q port e. absurd (none-some port e);
+  keys = record { datapaths = λ a among. absurd (among_none a among); ports = λ a among. absurd (among_none a among); port_datapaths = λ a among. absurd (among_none a among) };
+  none = λ _. refl;
+}
+
+new_crossings : AreCrossings empty
+unfolding IsStrictlySortedBy
+new_crossings = record {
+  in_order = tt;
+  below = λ n x among. absurd (among_none (n, x) among);
+  may = λ n x among. absurd (among_none (n, x) among);
+}
+
+new_consistent : IsConsistent empty []
+new_consistent = record {
+  valid = new_valid;
+  within = record { switches = omega arith; ports = omega arith };
+  keys = new_have;
+  bound = new_bound;
+  born = new_born;
+  on_the_way = record { crossings = new_crossings; few = omega arith; none = λ _. refl };
+  few = omega arith;
+}
+
+new_held : AreHeld empty [] new_world.sim
+new_held = record {
+  bindings = λ q. refl;
+  names = record { datapaths = λ a k e. absurd (none-some k e); ports = λ q p k e f. absurd (none-some p e) };
+  held = λ c. (λ h. let s = some_of (at_name new_world.sim.chassis c) h in absurd (none-some s.0 s.1), λ h. absurd (among_none c h));
+  flows = λ c flows e. absurd (none-some flows e);
+  waiting = refl;
+  next = refl;
+}
+
+pub new_sound : IsSound new_world
+new_sound = record { whole = refl; consistent = new_consistent; held = new_held }
+
+-- and so is one that is made of empty parts
+pub starts_sound : (net : Network) (chassis : List Name) (bindings : List (Name × Name)) (keys : Keys) (zones : List (Name × ℕ)) (s : sim.SimState) (crossings : List (ℕ × Crossing)) (walks : List Walk)
+    → net ≡ empty_network → chassis ≡ [] → bindings ≡ [] → keys ≡ first_keys → zones ≡ [] → s ≡ nothing_held → crossings ≡ [] → walks ≡ []
+    → IsSound (record {
+      state = record {
+        config = record { net = net; chassis = chassis; bindings = bindings };
+        keys = keys;
+        lists = untracked (record { net = net; chassis = chassis; bindings = bindings });
+        waiting = crossings;
+        next = s.next;
+        clock = 0;
+        accepted = 0;
+        refused = 0;
+      };
+      zones = zones;
+      sim = s;
+      walks = walks;
+      whole = true;
+    })
+starts_sound net chassis bindings keys zones s crossings walks e f g h i j k l = rw (e, f, g, h, i, j, k, l) new_sound

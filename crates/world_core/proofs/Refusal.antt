@@ -1,0 +1,120 @@
+-- What stands where an event is refused, and once an event is over.
+use Rattle.std.specs.Prelude.{◌≡◌, ◌<◌, ◌+◌, ◌^◌, ℕ, true, false, List, [], length, refl}
+use Rattle.std.proofs.Common.{arith, sym, ap, ◌∙◌, ◌++◌, drop, take-append-drop}
+use Rattle.ovn_base.specs.declared.name.Name.{Name}
+use Rattle.chassis_sim.specs.State as sim
+use Rattle.edit_reader.specs.declared.event.Event.{Event}
+use Rattle.event_lines.specs.declared.refusal.Refusal.{Refusal}
+use Rattle.event_lines.specs.Text.{StartsWith}
+use Rattle.switch_engine.specs.declared.walk.Walk.{Walk}
+use Rattle.tunnel_keys.proofs.Births.{born_later}
+use Rattle.world_core.specs.Outcome.{IsAccepted, IsRefused}
+use Rattle.world_core.specs.StepParts.{IsTaken}
+use Rattle.world_core.specs.WorldView.{WorldView, IsSound}
+use Rattle.sim_laws.specs.Held.{AreHeld}
+use Rattle.sim_laws.specs.Sound.{MayWait}
+use Rattle.net_model.specs.State.{State, event_count}
+use Rattle.net_model.specs.declared.crossing.Crossing.{Crossing}
+
+-- the same state with one refused event more
+abbrev one_refused : State → State
+one_refused m = record m { refused = m.refused + 1 }
+
+may_wait : (m : State) (x : Crossing) → MayWait m x → MayWait (one_refused m) x
+may_wait m x w = record {
+  whole = w.whole;
+  datapath_key = w.datapath_key;
+  in_key = w.in_key;
+  aim_key = w.aim_key;
+  in_live = w.in_live;
+  aim_live = w.aim_live;
+  no_return = w.no_return;
+}
+
+held_on : (m : State) (zones : List (Name × ℕ)) (s : sim.SimState) → AreHeld m zones s → AreHeld (one_refused m) zones s
+held_on m zones s h = record {
+  bindings = h.bindings;
+  names = record { datapaths = h.names.datapaths; ports = h.names.ports };
+  held = h.held;
+  flows = h.flows;
+  waiting = h.waiting;
+  next = h.next;
+}
+
+-- a refused event changes nothing but the number of refused ones
+pub refused_taken : (w : WorldView) → IsTaken w → event_count w.state < 2 ^ 42 → IsTaken (record w { state = record w.state { refused = w.state.refused + 1 }; walks = [] })
+refused_taken w taken room =
+    let m = w.state in
+    let now = taken.consistent in
+    let sent = now.on_the_way.few in
+    record {
+      consistent = record {
+        valid = now.valid;
+        within = now.within;
+        keys = now.keys;
+        bound = record {
+          bindings_sorted = now.bound.bindings_sorted;
+          port_there = now.bound.port_there;
+          chassis_there = now.bound.chassis_there;
+          chassis_sorted = now.bound.chassis_sorted;
+          few_chassis = now.bound.few_chassis;
+          zones_sorted = now.bound.zones_sorted;
+          has_zone = now.bound.has_zone;
+          zone_of = now.bound.zone_of;
+          zone_fits = now.bound.zone_fits;
+          zones_apart = now.bound.zones_apart;
+        };
+        born = record {
+          switches = λ a switch is. let b = now.born.switches a switch is in omega (arith, b);
+          ports = λ q port is. let b = now.born.ports q port is in omega (arith, b);
+          keys = born_later m.keys (event_count m) (event_count (record m { refused = m.refused + 1 })) (omega arith) now.born.keys;
+          none = now.born.none;
+        };
+        on_the_way = record {
+          crossings = record {
+            in_order = now.on_the_way.crossings.in_order;
+            below = now.on_the_way.crossings.below;
+            may = λ n x among. may_wait m x (now.on_the_way.crossings.may n x among);
+          };
+          few = omega (arith, sent);
+          none = now.on_the_way.none;
+        };
+        few = omega (arith, room);
+      };
+      held = held_on m w.zones w.sim taken.held;
+      taken = taken.taken;
+    }
+
+-- the mark of an event that is taken plays no part in what it does
+pub accepted_marked : (old mid : WorldView) (event : Event) (before after : List ℕ) → IsAccepted (record old { whole = false }) event before after mid → IsTaken mid → IsAccepted old event before after (record mid { whole = true }) × IsSound (record mid { whole = true })
+accepted_marked old mid event before after done taken = (
+  record { admitted = done.admitted; effects = done.effects; step = done.step; passed = done.passed; zones = done.zones; text = done.text },
+  record { whole = refl; consistent = taken.consistent; held = taken.held },
+)
+
+pub refused_marked : (old mid : WorldView) (event : Event) (why : Refusal) (before after : List ℕ) → old.whole ≡ true → IsRefused (record old { whole = false }) event why before after mid → IsTaken mid
+    → IsRefused old event why before after (record mid { whole = true }) × IsSound (record mid { whole = true })
+refused_marked old mid event why before after was done taken = (
+  record {
+    first = done.first;
+    kept = ap (λ (w : WorldView). record w { whole = true }) done.kept ∙ ap (λ b. record old { state = record old.state { refused = old.state.refused + 1 }; walks = []; whole = b }) (sym was);
+    text = done.text;
+  },
+  record { whole = refl; consistent = taken.consistent; held = taken.held },
+)
+
+-- once it is done, the world is sound
+pub sound_again : (w : WorldView) (walks : List Walk) → IsTaken w → IsSound (record w { walks = walks; whole = true })
+sound_again w walks taken = record { whole = refl; consistent = taken.consistent; held = taken.held }
+
+-- after want of memory the world isn't sound
+pub half_done : (w : WorldView) → ¬ IsSound (record w { whole = false })
+half_done w sound = let h : false ≡ true = sound.whole in cc
+
+-- and the text has what it had at its front
+pub front_kept : (before after : List ℕ) → StartsWith after before → (more : List ℕ) × (after ≡ before ++ more)
+front_kept before after h = (drop (length before) after, sym (take-append-drop (length before) after) ∙ ap (λ l. l ++ drop (length before) after) h)
+
+-- the same state again, taken
+pub taken_of : (w : WorldView) → IsSound w → IsTaken (record w { whole = false })
+taken_of w sound = record { consistent = sound.consistent; held = sound.held; taken = refl }
