@@ -1,9 +1,12 @@
 use crate::top::ovnsim;
+use flow_table::lookup::Lookup;
 use ovn_base::memory::NoMemory;
 use ovn_base::memory_sink::MemorySink;
 use ovn_base::memory_source::MemorySource;
 use std::alloc::Global;
 use std::test::Fail;
+use tuple_space::space::TupleSpace;
+use world_core::held::Held;
 
 // ---- worked inputs
 
@@ -428,5 +431,13 @@ fn a_chassis_beside_64_is_refused(rt: HostRuntime) -> Result<(), Fail> {
     let end =
         b"64 ok walks=0\n65 refused Limit chassis\n66 refused DuplicateName c1\nend events=66 accepted=64 refused=2 waiting=0\n";
     assert!(rt; sink.bytes().ends_with(end));
+    Ok(())
+}
+
+// What holds the flows of the world's chassis is the classifier by masks.
+#[test]
+fn chassis_hold_flows_by_masks(rt: HostRuntime) -> Result<(), Fail> {
+    let held: Held = TupleSpace::new(rt.alloc())?;
+    assert!(rt; held.flow(0).is_none());
     Ok(())
 }

@@ -1,5 +1,4 @@
 -- Lemmas.
-pub mod AllTables
 pub mod FlowsOnce
 pub mod Found
 pub mod KeyLaws

@@ -5,7 +5,6 @@ pub mod Built
 pub mod ChassisFlows
 pub mod Compiling
 pub mod GroupKeys
-pub mod Holding
 pub mod Homes
 pub mod Numbers
 pub mod RecordKeys

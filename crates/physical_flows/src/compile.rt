@@ -2,7 +2,6 @@
 ghost use Rattle.std.specs.Prelude.{◌≡◌, ◌++◌, IfOk, OnOk};
 ghost use Rattle.std.specs.List.{list_any};
 ghost use Rattle.ovn_base.specs.names.ByName.{at};
-ghost use Rattle.ovn_base.specs.lists.Once.{EachOnce};
 ghost use Rattle.ovn_base.specs.names.SameName.{same_name};
 ghost use Rattle.nb_records.specs.Switches.{takes_unknown, is_unknown};
 ghost use Rattle.net_model.specs.declared.crossing.Group.TheVariants.{Unknown};
@@ -11,7 +10,6 @@ ghost use Rattle.physical_flows.specs.TableList.{table_flows, group_rows, switch
 ghost use Rattle.physical_flows.specs.Tables.{TableFlow};
 ghost use Rattle.physical_flows.specs.Compiling.{basis_of};
 ghost use Rattle.physical_flows.specs.Numbers.{datapath_number, port_number};
-ghost use Rattle.physical_flows.specs.Holding.{HaveSame};
 ghost use Rattle.physical_flows.specs.Valid.{IsValid};
 ghost use Rattle.physical_flows.specs.RecordKeys.{HaveKeys};
 ghost use Rattle.physical_flows.specs.ChassisFlows.{AreExactly};
@@ -20,12 +18,9 @@ use crate::rows::{
     push_common, push_egress, push_group, push_ingress, push_local, push_port, push_remote,
 };
 use flow_table::flow::{Flow, Member};
-use flow_table::lookup::Lookup;
-use flow_table::tables::Tables;
 use nb_records::records::Records;
 use nb_records::switch::{PortAddress, SwitchPort};
 use net_model::crossing::Group;
-use ovn_base::delta::Delta;
 use ovn_base::list::List;
 use ovn_base::memory::NoMemory;
 use ovn_base::name::Name;
@@ -220,8 +215,8 @@ impl Maps<'_> {
         self.push_bound(alloc, datapath, name, key, flows)
     }
 
-    /// The flows of the chassis.
-    pub fn compile(&self, alloc: Global) -> Result<List<Flow>, NoMemory>
+    // The flows of the chassis, row by row.
+    fn listed(&self, alloc: Global) -> Result<List<Flow>, NoMemory>
         requires valid { IsValid (basis_of self.now).net }
         requires keys { HaveKeys (basis_of self.now).net (basis_of self.now).keys }
         ensures { IfOk result (λ flows. flows ≡ table_flows (basis_of self.now)) }
@@ -237,15 +232,14 @@ impl Maps<'_> {
         Ok(flows)
     }
 
-    /// Tables that hold the flows of the chassis.
-    pub fn tables(&self, alloc: Global) -> Result<Tables, NoMemory>
+    /// The flows of the chassis, each once.
+    pub fn compile(&self, alloc: Global) -> Result<List<Flow>, NoMemory>
         requires valid { IsValid (basis_of self.now).net }
         requires keys { HaveKeys (basis_of self.now).net (basis_of self.now).keys }
-        ensures { IfOk result (λ tables. AreExactly (TableFlow (basis_of self.now)) tables.flows) }
+        ensures { IfOk result (AreExactly (TableFlow (basis_of self.now))) }
     {
-        let flows = self.compile(alloc)?;
-        let tables = tables_of(alloc, flows)?;
-        Ok(tables)
+        let flows = self.listed(alloc)?;
+        Ok(flows)
     }
 }
 
@@ -270,20 +264,4 @@ fn has_name(names: &[Name], name: &Name) -> bool
     ensures { result ≡ list_any (λ other. same_name other name.now) names.now }
 {
     names.iter().any(|other| *other == *name)
-}
-
-// Tables that hold these flows.
-fn tables_of(alloc: Global, flows: List<Flow>) -> Result<Tables, NoMemory>
-    requires { EachOnce flows }
-    ensures { IfOk result (λ tables. HaveSame flows tables.flows) }
-{
-    let mut tables = Tables::new(alloc)?;
-    let delta = Delta {
-        added: flows,
-        removed: List::new(alloc),
-    };
-    tables.prepare(&delta)?;
-    tables.replace(delta);
-    let _first = tables.flow(0);
-    Ok(tables)
 }

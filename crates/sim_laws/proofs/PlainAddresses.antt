@@ -1,23 +1,21 @@
 -- Who has an Ethernet address in a plain network, and to whom a packet for it goes.
-use Rattle.std.specs.Prelude.{◌≡◌, ◌≢◌, ◌⊎◌, ◌&&◌, Bool, true, false, List, [], ◌∷◌, Option, Some, None, option_map, cond, refl}
+use Rattle.std.specs.Prelude.{◌≡◌, ◌≢◌, Bool, true, false, List, [], ◌∷◌, Option, Some, None, option_map, cond, refl}
 use Rattle.std.proofs.Common.{sym, ap, ◌∙◌, subst}
-use Rattle.std.proofs.Math.Dec.{eqb as nat_eq}
-use Rattle.std.proofs.lemmas.Bool.{false≢true, cases_Bool}
+use Rattle.std.proofs.lemmas.Bool.{false≢true}
 use Rattle.std.proofs.lemmas.Bool.Decides.{Decides-eqb}
 use mathlib.Core.Logic.{inl, inr}
-use Rattle.std.specs.List.{filter, filter_map, find}
+use Rattle.std.specs.List.{filter_map, find}
 use Rattle.std.specs.Map.{values_of}
 use Rattle.std.specs.Option.{option_and_then}
 use Rattle.inet_packet.specs.declared.packet.Packet.{Packet}
 use Rattle.nb_records.specs.Network.{Network}
-use Rattle.nb_records.specs.Switches.{same_mac, switch_ports_of, enabled_ports, router_port_behind, entry_mac, macs_of, has_mac}
-use Rattle.nb_records.specs.declared.router.RouterPort.{RouterPort}
+use Rattle.nb_records.specs.Switches.{same_mac, switch_ports_of, enabled_ports, entry_mac, macs_of, has_mac}
 use Rattle.nb_records.specs.declared.switch.PortAddress.{PortAddress}
 use Rattle.nb_records.specs.declared.switch.SwitchPort.{SwitchPort}
-use Rattle.net_model.specs.Targets.{Target, to_one, to_group, to_nobody, members, group_if, flood_target, known_target, unknown_target}
+use Rattle.net_model.specs.Targets.{Target, to_one, to_group, to_nobody, members, group_if, known_target, unknown_target}
 use Rattle.net_model.specs.Trail.{first_given, given_or}
 use Rattle.net_model.specs.declared.crossing.Group.TheVariants.{Flood, Unknown}
-use Rattle.ovn_base.proofs.AmongLaws.{among_cases, among_map, among_filter, among_filter_map, filter_map_among, among_any, any_among, filter_among}
+use Rattle.ovn_base.proofs.AmongLaws.{among_cases, among_map, among_filter, among_filter_map, filter_map_among, among_any, any_among}
 use Rattle.ovn_base.proofs.ByNameLaws.{at_among}
 use Rattle.ovn_base.proofs.Exact.{nat_exact}
 use Rattle.ovn_base.specs.addresses.EtherAddress.{is_multicast_mac, same_ether}
@@ -27,7 +25,7 @@ use Rattle.ovn_base.specs.lists.Among.{Among, here, there}
 use Rattle.ovn_base.specs.names.ByName.{at}
 use Rattle.ovn_base.specs.names.SameName.{same_name}
 use Rattle.tunnel_keys.specs.Same.{name_exact, name_own}
-use Rattle.sim_laws.proofs.PlainPorts.{plain_port, IsPortOf, of_enabled}
+use Rattle.sim_laws.proofs.PlainPorts.{plain_port, of_enabled}
 use Rattle.physical_flows.specs.Built.{is_plain_port, IsPlain}
 use Rattle.sim_laws.specs.PlainWays.{plain_target}
 

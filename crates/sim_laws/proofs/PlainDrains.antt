@@ -1,5 +1,5 @@
 -- Journeys in a plain network, step by step.
-use Rattle.std.specs.Prelude.{◌≡◌, ◌⊎◌, ◌++◌, ℕ, zero, suc, Bool, true, false, List, [], ◌∷◌, Option, Some, None, cond, refl}
+use Rattle.std.specs.Prelude.{◌≡◌, ◌++◌, ℕ, zero, suc, Bool, true, false, List, [], ◌∷◌, Option, Some, None, cond, refl}
 use Rattle.std.proofs.Common.{sym, ap, ◌∙◌, append_assoc, append-nil, subst}
 use Rattle.std.proofs.lemmas.Bool.{cond-true}
 use mathlib.Core.Logic.{inl, inr}
@@ -11,7 +11,7 @@ use Rattle.inet_packet.specs.declared.packet.Packet.{Packet}
 use Rattle.nb_records.specs.declared.switch.SwitchPort.{SwitchPort}
 use Rattle.net_model.specs.Config.{is_chassis}
 use Rattle.net_model.specs.Entry.{Scene}
-use Rattle.net_model.specs.Journey.{Journey, Scenes, waiting_at, kept_or_not, comes, drain_from, drain, drain_all, Traffic, enter_one, arrive_one, lose_one, arrive_all, enter_and_arrive, enter_by, enter_on, enter_at, scene_at, scenes_of, places_of, journey_of, ended_journey, Travels}
+use Rattle.net_model.specs.Journey.{Journey, waiting_at, kept_or_not, comes, drain_from, drain, drain_all, Traffic, enter_one, arrive_one, lose_one, arrive_all, enter_and_arrive, enter_by, enter_on, enter_at, scene_at, scenes_of, places_of, journey_of, ended_journey, Travels}
 use Rattle.net_model.specs.State.{State}
 use Rattle.net_model.specs.Trail.{Trail, End}
 use Rattle.net_model.specs.declared.crossing.Crossing.{Crossing}
@@ -20,7 +20,7 @@ use Rattle.ovn_base.specs.declared.name.Name.{Name}
 use Rattle.ovn_base.specs.names.ByName.{at}
 use Rattle.sim_laws.proofs.PlainTravels.{went_in, came, scenes_plain, plainly_travels}
 use Rattle.physical_flows.specs.Built.{IsPlain}
-use Rattle.sim_laws.specs.PlainJourneys.{with_ends, went, sent_on, with_kept, ComesFirst, Drains}
+use Rattle.sim_laws.specs.PlainJourneys.{with_ends, went, sent_on, with_kept, Drains}
 use Rattle.sim_laws.specs.PlainWays.{visit_ends, arrival_ends}
 
 -- the journey whose trail is this, with the crossings of the state

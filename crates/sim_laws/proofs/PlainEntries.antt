@@ -1,5 +1,5 @@
 -- The ends of a packet that enters by a plain port, cause by cause.
-use Rattle.std.specs.Prelude.{◌≡◌, Bool, true, false, not, List, [], ◌∷◌, Option, Some, None, cond, refl}
+use Rattle.std.specs.Prelude.{◌≡◌, Bool, true, false, not, [], ◌∷◌, Option, Some, cond}
 use Rattle.std.proofs.Common.{ap, ◌∙◌}
 use Rattle.flow_table.specs.declared.flow.Cause.{Cause}
 use Rattle.flow_table.specs.declared.flow.Cause.TheVariants as cause
@@ -8,7 +8,7 @@ use Rattle.nb_records.specs.declared.switch.SwitchPort.{SwitchPort}
 use Rattle.net_model.specs.Entry.{Scene, admission}
 use Rattle.net_model.specs.Headers.{carries_arp, is_tagged}
 use Rattle.net_model.specs.Targets.{Target, target_of}
-use Rattle.net_model.specs.Trail.{End, first_cause}
+use Rattle.net_model.specs.Trail.{first_cause}
 use Rattle.ovn_base.specs.addresses.EtherAddress.{is_multicast_mac}
 use Rattle.sim_laws.proofs.PlainPorts.{plain_port}
 use Rattle.sim_laws.proofs.PlainTargets.{target_is_plain}

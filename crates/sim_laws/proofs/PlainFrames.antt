@@ -1,5 +1,5 @@
 -- The Ethernet type of a whole packet stands in its frame.
-use Rattle.std.specs.Prelude.{◌≡◌, ◌≢◌, ℕ, ◌+◌, ◌*◌, ◌/◌, ◌%◌, ◌^◌, ◌<◌, ◌++◌, ◌==◌, Bool, true, false, List, slice_index, refl}
+use Rattle.std.specs.Prelude.{◌≡◌, ◌≢◌, ℕ, ◌+◌, ◌*◌, ◌/◌, ◌%◌, ◌^◌, ◌<◌, ◌++◌, false, List, slice_index, refl}
 use Rattle.std.proofs.Common.{sym, ap, ◌∙◌, get_or, drop, arith}
 use Rattle.std.proofs.Math.Dec.{lit<}
 use Rattle.std.proofs.lemmas.Bool.{cases_Bool}
@@ -11,7 +11,7 @@ use Rattle.inet_packet.specs.Whole.{IsWhole, IsWholeBody}
 use Rattle.inet_packet.specs.declared.packet.Body.{Body}
 use Rattle.inet_packet.specs.declared.packet.Body.TheVariants.{Arp, Ip4, Other}
 use Rattle.inet_packet.specs.declared.packet.Packet.{Packet}
-use Rattle.net_model.specs.Headers.{carries_arp, carries_ip4}
+use Rattle.net_model.specs.Headers.{carries_arp}
 use Rattle.ovn_base.proofs.Exact.{nat_exact}
 
 pub record HasType (body : Body) (tail : List ℕ) : Type 0 where

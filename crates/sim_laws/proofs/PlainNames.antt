@@ -1,17 +1,16 @@
 -- Groups of a plain network and their homes, by the names of ports.
-use Rattle.std.specs.Prelude.{◌≡◌, ◌++◌, ◌&&◌, ◌||◌, ℕ, Bool, true, false, not, List, [], ◌∷◌, map, Option, Some, None, option_map, cond, refl}
+use Rattle.std.specs.Prelude.{◌≡◌, ◌&&◌, ◌||◌, ℕ, Bool, true, false, not, List, [], ◌∷◌, map, Option, Some, None, option_map, cond, refl}
 use Rattle.std.proofs.Common.{sym, ap, ◌∙◌, subst}
-use Rattle.std.proofs.Math.Dec.{eqb as nat_eq}
 use Rattle.std.specs.List.{filter, list_any}
 use Rattle.std.specs.Map.{keys_of, values_of}
 use Rattle.inet_packet.specs.declared.packet.Packet.{Packet}
 use Rattle.nb_records.specs.Network.{Network}
-use Rattle.nb_records.specs.Switches.{takes_unknown, switch_ports_of, enabled_ports}
+use Rattle.nb_records.specs.Switches.{takes_unknown, enabled_ports}
 use Rattle.nb_records.specs.declared.switch.Switch.{Switch}
 use Rattle.nb_records.specs.declared.switch.PortKind.{PortKind}
 use Rattle.nb_records.specs.declared.switch.SwitchPort.{SwitchPort}
 use Rattle.net_model.specs.Arrival.{is_that_switch, is_switch, is_reached, port_reached, members_reached}
-use Rattle.net_model.specs.Config.{Config, Home, nowhere, on, home_if, home_by_kind, home_of, is_on, is_here, port_identity, switch_identity}
+use Rattle.net_model.specs.Config.{Config, on, home_if, home_by_kind, home_of, is_on, is_here, port_identity}
 use Rattle.net_model.specs.Entry.{Scene}
 use Rattle.net_model.specs.Spread.{other_homes, local_members}
 use Rattle.net_model.specs.Targets.{members, is_other}
@@ -27,7 +26,7 @@ use Rattle.ovn_base.specs.names.ByName.{at}
 use Rattle.ovn_base.specs.names.SameName.{same_name}
 use Rattle.tunnel_keys.specs.Same.{same_birth, same_identity, name_exact, name_own}
 use Rattle.tunnel_keys.specs.declared.owner.Identity.{Identity}
-use Rattle.sim_laws.proofs.PlainPorts.{plain_port, EachPlain, IsPortOf, of_group, members_plain}
+use Rattle.sim_laws.proofs.PlainPorts.{plain_port, EachPlain, of_group, members_plain}
 use Rattle.physical_flows.specs.Built.{is_plain_port, IsPlain}
 use Rattle.sim_laws.specs.PlainWays.{copies_by, ends_at_port}
 

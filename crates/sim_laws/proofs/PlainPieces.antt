@@ -1,5 +1,5 @@
 -- In a plain network a packet passes each port, in and out, and leaves by it.
-use Rattle.std.specs.Prelude.{◌≡◌, ◌&&◌, ◌||◌, ◌++◌, Bool, true, false, not, List, [], ◌∷◌, map, Option, Some, None, cond, refl}
+use Rattle.std.specs.Prelude.{◌≡◌, ◌&&◌, ◌||◌, Bool, true, false, not, List, [], ◌∷◌, Option, Some, None, refl}
 use Rattle.std.proofs.Common.{sym, ap, ◌∙◌, append_assoc, append-nil}
 use Rattle.std.specs.List.{filter, list_any}
 use Rattle.std.specs.Map.{values_of}
@@ -8,28 +8,26 @@ use Rattle.flow_table.specs.declared.flow.Cause.TheVariants as cause
 use Rattle.inet_packet.specs.declared.packet.Packet.{Packet}
 use Rattle.match_language.specs.declared.field.Direction.{Direction}
 use Rattle.nb_records.specs.Network.{Network}
-use Rattle.nb_records.specs.Switches.{is_virtual, has_some, applies, rules_of, is_related, is_stateful, serves_at, balancers_of, has_balancer}
+use Rattle.nb_records.specs.Switches.{is_virtual, has_some, applies, rules_of, is_related, is_stateful, serves_at, has_balancer}
 use Rattle.nb_records.specs.Ways.{best_by}
-use Rattle.nb_records.specs.declared.balancer.LoadBalancer.{LoadBalancer}
 use Rattle.nb_records.specs.declared.rule.Acl.{Acl}
 use Rattle.nb_records.specs.declared.switch.PortKind.{PortKind}
 use Rattle.nb_records.specs.declared.switch.SwitchPort.{SwitchPort}
-use Rattle.net_model.specs.Config.{port_identity}
 use Rattle.net_model.specs.Entry.{Scene, Onward, admission, security_in, passage_in, judge_in, secure_in, enter, sight_in}
-use Rattle.net_model.specs.Exit.{exit_denial, passage_out, security_out, secure_out, judge_out, exit, give_out, leave, sight_out}
+use Rattle.net_model.specs.Exit.{passage_out, security_out, secure_out, judge_out, exit, give_out, leave, sight_out}
 use Rattle.net_model.specs.Headers.{carries_ip4}
 use Rattle.net_model.specs.PortSecurity.{may_enter, may_leave, admits_from, admits_to}
 use Rattle.net_model.specs.Sights.{Sight}
 use Rattle.net_model.specs.Spread.{copy_to_each}
 use Rattle.net_model.specs.Tracking.{Passage, is_tracked, denial, pass_if, pass}
-use Rattle.net_model.specs.Trail.{Trail, End, leaves, tell, Spot, spot_of, Point, goes, stops, then, finally, unless, first_cause}
+use Rattle.net_model.specs.Trail.{Trail, End, leaves, tell, spot_of, Point, goes, then, finally, unless, first_cause}
 use Rattle.net_model.specs.Verdict.{Verdict, default, outranks, speaks, verdict_if, verdict_of}
 use Rattle.ovn_base.specs.addresses.EtherAddress.{is_multicast_mac}
 use Rattle.ovn_base.specs.declared.name.Name.{Name}
-use Rattle.ovn_base.specs.lists.Among.{Among, here, there}
+use Rattle.ovn_base.specs.lists.Among.{here, there}
 use Rattle.tunnel_keys.specs.declared.owner.Identity.{Identity}
 use Rattle.match_language.specs.declared.field.Direction.TheVariants.{FromLport, ToLport}
-use Rattle.sim_laws.proofs.PlainPorts.{PlainPort, plain_port, EachPlain}
+use Rattle.sim_laws.proofs.PlainPorts.{plain_port, EachPlain}
 use Rattle.physical_flows.specs.Built.{is_plain_port, IsBuilt}
 use Rattle.sim_laws.specs.PlainJourneys.{with_ends}
 use Rattle.sim_laws.specs.PlainWays.{copies_by}

@@ -1,6 +1,6 @@
 -- The targets of packets in a plain network.
 use Rattle.std.specs.Prelude.{◌≡◌, ◌&&◌, ◌==◌, Bool, true, false, List, [], ◌∷◌, Option, Some, None, option_map, cond, refl}
-use Rattle.std.proofs.Common.{sym, ap, ◌∙◌}
+use Rattle.std.proofs.Common.{ap, ◌∙◌}
 use Rattle.std.specs.List.{filter, find}
 use Rattle.inet_packet.specs.Fields as field
 use Rattle.inet_packet.specs.declared.packet.Packet.{Packet}
@@ -9,8 +9,7 @@ use Rattle.nb_records.specs.Switches.{is_virtual, enabled_ports, has_mac, mac_of
 use Rattle.nb_records.specs.declared.switch.SwitchPort.{SwitchPort}
 use Rattle.net_model.specs.Headers.{carries_arp, asked_ip, ip_of}
 use Rattle.net_model.specs.Targets.{Target, answer_from, to_one, to_group, to_nobody, members, is_other, answer_target, asked_of_all, answers_behind, router_target, flood_target, known_target, group_if, unknown_target, target_of}
-use Rattle.net_model.specs.Trail.{given_or, first_given}
-use Rattle.net_model.specs.declared.crossing.Group.{Group}
+use Rattle.net_model.specs.Trail.{given_or}
 use Rattle.net_model.specs.declared.crossing.Group.TheVariants.{Flood, Unknown}
 use Rattle.ovn_base.specs.addresses.EtherAddress.{is_multicast_mac}
 use Rattle.ovn_base.specs.declared.address.Ip4.{Ip4}

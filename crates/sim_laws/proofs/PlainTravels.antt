@@ -1,16 +1,15 @@
 -- Journeys in a plain network leave connection lists and choices as they are.
 use Rattle.std.specs.Prelude.{◌≡◌, ◌++◌, ℕ, zero, suc, Bool, true, false, List, [], ◌∷◌, map, Option, Some, None, cond, refl}
 use Rattle.std.proofs.Common.{sym, ap, ◌∙◌, append_assoc, append-nil, subst}
-use Rattle.std.proofs.lemmas.Bool.{false≢true}
 use Rattle.std.specs.Option.{option_and_then}
 use Rattle.flow_table.specs.declared.flow.Cause.{Cause}
 use Rattle.flow_table.specs.declared.flow.Cause.TheVariants as cause
 use Rattle.inet_packet.specs.declared.packet.Packet.{Packet}
 use Rattle.nb_records.specs.declared.switch.SwitchPort.{SwitchPort}
-use Rattle.net_model.specs.Arrival.{is_switch, is_reached, port_reached, members_reached}
+use Rattle.net_model.specs.Arrival.{is_switch, port_reached, members_reached}
 use Rattle.net_model.specs.Config.{is_chassis, port_identity}
 use Rattle.net_model.specs.Entry.{Scene, admission}
-use Rattle.net_model.specs.Journey.{Journey, Scenes, joined_by, without_ends, go, goes_in, waiting_at, takes_off, kept_or_not, arrive_at, comes_as, comes, drain_from, drain, drain_all, Traffic, enter_one, arrive_one, lose_one, arrive_all, enter_and_arrive, Places, enter_by, enter_on, enter_at, travel, scene_at, scenes_of, places_of, begin_journey, journey_of, ended_journey, Travels}
+use Rattle.net_model.specs.Journey.{Journey, Scenes, joined_by, without_ends, go, goes_in, waiting_at, kept_or_not, arrive_at, comes_as, comes, drain_from, drain, drain_all, Traffic, enter_one, arrive_one, lose_one, arrive_all, enter_and_arrive, Places, enter_by, enter_on, enter_at, travel, scene_at, scenes_of, places_of, begin_journey, journey_of, ended_journey, Travels}
 use Rattle.net_model.specs.Spread.{SentFrom, crossing_to, other_homes, local_members}
 use Rattle.net_model.specs.State.{State}
 use Rattle.net_model.specs.Targets.{Target, answer_from, to_one, to_group, to_nobody, members, target_of}
@@ -24,11 +23,10 @@ use Rattle.ovn_base.specs.declared.limits.TheConstants.{MAX_ARRIVALS}
 use Rattle.ovn_base.specs.declared.name.Name.{Name}
 use Rattle.ovn_base.specs.names.ByName.{at}
 use Rattle.ovn_base.specs.names.SameName.{same_name}
-use Rattle.tunnel_keys.specs.declared.owner.Identity.{Identity}
 use Rattle.sim_laws.proofs.PlainVisits.{plain_visit, plain_arrive}
 use Rattle.physical_flows.specs.Built.{is_plain_port, IsPlain}
 use Rattle.sim_laws.specs.PlainJourneys.{with_ends, went, ArePlain, OnlyEnds}
-use Rattle.sim_laws.specs.PlainWays.{drop_at, copies_by, ends_at_home, ends_in_group, ends_at_target, ends_unless, sent_from, visit_ends, ends_at_port, ends_at_aim, ends_of_crossing, arrival_ends}
+use Rattle.sim_laws.specs.PlainWays.{drop_at, copies_by, ends_at_home, ends_at_target, ends_unless, sent_from, visit_ends, ends_at_port, ends_at_aim, arrival_ends}
 
 -- ---- no end tells of a choice
 

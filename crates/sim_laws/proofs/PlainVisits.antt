@@ -1,7 +1,6 @@
 -- What becomes of a packet that enters a plain network, and of one that arrives.
-use Rattle.std.specs.Prelude.{◌≡◌, ◌++◌, ◌&&◌, ℕ, Bool, true, false, not, List, [], ◌∷◌, map, Option, Some, None, cond, refl}
+use Rattle.std.specs.Prelude.{◌≡◌, ◌&&◌, ℕ, Bool, true, false, not, List, [], ◌∷◌, map, Option, Some, None, cond, refl}
 use Rattle.std.proofs.Common.{sym, ap, ◌∙◌, append_assoc, append-nil}
-use Rattle.std.specs.List.{filter}
 use Rattle.flow_table.specs.declared.flow.Cause.{Cause}
 use Rattle.flow_table.specs.declared.flow.Cause.TheVariants as cause
 use Rattle.inet_packet.specs.Rewrites.{with_arp_reply}
@@ -9,8 +8,8 @@ use Rattle.inet_packet.specs.declared.packet.Packet.{Packet}
 use Rattle.nb_records.specs.declared.switch.PortKind.{PortKind}
 use Rattle.nb_records.specs.declared.switch.SwitchPort.{SwitchPort}
 use Rattle.net_model.specs.Arrival.{is_switch, is_reached, port_reached, members_reached, reach_port, reach, reach_if, arrival}
-use Rattle.net_model.specs.Config.{Home, on, home_if, home_by_kind, home_of, port_identity, is_here}
-use Rattle.net_model.specs.Entry.{Scene, Onward, admission, enter}
+use Rattle.net_model.specs.Config.{on, home_if, home_by_kind, home_of, port_identity, is_here}
+use Rattle.net_model.specs.Entry.{Scene, Onward, admission}
 use Rattle.net_model.specs.Exit.{leave}
 use Rattle.net_model.specs.Journey.{arrive_at}
 use Rattle.net_model.specs.Spread.{SentFrom, crossing_to, send_here, send_over, send_home, other_homes, cross_to_each, local_members, copy_to_each, spread, send_to}

@@ -9,6 +9,7 @@ pub mod EmptyWorld
 pub mod FrameCrossings
 pub mod FreeAddresses
 pub mod FreedKeys
+pub mod HeldFlows
 pub mod KeyNames
 pub mod KeyPlans
 pub mod NamesInOrder

@@ -2,6 +2,7 @@
 pub mod Admitted
 pub mod Editing
 pub mod EventPasses
+pub mod Holding
 pub mod Inside
 pub mod NewPort
 pub mod Outcome

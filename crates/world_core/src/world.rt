@@ -12,12 +12,12 @@ ghost use Rattle.world_core.specs.StepParts.{IsTaken, Leaves, new_world};
 ghost use Rattle.world_core.specs.WorldView.{IsSound};
 ghost use Rattle.net_model.specs.State.{event_count, finished};
 
+use crate::held::Held;
 use chassis_sim::sim::Sim;
 use edit_reader::event::Event;
 use event_lines::lines::{accepted, refused};
 use event_lines::refusal::{Refusal, StepFault};
 use flow_table::flow::Flow;
-use flow_table::tables::Tables;
 use nb_records::records::Records;
 use net_model::crossing::Crossing;
 use ovn_base::limits::{MAX_DATAPATH_KEY, MAX_PORT_KEY};
@@ -47,7 +47,7 @@ pub struct World {
     bindings: BTreeMap<Name, Name>,
     keys: KeyStore,
     zones: BTreeMap<Name, u16>,
-    sim: Sim<Tables>,
+    sim: Sim<Held>,
     // What each frame that waits is on its way for.
     crossings: BTreeMap<u128, Crossing>,
     walks: List<Walk>,

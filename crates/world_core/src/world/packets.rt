@@ -7,14 +7,13 @@ ghost use Rattle.chassis_sim.specs.Passing.{arrived};
 ghost use Rattle.chassis_sim.specs.State.{numbered};
 ghost use Rattle.inet_packet.specs.Frame.{frame_of};
 ghost use Rattle.inet_packet.specs.Whole.{IsWhole};
-ghost use Rattle.inet_packet.specs.declared.packet.Packet.{Packet};
 ghost use Rattle.edit_reader.specs.Reads.{IsPlainFrame};
 ghost use Rattle.sim_laws.specs.PacketSteps.{most_arrivals};
 ghost use Rattle.sim_laws.specs.PlainJourneys.{with_kept};
 ghost use Rattle.sim_laws.specs.Refinement.{IsAmidst};
 ghost use Rattle.sim_laws.specs.Held.{AreHeld};
 ghost use Rattle.net_model.specs.State.{event_count};
-ghost use Rattle.world_core.specs.Packets.{AreGone, CanBeKept, HasArrived, HasEntered, IsNumberOf, most_sent, port_of_key};
+ghost use Rattle.world_core.specs.Packets.{AreGone, CanBeKept, HasArrived, HasEntered, IsNumberOf, most_sent, port_of_key, IsFaultless};
 ghost use Rattle.sim_laws.specs.SentFrames.{IsSentFrom};
 ghost use Rattle.physical_flows.specs.RecordKeys.{HaveKeys};
 ghost use Rattle.net_model.specs.declared.crossing.Aim.{Aim};
@@ -35,25 +34,11 @@ use std::alloc::Global;
 use switch_engine::effect::NetEffect;
 use tunnel_keys::owner::Identity;
 
-// The packet of a frame that is built.
+// The packet of a frame in which there is no fault.
 fn packet_of(alloc: Global, frame: &[u8]) -> Result<Packet, NoMemory>
-    requires { IsPlainFrame frame.now }
+    requires { IsFaultless frame.now }
     ensures frame { IfOk result (λ packet. frame_of packet ≡ frame.now) }
     ensures whole { IfOk result IsWhole }
-{
-    match decode(alloc, frame) {
-        Ok(packet) => Ok(packet),
-        Err(FrameFault::Memory) => Err(NoMemory),
-        Err(FrameFault::TooShort) => unreachable!(),
-        Err(FrameFault::TooBig) => unreachable!(),
-        Err(FrameFault::BadIp4) => unreachable!(),
-    }
-}
-
-// The packet that a frame carries inside.
-fn packet_in(alloc: Global, frame: &[u8]) -> Result<Packet, NoMemory>
-    requires { (packet : Packet) × IsWhole packet × (frame_of packet ≡ frame.now) }
-    ensures { (packet : Packet) → IsWhole packet → frame_of packet ≡ frame.now → IfOk result (λ found. found ≡ packet) }
 {
     match decode(alloc, frame) {
         Ok(packet) => Ok(packet),
@@ -138,7 +123,7 @@ impl World {
             },
             aim,
             home: *to,
-            packet: packet_in(alloc, view.inner)?,
+            packet: packet_of(alloc, view.inner)?,
         })
     }
 

@@ -6,9 +6,10 @@ ghost use Rattle.sim_laws.specs.Consistent.{IsConsistent};
 ghost use Rattle.world_core.specs.StepParts.{IsRecompiled};
 ghost use Rattle.physical_flows.specs.ChassisFlows.{AreFlowsOf};
 
+use crate::held::{Held, holding};
 use crate::world::World;
 use chassis_sim::change::SimChange;
-use flow_table::tables::Tables;
+use flow_table::lookup::Lookup;
 use ovn_base::list::List;
 use ovn_base::memory::NoMemory;
 use ovn_base::name::Name;
@@ -16,10 +17,10 @@ use physical_flows::compile::Maps;
 use std::alloc::Global;
 
 impl World {
-    // Tables that hold the flows of the chassis.
-    fn tables_of(&self, alloc: Global, chassis: &Name) -> Result<Tables, NoMemory>
+    // A classifier that holds the flows of the chassis.
+    fn held_on(&self, alloc: Global, chassis: &Name) -> Result<Held, NoMemory>
         requires consistent { IsConsistent self.now.state self.now.zones }
-        ensures { IfOk result (λ tables. AreFlowsOf self.now.state self.now.zones chassis.now tables.flows) }
+        ensures { IfOk result (λ held. AreFlowsOf self.now.state self.now.zones chassis.now (⟦<Held as Lookup>⟧.flows held)) }
     {
         let maps = Maps {
             chassis: *chassis,
@@ -29,20 +30,21 @@ impl World {
             keys: &self.keys,
             zones: &self.zones,
         };
-        let tables = maps.tables(alloc)?;
-        Ok(tables)
+        let flows = maps.compile(alloc)?;
+        let held = holding(alloc, flows)?;
+        Ok(held)
     }
 
-    // Each chassis with its tables.
-    fn all_tables(&self, alloc: Global) -> Result<List<(Name, Tables)>, NoMemory>
+    // Each chassis with its classifier.
+    fn all_tables(&self, alloc: Global) -> Result<List<(Name, Held)>, NoMemory>
         requires consistent { IsConsistent self.now.state self.now.zones }
         ensures chassis { IfOk result (λ added. keys_of added ≡ self.now.state.config.chassis) }
-        ensures flows { IfOk result (λ added. AllByRecursion (λ e. AreFlowsOf self.now.state self.now.zones e.0 e.1.flows) added) }
+        ensures flows { IfOk result (λ added. AllByRecursion (λ e. AreFlowsOf self.now.state self.now.zones e.0 (⟦<Held as Lookup>⟧.flows e.1)) added) }
     {
         let mut added = List::new(alloc);
         'chassis: for chassis in self.chassis.as_slice() {
-            let tables = self.tables_of(alloc, chassis)?;
-            added.push((*chassis, tables))?;
+            let held = self.held_on(alloc, chassis)?;
+            added.push((*chassis, held))?;
         }
         Ok(added)
     }

@@ -1,3 +1,4 @@
+use Rattle.world_core.proofs.HeldFlows.{flows_of}
 use Rattle.std.proofs.Common.{◌≡◌, ◌++◌, drop}
 use Rattle.std.specs.List.{AllByRecursion}
 use Rattle.std.specs.Map.{keys_of}
@@ -8,5 +9,5 @@ use Rattle.world_core.proofs.world.World.all_tables.Given as goal
 abbrev pub invariant-chassis : goal.invariant-chassis
 invariant-chassis l = record {
   names : keys_of l.added ++ drop l.chassis-index l.self.state.config.chassis ≡ l.self.state.config.chassis;
-  flows : AllByRecursion (λ e. AreFlowsOf l.self.state l.self.zones e.0 e.1.flows) l.added;
+  flows : AllByRecursion (λ e. AreFlowsOf l.self.state l.self.zones e.0 (flows_of e.1)) l.added;
 }

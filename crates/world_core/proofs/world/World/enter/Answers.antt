@@ -1,4 +1,4 @@
-use Rattle.std.proofs.Common.{◌≡◌, IsSome, drop, sym, ap, ◌∙◌, subst}
+use Rattle.std.proofs.Common.{◌≡◌, IsSome, drop, sym, ap, ◌∙◌, subst, arith}
 use Rattle.std.proofs.lemmas.List.{take_rest}
 use Rattle.ovn_base.specs.names.ByName.{at}
 use Rattle.world_core.specs.Inside.{seen_of}
@@ -9,6 +9,11 @@ use Rattle.world_core.specs.WorldView.{WorldView}
 use Rattle.sim_laws.specs.Held.{AreHeld}
 use Rattle.world_core.proofs.PacketsHeld.{goes_on, behind_with}
 use Rattle.world_core.proofs.world.World.enter.Goals as goal
+
+pub packet_of-requires : goal.packet_of-requires
+packet_of-requires c =
+    let built = c.requires.frame in
+    record { long = built.long; short = built.short; good = λ bad. let is = bad.ip4 in built.not_ip4 (omega (arith, is)) }
 
 pub keep_crossings-requires-clause-sent : goal.keep_crossings-requires-clause-sent
 keep_crossings-requires-clause-sent c =

@@ -3,7 +3,7 @@ use Rattle.std.specs.Prelude.{flat_map}
 use Rattle.physical_flows.specs.Compiling.{basis_of}
 use Rattle.physical_flows.specs.Numbers.{datapath_number, port_number}
 use Rattle.physical_flows.specs.TableList.{table_flows, common_rows, switch_part, port_part}
-use Rattle.physical_flows.proofs.compile.Maps.compile.Given as goal
+use Rattle.physical_flows.proofs.compile.Maps.listed.Given as goal
 
 -- the flows so far, and those of the records that are left
 abbrev pub invariant-switches : goal.invariant-switches
