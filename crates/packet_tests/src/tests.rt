@@ -7,7 +7,6 @@ use inet_packet::frame::FrameFault;
 use inet_packet::packet::{Body, Packet, Part};
 use ovn_base::address::{Ip4, Mac};
 use ovn_base::limits::MAX_FRAME;
-use ovn_base::number::hexadecimal_digit;
 use std::alloc::Global;
 use std::test::*;
 
@@ -24,19 +23,6 @@ enum Kind {
     OtherIp,
     Fragment,
     Other,
-}
-
-// The bytes that the hexadecimal digits spell.
-fn bytes(alloc: Global, digits: &str) -> Result<Vec<u8>, Fail> {
-    let mut out = Vec::new(alloc);
-    let mut left = digits.as_bytes();
-    'pairs: while let [high, low, rest @ ..] = left {
-        let high = hexadecimal_digit(*high).ok_or("a digit")?;
-        let low = hexadecimal_digit(*low).ok_or("a digit")?;
-        out.push(16 * high + low)?;
-        left = rest;
-    }
-    Ok(out)
 }
 
 fn kind_of(body: &Body) -> Kind {
@@ -294,7 +280,7 @@ const FRAMES: [(&str, Kind, usize); 43] = [
 #[test]
 fn frames_are_what_they_are(rt: HostRuntime) -> Result<(), Fail> {
     for (digits, wanted, tail) in FRAMES {
-        let frame = bytes(rt.alloc(), digits)?;
+        let frame = hex::decode(rt.alloc(), digits)?;
         assert_eq!(rt; read_as(rt.alloc(), &frame)?, (wanted, tail), "at {digits}");
         if let Ok(packet) = decode(rt.alloc(), &frame) {
             let copy = packet.copy().ok().ok_or("there is memory")?;
@@ -367,10 +353,13 @@ fn take(step: Step, packet: &mut Packet) {
     }
 }
 
-fn take_all(steps: &[Step], packet: &mut Packet) {
+// The frame after all the steps.
+fn rewritten(alloc: Global, digits: &str, steps: &[Step]) -> Result<Vec<u8>, Fail> {
+    let mut packet = read(alloc, &hex::decode(alloc, digits)?)?;
     for step in steps {
-        take(*step, packet);
+        take(*step, &mut packet);
     }
+    written(alloc, &packet)
 }
 
 const P1: Mac = Mac([0x0a, 0, 0, 0, 0, 1]);
@@ -450,13 +439,8 @@ fn packets_of_networks_are_rewritten(rt: HostRuntime) -> Result<(), Fail> {
         ),
     ];
     for (before, steps, after) in rows {
-        let mut packet = read(rt.alloc(), &bytes(rt.alloc(), before)?)?;
-        take_all(steps, &mut packet);
-        assert_eq!(rt;
-            written(rt.alloc(), &packet)?,
-            bytes(rt.alloc(), after)?,
-            "at {before}"
-        );
+        let frame = rewritten(rt.alloc(), before, steps)?;
+        assert_eq!(rt; frame, hex::decode(rt.alloc(), after)?, "at {before}");
     }
     Ok(())
 }
@@ -541,13 +525,8 @@ fn sums_are_as_if_added_up_anew(rt: HostRuntime) -> Result<(), Fail> {
         ),
     ];
     for (before, steps, after) in rows {
-        let mut packet = read(rt.alloc(), &bytes(rt.alloc(), before)?)?;
-        take_all(steps, &mut packet);
-        assert_eq!(rt;
-            written(rt.alloc(), &packet)?,
-            bytes(rt.alloc(), after)?,
-            "at {before}"
-        );
+        let frame = rewritten(rt.alloc(), before, steps)?;
+        assert_eq!(rt; frame, hex::decode(rt.alloc(), after)?, "at {before}");
     }
     Ok(())
 }
