@@ -11,5 +11,3 @@ pub mod records;
 pub mod router;
 pub mod rule;
 pub mod switch;
-#[cfg(test)]
-mod tests;

@@ -1,9 +1,9 @@
-use crate::answers::answers;
-use crate::balancer::{BalancerProtocol, LoadBalancer, Vip};
-use crate::kinds::Kind;
-use crate::record::Record;
-use crate::records::Records;
-use crate::router::{Nat, NatKind, Router, RouterPort};
+use nb_records::answers::answers;
+use nb_records::balancer::{BalancerProtocol, LoadBalancer, Vip};
+use nb_records::kinds::Kind;
+use nb_records::record::Record;
+use nb_records::records::Records;
+use nb_records::router::{Nat, NatKind, Router, RouterPort};
 use ovn_base::address::{Backend, Birth, Cidr, Ip4, Mac};
 use ovn_base::list::List;
 use ovn_base::memory::NoMemory;
@@ -11,16 +11,23 @@ use ovn_base::name::Name;
 use std::alloc::Global;
 use std::test::Fail;
 
-fn name(text: &[u8]) -> Result<Name, NoMemory> {
-    Name::read(text).ok_or(NoMemory)
-}
-
 // 172.16.0.0/24 is the network of the port `ge` of the gateway router `g0`.
 const OWN: Ip4 = Ip4(0xac1000fe);
 
 const EXTERNAL: Ip4 = Ip4(0xac100064);
 
+const VIRTUAL: Ip4 = Ip4(0xac100032);
+
 const OUTSIDE: Ip4 = Ip4(0xc0000201);
+
+const SERVER: Backend = Backend {
+    ip: Ip4(0x0a000002),
+    port: 8080,
+};
+
+fn name(text: &[u8]) -> Result<Name, NoMemory> {
+    Name::read(text).ok_or(NoMemory)
+}
 
 fn port(alloc: Global) -> Result<Record, NoMemory> {
     let mut networks = List::new(alloc);
@@ -49,6 +56,27 @@ fn nat(called: &[u8], external_ip: Ip4) -> Result<Record, NoMemory> {
     }))
 }
 
+fn balancer(alloc: Global) -> Result<Record, NoMemory> {
+    let mut backends = List::new(alloc);
+    backends.push(SERVER)?;
+    let at = Backend {
+        ip: VIRTUAL,
+        port: 80,
+    };
+    let mut vips = List::new(alloc);
+    vips.push(Vip { at, backends })?;
+    let mut routers = List::new(alloc);
+    routers.push(name(b"g0")?)?;
+    Ok(Record::LoadBalancer(LoadBalancer {
+        name: name(b"lb")?,
+        birth: Birth(9),
+        protocol: BalancerProtocol::Tcp,
+        vips,
+        switches: List::new(alloc),
+        routers,
+    }))
+}
+
 fn gateway(alloc: Global) -> Result<Records, NoMemory> {
     let mut records = Records::new(alloc)?;
     records.put(Record::Router(Router {
@@ -59,26 +87,33 @@ fn gateway(alloc: Global) -> Result<Records, NoMemory> {
     records.put(port(alloc)?)?;
     records.put(nat(b"n0", EXTERNAL)?)?;
     records.put(nat(b"n1", OUTSIDE)?)?;
+    records.put(balancer(alloc)?)?;
     Ok(records)
 }
 
 #[test]
 fn a_router_port_answers_for_what_lies_in_its_networks(rt: HostRuntime) -> Result<(), Fail> {
     let records = gateway(rt.alloc())?;
-    let ge = name(b"ge")?;
-    assert!(rt; answers(&records, &ge, OWN));
-    assert!(rt; answers(&records, &ge, EXTERNAL));
-    assert!(rt; !answers(&records, &ge, OUTSIDE));
-    assert!(rt; !answers(&records, &ge, Ip4(0xac100009)));
-    assert!(rt; !answers(&records, &name(b"gi")?, OWN));
+    let rows = [
+        (b"ge", OWN, true),
+        (b"ge", EXTERNAL, true),
+        (b"ge", VIRTUAL, true),
+        (b"ge", OUTSIDE, false),
+        (b"ge", Ip4(0xac100009), false),
+        (b"gi", OWN, false),
+    ];
+    for (port, ip, wanted) in rows {
+        assert_eq!(rt; answers(&records, &name(port)?, ip), wanted, "at {ip:?}");
+    }
     Ok(())
 }
 
 #[test]
 fn a_removed_row_is_gone(rt: HostRuntime) -> Result<(), Fail> {
     let mut records = gateway(rt.alloc())?;
-    assert!(rt; records.remove(Kind::Nat, &name(b"n0")?));
-    assert!(rt; records.nat(&name(b"n0")?).is_none());
+    let n0 = name(b"n0")?;
+    assert!(rt; records.remove(Kind::Nat, &n0));
+    assert!(rt; records.nat(&n0).is_none());
     assert!(rt; records.nat(&name(b"n1")?).is_some());
     Ok(())
 }
@@ -87,42 +122,19 @@ fn a_removed_row_is_gone(rt: HostRuntime) -> Result<(), Fail> {
 fn a_backend_is_offline_while_it_is_marked(rt: HostRuntime) -> Result<(), Fail> {
     let mut records = Records::new(rt.alloc())?;
     let lb = name(b"lb")?;
-    let backend = Backend {
-        ip: Ip4(0x0a000002),
-        port: 8080,
-    };
-    records.mark(&lb, backend, false)?;
+    records.mark(&lb, SERVER, false)?;
     let copied = records.copy()?;
-    records.mark(&lb, backend, true)?;
-    assert!(rt; records.is_online(&lb, backend));
-    assert!(rt; !copied.is_online(&lb, backend));
+    records.mark(&lb, SERVER, true)?;
+    assert!(rt; records.is_online(&lb, SERVER));
+    assert!(rt; !copied.is_online(&lb, SERVER));
     Ok(())
 }
 
 #[test]
 fn a_copied_record_is_equal(rt: HostRuntime) -> Result<(), Fail> {
     let alloc = rt.alloc();
-    let mut backends = List::new(alloc);
-    backends.push(Backend {
-        ip: Ip4(0x0a000002),
-        port: 8080,
-    })?;
-    let mut vips = List::new(alloc);
-    vips.push(Vip {
-        at: Backend {
-            ip: Ip4(0x0a000064),
-            port: 80,
-        },
-        backends,
-    })?;
-    let balancer = Record::LoadBalancer(LoadBalancer {
-        name: name(b"lb")?,
-        birth: Birth(9),
-        protocol: BalancerProtocol::Tcp,
-        vips,
-        switches: List::new(alloc),
-        routers: List::new(alloc),
-    });
-    assert!(rt; balancer.copy()? == balancer);
+    for record in [port(alloc)?, nat(b"n0", EXTERNAL)?, balancer(alloc)?] {
+        assert!(rt; record.copy()? == record);
+    }
     Ok(())
 }
