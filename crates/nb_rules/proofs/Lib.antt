@@ -1,0 +1,5 @@
+-- Lemmas.
+pub mod Named
+pub mod EachKind
+pub mod Leasts
+pub mod Capped
