@@ -13,8 +13,10 @@ ghost use Rattle.ovn_base.specs.declared.limits.TheConstants.{MAX_ARRIVALS};
 ghost use Rattle.ovn_base.specs.names.ByName.{at};
 ghost use Rattle.nb_records.specs.Network.{Network};
 ghost use Rattle.physical_flows.specs.Built.{is_plain_port, IsPlain};
+ghost use Rattle.physical_flows.specs.Valid.{IsValid};
 ghost use Rattle.sim_laws.specs.PlainJourneys.{with_ends, went, ArePlain, sent_on, with_kept, Drains};
 ghost use Rattle.sim_laws.specs.PlainWays.{plain_target, visit_ends, arrival_ends};
+ghost use Rattle.sim_laws.specs.Visit.{Visit, arrival};
 
 use inet_packet::packet::Packet;
 use nb_records::switch::SwitchPort;
@@ -92,4 +94,16 @@ pub fn entries_and_drains_travel()
         → at m.config.net.switch_ports port ≡ Some i → at m.config.bindings port ≡ Some chassis → is_chassis m.config chassis ≡ true
         → Drains MAX_ARRIVALS (sent_on m (visit_ends (scene_at m chassis) i p)) more after
         → Travels m (enter_and_arrive port p) (visit_ends (scene_at m chassis) i p ++ more) after }
+{}
+
+/// What the walk laws say of a packet from a port is what the logical network does with it, where it isn't of ARP: its switch may
+/// answer such a packet, which no table does yet.
+pub fn visits_agree()
+    ensures { (m : State) (p : Name) (packet : Packet) (chassis : Name) (ends : List End) → IsValid m.config.net → carries_arp packet ≡ false
+        → (visit : Visit m p packet chassis ends) → ends ≡ visit_ends (scene_at m chassis) visit.port packet }
+{}
+
+/// What they say of a crossing that arrives is what the logical network does with it.
+pub fn arrivals_agree()
+    ensures { (m : State) (n : ℕ) (x : Crossing) → IsValid m.config.net → arrival m n x ≡ arrival_ends (scenes_of m x.home) n x }
 {}

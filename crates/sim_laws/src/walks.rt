@@ -3,12 +3,13 @@
 ghost use Rattle.sim_laws.specs.Refinement.{ArrivalRefines, Begins, EntryRefines, Finishes};
 ghost use Rattle.sim_laws.specs.WalkLaw.{ArrivalLaw, EntryLaw, OneWalkLaw};
 
-/// What the tables of a chassis do with a packet from a port is what the logical network says.
+/// What the tables of a chassis do with a packet from a port is the visit of a plain switch, packet by packet (`Visit`). For a packet that
+/// isn't of ARP that is what the whole logical network does (`plain::visits_agree`).
 pub fn entry_law()
     ensures { EntryLaw }
 {}
 
-/// What they do with the packet of a crossing is what the logical network says of its arrival.
+/// What they do with the packet of a crossing is its arrival, which is that of the logical network (`plain::arrivals_agree`).
 pub fn arrival_law()
     ensures { ArrivalLaw }
 {}
