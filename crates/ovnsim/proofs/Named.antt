@@ -55,7 +55,7 @@ use Rattle.sim_laws.specs.Effects.{effects_of}
 use Rattle.net_model.specs.Trail.{crossings_in, picks_backend, picks_port}
 use Rattle.physical_flows.specs.Homes.{is_at as is_bound_to, is_group_member, members, members_at, other_homes}
 use Rattle.physical_flows.specs.Numbers.{datapath_number, port_number}
-use Rattle.world_core.specs.Refusing.{refusal, refusal_of_entry, refusal_of_record, too_many_wait}
+use Rattle.world_core.specs.Refusing.{cause_of_entry, is_built_entry, refusal, refusal_of_entry, refusal_of_record, too_many_wait}
 use Rattle.net_model.specs.State.{State, empty, event_count, finished, settled_where_none_waits}
 use Rattle.net_model.specs.Config.{is_chassis}
 use Rattle.world_core.specs.Step.{NetworkStep, Does}
@@ -452,16 +452,16 @@ test_named true x y h k = h
 test_named false x y h k = k
 
 record_cause_named : (net : Network) (row : Record) → IsNamedRecord row → IsNamedCause (refusal_of_record net row)
-record_cause_named net (record_of.Switch switch) named = test_named _ (Some why.NotBuilt) None tt tt
+record_cause_named net (record_of.Switch switch) named = test_named _ None (Some why.NotBuilt) tt tt
 record_cause_named net (record_of.SwitchPort port) named =
-    test_named (is_unbuilt_port net port) (Some why.NotBuilt) (cond (is_some (at net.switches port.switch)) None (Some (why.NoSuch port.switch))) tt
-    (test_named (is_some (at net.switches port.switch)) None (Some (why.NoSuch port.switch)) tt named.1)
+    test_named (not (is_unbuilt_port net port)) (cond (is_some (at net.switches port.switch)) None (Some (why.NoSuch port.switch))) (Some why.NotBuilt)
+    (test_named (is_some (at net.switches port.switch)) None (Some (why.NoSuch port.switch)) tt named.1) tt
 record_cause_named net _ named = tt
 
 entry_cause_named : (m : State) (port : Name) → IsName port → IsNamedCause (refusal_of_entry m port)
 entry_cause_named m port named =
-    test_named (is_some (at m.config.net.switch_ports port)) (cond (is_some (at m.config.bindings port)) (cond (too_many_wait m) (Some why.TooManyFrames) None) (Some why.NotBuilt)) (Some (why.NoSuch port))
-    (test_named (is_some (at m.config.bindings port)) (cond (too_many_wait m) (Some why.TooManyFrames) None) (Some why.NotBuilt) (test_named (too_many_wait m) (Some why.TooManyFrames) None tt tt) tt) named
+    test_named (is_built_entry m port) (cause_of_entry m port) (Some why.NotBuilt)
+    (test_named (is_some (at m.config.net.switch_ports port)) (cond (too_many_wait m) (Some why.TooManyFrames) None) (Some (why.NoSuch port)) (test_named (too_many_wait m) (Some why.TooManyFrames) None tt tt) named) tt
 
 cause_named : (m : State) (event : Event) → IsNamedEvent event → IsNamedCause (refusal m event)
 cause_named m (Edit []) named = tt

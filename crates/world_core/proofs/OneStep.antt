@@ -6,7 +6,7 @@ use Rattle.net_model.specs.Trail.{End, leaves, is_dropped, crosses, picks_backen
 use Rattle.sim_laws.proofs.PlainTravels.{one_way}
 use Rattle.sim_laws.proofs.PlainVisit.{plain}
 use Rattle.sim_laws.specs.Effects.{effects_of}
-use Rattle.std.specs.Prelude.{◌≡◌, ◌+◌, ◌++◌, ◌||◌, ℕ, Bool, true, false, List, [], ◌∷◌, Some, None, Option, is_some, cond, flat_map, map, nat_le, length, unwrap_or, refl}
+use Rattle.std.specs.Prelude.{◌≡◌, ◌+◌, ◌++◌, ◌||◌, ℕ, Bool, true, false, List, [], ◌∷◌, Some, None, Option, is_some, cond, not, flat_map, map, nat_le, length, unwrap_or, refl}
 use Rattle.std.specs.List.{AllByRecursion}
 use Rattle.std.specs.Option.{option_map}
 use Rattle.std.proofs.Common.{sym, ap, ◌∙◌, subst, inl, inr}
@@ -48,7 +48,7 @@ use Rattle.net_model.specs.State.{State, event_count, finished}
 use Rattle.world_core.specs.Step.{NetworkStep, Does, Moves, Sends}
 use Rattle.world_core.specs.Unbuilt.{is_unbuilt_port}
 use Rattle.world_core.proofs.RecordsKept.{switch_valid, port_valid}
-use Rattle.world_core.proofs.Refusals.{is_built, is_new}
+use Rattle.world_core.proofs.Refusals.{built_port, is_new}
 
 -- the same effects, the same state, and the same picks left
 pub record Same (effects others : List NetEffect) (after later : State) (left more : List Pick) : Type 0 where
@@ -258,11 +258,11 @@ same_step m event effects others after later valid h k e = let s = step_with m e
 
 -- ---- the records stay valid
 
-not_there : {X : Type 0} (o : Option X) (full : Bool) (why : Refusal) → cond (is_some o || full) (Some why) None ≡ None → o ≡ None
+not_there : {X : Type 0} (o : Option X) (full : Bool) (why : Refusal) → cond (not (is_some o || full)) None (Some why) ≡ None → o ≡ None
 not_there None full why h = refl
 not_there (Some x) full why h = cc
 
-is_there : (unbuilt there : Bool) (x y : Refusal) → cond unbuilt (Some x) (cond there None (Some y)) ≡ None → there ≡ true
+is_there : (unbuilt there : Bool) (x y : Refusal) → cond (not unbuilt) (cond there None (Some y)) (Some x) ≡ None → there ≡ true
 is_there true there x y h = cc
 is_there false true x y h = refl
 is_there false false x y h = cc
@@ -272,7 +272,7 @@ valid_with m (record_of.Switch switch) valid allowed =
     switch_valid m.config.net switch.name (record switch { birth = record { 0 = event_count m + 1 } }) valid (not_there (at m.config.net.switches switch.name) (nat_le 1024 (length m.config.net.switches)) why.NotBuilt allowed) refl
 valid_with m (record_of.SwitchPort port) valid allowed =
     let new = is_new m.config.net port allowed in
-    port_valid m.config.net port.name (record port { birth = record { 0 = event_count m + 1 } }) valid (is_built m.config.net port allowed).absent refl
+    port_valid m.config.net port.name (record port { birth = record { 0 = event_count m + 1 } }) valid (built_port m.config.net port allowed).absent refl
     (is_there (is_unbuilt_port m.config.net port) (is_some (at m.config.net.switches port.switch)) why.NotBuilt (why.NoSuch port.switch) allowed)
     (record { plain = new.plain; stations = new.stations; once = new.once; apart = new.apart; ips_apart = new.ips_apart })
 valid_with m _ valid allowed = cc

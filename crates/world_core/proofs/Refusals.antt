@@ -1,7 +1,7 @@
 -- What holds where an event isn't refused.
 use Rattle.std.specs.Prelude.{◌≡◌, ◌<◌, ℕ, Bool, true, false, List, [], ◌∷◌, length, nat_le, Some, None, Option, is_some, cond, refl}
 use Rattle.std.proofs.Common.{sym, subst}
-use Rattle.std.specs.Prelude.{◌||◌}
+use Rattle.std.specs.Prelude.{◌||◌, not}
 use Rattle.std.specs.List.{list_any}
 use Rattle.ovn_base.specs.lists.Among.{Among}
 use Rattle.ovn_base.proofs.NameLemmas.{same_bytes}
@@ -28,7 +28,7 @@ both true true x y h = refl
 both true false x y h = cc
 both false b x y h = cc
 
-none_first : (a : Bool) (x : Refusal) (rest : Option Refusal) → cond a (Some x) rest ≡ None → a ≡ false
+none_first : (a : Bool) (x : Refusal) (rest : Option Refusal) → cond (not a) rest (Some x) ≡ None → a ≡ false
 none_first true x rest h = cc
 none_first false x rest h = refl
 
@@ -36,7 +36,7 @@ none_first false x rest h = refl
 pub is_bound : (m : State) (p : Name) → refusal_of_entry m p ≡ None → is_some (at m.config.bindings p) ≡ true
 is_bound m p h = by (is_some (at m.config.net.switch_ports p)) (is_some (at m.config.bindings p)) (too_many_wait m) h
   where
-    by : (a b c : Bool) → cond a (cond b (cond c (Some why.TooManyFrames) None) (Some why.NotBuilt)) (Some (why.NoSuch p)) ≡ None → b ≡ true
+    by : (a b c : Bool) → cond (not a || b) (cond a (cond c (Some why.TooManyFrames) None) (Some (why.NoSuch p))) (Some why.NotBuilt) ≡ None → b ≡ true
     by true true c h = refl
     by true false c h = cc
     by false b c h = cc
@@ -79,10 +79,10 @@ among_chassis (c ∷ names) chassis h =
     ] refl h
 
 -- an added port is built, and its addresses are new
-pub is_built : (net : Network) (port : SwitchPort) → refusal_of_record net (record_of.SwitchPort port) ≡ None → IsBuiltPort net port
-is_built net port h = built net port (none_first (is_unbuilt_port net port) _ _ h)
+pub built_port : (net : Network) (port : SwitchPort) → refusal_of_record net (record_of.SwitchPort port) ≡ None → IsBuiltPort net port
+built_port net port h = built net port (none_first (is_unbuilt_port net port) _ _ h)
 
 pub is_new : (net : Network) (port : SwitchPort) → refusal_of_record net (record_of.SwitchPort port) ≡ None → AreNew net port
 is_new net port h =
-    let is = is_built net port h in
+    let is = built_port net port h in
     record { plain = is.plain; stations = all_of_stations port.addresses is.entries; once = macs_once port.addresses is.entries; apart = is.apart; ips_apart = is.ips_apart }

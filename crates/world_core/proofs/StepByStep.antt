@@ -1,6 +1,6 @@
 -- A journey of the logical network is one that is taken packet by packet.
 use Rattle.inet_packet.proofs.OnePacket.{one_packet_at_most}
-use Rattle.std.specs.Prelude.{◌≡◌, ◌≢◌, ℕ, zero, suc, Bool, true, false, cond, List, [], ◌∷◌, ◌++◌, Option, Some, None, is_some, refl}
+use Rattle.std.specs.Prelude.{◌≡◌, ◌≢◌, ◌||◌, ℕ, zero, suc, Bool, true, false, not, cond, List, [], ◌∷◌, ◌++◌, Option, Some, None, is_some, refl}
 use Rattle.std.proofs.Common.{sym, ap, ◌∙◌, subst, inl, inr}
 use Rattle.std.proofs.Math.Dec.{eqb as nat_eq}
 use Rattle.std.proofs.lemmas.Bool.{cases_Bool, false≢true}
@@ -113,7 +113,7 @@ pub can_enter : (m : State) (zones : List (Name × ℕ)) → AreBound m zones �
 can_enter m zones bound p allowed = by (at m.config.net.switch_ports p) refl (at m.config.bindings p) refl allowed
   where
     by : (o : Option SwitchPort) → at m.config.net.switch_ports p ≡ o → (b : Option Name) → at m.config.bindings p ≡ b
-        → cond (is_some o) (cond (is_some b) (cond (too_many_wait m) (Some why.TooManyFrames) None) (Some why.NotBuilt)) (Some (why.NoSuch p)) ≡ None → CanEnter m p
+        → cond (not (is_some o) || is_some b) (cond (is_some o) (cond (too_many_wait m) (Some why.TooManyFrames) None) (Some (why.NoSuch p))) (Some why.NotBuilt) ≡ None → CanEnter m p
     by (Some port) e (Some chassis) f h = record { port = port; there = e; chassis = chassis; home = f; known = bound.chassis_there p chassis f }
     by (Some port) e None f h = cc h
     by None e b f h = cc h

@@ -3,7 +3,7 @@ use Rattle.world_core.proofs.Turns.{bindings_stay_beside, bindings_stay_with}
 use Rattle.net_model.specs.Transition.{turned_by, add_chassis, bind}
 use Rattle.std.specs.Ordering.{nat_cmp}
 use Rattle.std.specs.Cmp.Lexicographic.{slice_cmp}
-use Rattle.std.specs.Prelude.{◌≡◌, ◌+◌, ◌||◌, ℕ, cond, List, [], ◌∷◌, length, map, nat_le, Option, Some, None, is_some, codes, unwrap_or, refl}
+use Rattle.std.specs.Prelude.{◌≡◌, ◌+◌, ◌||◌, ℕ, cond, not, List, [], ◌∷◌, length, map, nat_le, Option, Some, None, is_some, codes, unwrap_or, refl}
 use Rattle.std.proofs.Common.{sym, ap, subst, ◌∙◌, inl, inr}
 use Rattle.std.proofs.lemmas.Bool.{cases_Bool, false≢true}
 use Rattle.chassis_sim.specs.Changing.{given_name}
@@ -60,7 +60,7 @@ same_settled (w ∷ ws) keys d p = refl
 pub switch_new : (net : Network) (s : Switch) → refusal_of_record net (record_of.Switch s) ≡ None → at net.switches s.name ≡ None
 switch_new net s h = by (at net.switches s.name) h
   where
-    by : (o : Option Switch) → cond (is_some o || nat_le 1024 (length net.switches)) (Some why.NotBuilt) None ≡ None → o ≡ None
+    by : (o : Option Switch) → cond (not (is_some o || nat_le 1024 (length net.switches))) None (Some why.NotBuilt) ≡ None → o ≡ None
     by None h = refl
     by (Some x) h = cc
 

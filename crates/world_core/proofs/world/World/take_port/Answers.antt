@@ -7,14 +7,14 @@ use Rattle.world_core.specs.StepParts.{IsRecompiled}
 use Rattle.world_core.specs.WorldView.{WorldView}
 use Rattle.net_model.specs.State.{finished}
 use Rattle.world_core.proofs.TurnEvents.{done_so, port_done}
-use Rattle.world_core.proofs.Refusals.{is_built, is_new}
+use Rattle.world_core.proofs.Refusals.{built_port, is_new}
 use Rattle.world_core.proofs.world.World.take_port.Goals as goal
 
 pub add_port-requires-clause-absent : goal.add_port-requires-clause-absent
-add_port-requires-clause-absent c = (is_built c.args.self.now.state.config.net c.args.port.now c.requires.admitted).absent
+add_port-requires-clause-absent c = (built_port c.args.self.now.state.config.net c.args.port.now c.requires.admitted).absent
 
 pub add_port-requires-clause-few : goal.add_port-requires-clause-few
-add_port-requires-clause-few c = (is_built c.args.self.now.state.config.net c.args.port.now c.requires.admitted).few
+add_port-requires-clause-few c = (built_port c.args.self.now.state.config.net c.args.port.now c.requires.admitted).few
 
 pub add_port-requires-clause-new : goal.add_port-requires-clause-new
 add_port-requires-clause-new c = is_new c.args.self.now.state.config.net c.args.port.now c.requires.admitted
@@ -37,4 +37,4 @@ returns c =
     let now : IsConsistent (finished between.state) done.zones = subst (λ z. IsConsistent (finished between.state) z) (sym zones) c.in_ok-effects.ensures.consistent in
     let made : IsRecompiled [] names done new = subst (λ l. IsRecompiled l names done new) c.new.ensures c.in_ok-recompile.ensures in
     done_so old new (event_of.Edit (Add (record_of.SwitchPort p) ∷ [])) effects c.done_with.result.effects c.done_with.result.walks c.done_with.result.matched c.done_with.ensures.effects c.done_with.ensures.walks c.done_with.ensures.matched
-    (port_done old done new between.state names c.requires.taken now over same made p effects (is_built old.state.config.net p c.requires.admitted).absent c.in_ok-effects.ensures.edits c.in_ok-names.ensures)
+    (port_done old done new between.state names c.requires.taken now over same made p effects (built_port old.state.config.net p c.requires.admitted).absent c.in_ok-effects.ensures.edits c.in_ok-names.ensures)
