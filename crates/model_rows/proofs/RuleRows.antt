@@ -19,11 +19,11 @@ use Rattle.net_model.specs.Verdict.{default, allow_related, deny}
 use Rattle.ovn_base.specs.declared.name.Name.{Name}
 use Rattle.tunnel_keys.specs.declared.owner.Identity.{Identity}
 use Rattle.model_rows.specs.Frames.{AreFramesOf, hex, packet}
-use Rattle.model_rows.specs.Play.{RowEvent, edited, bound, passed, RowLine, out, drop, to_one, Told, wanted, ComesOut, all_told, all_wanted}
+use Rattle.model_rows.specs.Play.{RowEvent, edited, bound, unbound, chassis_added, chassis_removed, passed, RowLine, out, drop, to_one, Told, wanted, ComesOut, all_told, all_wanted}
 use Rattle.model_rows.specs.Records.{ether, redo_rule}
 use Rattle.model_rows.specs.Rules as row
 use Rattle.model_rows.specs.Switch.{there, back, f, u, v}
-use Rattle.model_rows.proofs.Steps.{Tells, quiet_after, journey_in, journey_out, enters, arrives, binds, edits, passes, ends}
+use Rattle.model_rows.proofs.Steps.{Tells, quiet_after, journey_in, journey_out, enters, arrives, binds, unbinds, chassis_comes, chassis_goes, edits, passes, ends}
 use Rattle.model_rows.proofs.Verdicts.{equal_say, related_say, turned_say, alone_say, wide_say, group_say}
 
 pub frames : AreFramesOf row.rule_frames
@@ -237,6 +237,72 @@ rebound_port_tells = answers_alone_first (
 pub rebound_port : ComesOut row.rebound_port
 unfolding ComesOut
 rebound_port = rebound_port_tells.told_so
+
+-- ---- unbound-port, removed-chassis
+
+abbrev begun_1 : State
+begun_1 = finished (ended_journey answers_alone_state (journey_in answers_alone_state (to_p2 u) p1 (codes "hv1") (packet u) allow_related))
+
+abbrev begun_2 : State
+begun_2 = finished (ended_journey begun_1 (journey_out begun_1 (out_p2 u) 1 switch_0 port_1 port_2 (codes "hv2") p2 (packet u) default))
+
+abbrev unbound_port_3 : State
+unbound_port_3 = quiet_after (unbound (codes "p1") ∷ []) begun_2
+
+abbrev unbound_port_4 : State
+unbound_port_4 = quiet_after (bound (codes "p1") (codes "hv1") ∷ []) unbound_port_3
+
+abbrev unbound_port_5 : State
+unbound_port_5 = finished (ended_journey unbound_port_4 (journey_in unbound_port_4 (to_p1 v) p2 (codes "hv2") (packet v) default))
+
+abbrev unbound_port_6 : State
+unbound_port_6 = finished (ended_journey unbound_port_5 (journey_out unbound_port_5 (dropped (codes "p1") cause.Acl) 2 switch_0 port_2 port_1 (codes "hv1") p1 (packet v) deny))
+
+unbound_port_tells : Tells row.unbound_port empty (all_wanted row.unbound_port)
+unfolding frame_of ip4_header stands_in points
+unbound_port_tells = answers_alone_first (
+    enters answers_alone_state (to_p2 u) p1 (codes "hv1") (packet u) allow_related refl refl refl refl refl (alone_say FromLport (sight_in p1 (packet u))) (tells (to_p2 u)) (
+    arrives begun_1 (out_p2 u) 1 switch_0 port_1 port_2 (codes "hv2") p2 (packet u) default refl refl refl refl refl (alone_say ToLport (sight_out port_1 p2 (packet u))) (tells (out_p2 u)) (
+    unbinds begun_2 (codes "p1") (
+    binds unbound_port_3 (codes "p1") (codes "hv1") (
+    enters unbound_port_4 (to_p1 v) p2 (codes "hv2") (packet v) default refl refl refl refl refl (alone_say FromLport (sight_in p2 (packet v))) (tells (to_p1 v)) (
+    arrives unbound_port_5 (dropped (codes "p1") cause.Acl) 2 switch_0 port_2 port_1 (codes "hv1") p1 (packet v) deny refl refl refl refl refl (alone_say ToLport (sight_out port_2 p1 (packet v))) (tells (dropped (codes "p1") cause.Acl)) (
+    ends unbound_port_6)))))))
+
+pub unbound_port : ComesOut row.unbound_port
+unfolding ComesOut
+unbound_port = unbound_port_tells.told_so
+
+abbrev removed_chassis_3 : State
+removed_chassis_3 = quiet_after (chassis_removed (codes "hv1") ∷ []) begun_2
+
+abbrev removed_chassis_4 : State
+removed_chassis_4 = quiet_after (chassis_added (codes "hv1") ∷ []) removed_chassis_3
+
+abbrev removed_chassis_5 : State
+removed_chassis_5 = quiet_after (bound (codes "p1") (codes "hv1") ∷ []) removed_chassis_4
+
+abbrev removed_chassis_6 : State
+removed_chassis_6 = finished (ended_journey removed_chassis_5 (journey_in removed_chassis_5 (to_p1 v) p2 (codes "hv2") (packet v) default))
+
+abbrev removed_chassis_7 : State
+removed_chassis_7 = finished (ended_journey removed_chassis_6 (journey_out removed_chassis_6 (dropped (codes "p1") cause.Acl) 2 switch_0 port_2 port_1 (codes "hv1") p1 (packet v) deny))
+
+removed_chassis_tells : Tells row.removed_chassis empty (all_wanted row.removed_chassis)
+unfolding frame_of ip4_header stands_in points
+removed_chassis_tells = answers_alone_first (
+    enters answers_alone_state (to_p2 u) p1 (codes "hv1") (packet u) allow_related refl refl refl refl refl (alone_say FromLport (sight_in p1 (packet u))) (tells (to_p2 u)) (
+    arrives begun_1 (out_p2 u) 1 switch_0 port_1 port_2 (codes "hv2") p2 (packet u) default refl refl refl refl refl (alone_say ToLport (sight_out port_1 p2 (packet u))) (tells (out_p2 u)) (
+    chassis_goes begun_2 (codes "hv1") (
+    chassis_comes removed_chassis_3 (codes "hv1") (
+    binds removed_chassis_4 (codes "p1") (codes "hv1") (
+    enters removed_chassis_5 (to_p1 v) p2 (codes "hv2") (packet v) default refl refl refl refl refl (alone_say FromLport (sight_in p2 (packet v))) (tells (to_p1 v)) (
+    arrives removed_chassis_6 (dropped (codes "p1") cause.Acl) 2 switch_0 port_2 port_1 (codes "hv1") p1 (packet v) deny refl refl refl refl refl (alone_say ToLport (sight_out port_2 p1 (packet v))) (tells (dropped (codes "p1") cause.Acl)) (
+    ends removed_chassis_7))))))))
+
+pub removed_chassis : ComesOut row.removed_chassis
+unfolding ComesOut
+removed_chassis = removed_chassis_tells.told_so
 
 -- ---- idle-connection
 

@@ -19,10 +19,10 @@ use Rattle.net_model.specs.Journey.{Journey, enter_one, arrive_one, waiting_at, 
 use Rattle.net_model.specs.State.{State, finished, clocked, event_count}
 use Rattle.net_model.specs.Tracking.{Passage, pass}
 use Rattle.net_model.specs.Trail.{Trail, spot_of, then, finally, unless}
-use Rattle.net_model.specs.Transition.{turned_by, bind, add_chassis, edit, mark_backend}
+use Rattle.net_model.specs.Transition.{turned_by, bind, unbind, add_chassis, remove_chassis, edit, mark_backend}
 use Rattle.net_model.specs.Verdict.{Verdict, verdict_of}
 use Rattle.net_model.specs.Visit.{passing_on, send_on, visit}
-use Rattle.model_rows.specs.Play.{RowEvent, edited, bound, chassis_added, marked, passed, went, RowLine, Told, told, wanted, choices_in_line, tell_and, all_told}
+use Rattle.model_rows.specs.Play.{RowEvent, edited, bound, unbound, chassis_added, chassis_removed, marked, passed, went, RowLine, Told, told, wanted, choices_in_line, tell_and, all_told}
 
 -- ---- a packet enters
 
@@ -70,7 +70,9 @@ abbrev pub quiet_after : List RowEvent → State → State
 quiet_after [] m = m
 quiet_after (edited ops ∷ events) m = quiet_after events (finished (turned_by (edit m.config (accepted m.config.net ops (event_count m + 1))) m))
 quiet_after (bound port chassis ∷ events) m = quiet_after events (finished (turned_by (bind m.config port chassis) m))
+quiet_after (unbound port ∷ events) m = quiet_after events (finished (turned_by (unbind m.config port) m))
 quiet_after (chassis_added chassis ∷ events) m = quiet_after events (finished (turned_by (add_chassis m.config chassis) m))
+quiet_after (chassis_removed chassis ∷ events) m = quiet_after events (finished (turned_by (remove_chassis m.config chassis) m))
 quiet_after (marked balancer backend online ∷ events) m = quiet_after events (finished (turned_by (mark_backend m.config balancer backend online) m))
 quiet_after (passed seconds ∷ events) m = quiet_after events (finished (clocked seconds m))
 quiet_after (went traffic lines ∷ events) m = m
@@ -86,6 +88,18 @@ ends m = record { told_so = refl }
 pub binds : {rest : List RowEvent} {ws : List Told} (m : State) (port chassis : Name) → Tells rest (quiet_after (bound port chassis ∷ []) m) ws → Tells (bound port chassis ∷ rest) m ws
 unfolding all_told
 binds m port chassis h = record { told_so = h.told_so }
+
+pub unbinds : {rest : List RowEvent} {ws : List Told} (m : State) (port : Name) → Tells rest (quiet_after (unbound port ∷ []) m) ws → Tells (unbound port ∷ rest) m ws
+unfolding all_told
+unbinds m port h = record { told_so = h.told_so }
+
+pub chassis_comes : {rest : List RowEvent} {ws : List Told} (m : State) (chassis : Name) → Tells rest (quiet_after (chassis_added chassis ∷ []) m) ws → Tells (chassis_added chassis ∷ rest) m ws
+unfolding all_told
+chassis_comes m chassis h = record { told_so = h.told_so }
+
+pub chassis_goes : {rest : List RowEvent} {ws : List Told} (m : State) (chassis : Name) → Tells rest (quiet_after (chassis_removed chassis ∷ []) m) ws → Tells (chassis_removed chassis ∷ rest) m ws
+unfolding all_told
+chassis_goes m chassis h = record { told_so = h.told_so }
 
 pub edits : {rest : List RowEvent} {ws : List Told} (m : State) (ops : List Op) → Tells rest (quiet_after (edited ops ∷ []) m) ws → Tells (edited ops ∷ rest) m ws
 unfolding all_told

@@ -23,7 +23,7 @@ use Rattle.nb_records.specs.declared.rule.Acl.{Acl}
 use Rattle.net_model.specs.Sights.{Sight, roster_of, truth_at, compares, holds_at}
 use Rattle.net_model.specs.Verdict.{Verdict, same_direction, outranks, speaks, verdict_if, verdict_of}
 use Rattle.ovn_base.specs.declared.name.Name.{Name}
-use Rattle.model_rows.specs.Play.{RowEvent, edited, bound, chassis_added, marked, passed, went}
+use Rattle.model_rows.specs.Play.{RowEvent, edited, bound, unbound, chassis_added, chassis_removed, marked, passed, went}
 use Rattle.model_rows.specs.Rules as row
 use Rattle.model_rows.proofs.Meanings.{meaning_compare, meaning_both}
 
@@ -77,6 +77,8 @@ net_after n [] net = net
 net_after n (edited ops ∷ events) net = net_after (n + 1) events (accepted net ops (n + 1))
 net_after n (bound port chassis ∷ events) net = net_after (n + 1) events net
 net_after n (chassis_added chassis ∷ events) net = net_after (n + 1) events net
+net_after n (unbound port ∷ events) net = net_after (n + 1) events net
+net_after n (chassis_removed chassis ∷ events) net = net_after (n + 1) events net
 net_after n (marked balancer backend online ∷ events) net = net_after (n + 1) events net
 net_after n (passed seconds ∷ events) net = net_after (n + 1) events net
 net_after n (went traffic lines ∷ events) net = net_after (n + 1) events net

@@ -12,7 +12,7 @@ use Rattle.net_model.specs.declared.crossing.Group.TheVariants as group
 use Rattle.net_model.specs.Journey.{Journey, Traffic, travel, places_of, begin_journey, ended_journey}
 use Rattle.net_model.specs.State.{State, empty, finished, clocked, event_count}
 use Rattle.net_model.specs.Trail.{End, Choice, leaves, is_dropped, crosses, picks_backend, picks_port, is_lost, to_backend, to_port}
-use Rattle.net_model.specs.Transition.{Turn, turned_by, bind, add_chassis, edit, mark_backend}
+use Rattle.net_model.specs.Transition.{Turn, turned_by, bind, unbind, add_chassis, remove_chassis, edit, mark_backend}
 
 -- ---- lines
 
@@ -59,7 +59,9 @@ choices_in_line _ = []
 pub data RowEvent : Type 0 where
   edited : List Op → RowEvent
   bound : Name → Name → RowEvent
+  unbound : Name → RowEvent
   chassis_added : Name → RowEvent
+  chassis_removed : Name → RowEvent
   marked : Name → Backend → Bool → RowEvent
   passed : ℕ → RowEvent
   -- packets go, and these lines tell what became of them
@@ -87,7 +89,9 @@ tell_and rest m j = told j ∷ rest (finished (ended_journey m j))
 abbrev pub event_and : RowEvent → (State → List Told) → State → List Told
 event_and (edited ops) rest m = turn_and rest (edit m.config (accepted m.config.net ops (event_count m + 1))) m
 event_and (bound port chassis) rest m = turn_and rest (bind m.config port chassis) m
+event_and (unbound port) rest m = turn_and rest (unbind m.config port) m
 event_and (chassis_added chassis) rest m = turn_and rest (add_chassis m.config chassis) m
+event_and (chassis_removed chassis) rest m = turn_and rest (remove_chassis m.config chassis) m
 event_and (marked balancer backend online) rest m = turn_and rest (mark_backend m.config balancer backend online) m
 event_and (passed seconds) rest m = rest (finished (clocked seconds m))
 event_and (went traffic lines) rest m = tell_and rest m (travel (places_of m) traffic (begin_journey m (flat_map choices_in_line lines)))

@@ -10,7 +10,7 @@ use Rattle.match_language.specs.declared.field.Field.TheVariants as field
 use Rattle.match_language.specs.declared.field.Predicate.TheVariants as predicate
 use Rattle.nb_records.specs.declared.rule.RuleAction.TheVariants as action
 use Rattle.model_rows.specs.Frames.{hex}
-use Rattle.model_rows.specs.Play.{RowEvent, edited, bound, passed, out, drop, to_one}
+use Rattle.model_rows.specs.Play.{RowEvent, edited, bound, unbound, chassis_added, chassis_removed, passed, out, drop, to_one}
 use Rattle.model_rows.specs.Records.{add_switch, add_lone_port, add_group, add_rule, add_group_rule, redo_rule}
 use Rattle.model_rows.specs.Switch.{two_ports, entered, arrived, there, back, f, u, v}
 
@@ -98,6 +98,29 @@ rebound_port = answers_alone
     ∷ bound (codes "p1") (codes "hv1")
     ∷ entered (codes "p2") v (back (to_one (codes "p1")) v ∷ [])
     ∷ arrived 3 (drop (codes "s0") (codes "p1") cause.Acl ∷ [])
+    ∷ []
+
+-- so does to be bound nowhere for a while; the lines of this row and the next are those of a second reading of the rules, made apart from these definitions
+abbrev pub unbound_port : List RowEvent
+unbound_port = answers_alone
+    ++ entered (codes "p1") u (there (to_one (codes "p2")) u ∷ [])
+    ∷ arrived 1 (out (codes "p2") (hex u) ∷ [])
+    ∷ unbound (codes "p1")
+    ∷ bound (codes "p1") (codes "hv1")
+    ∷ entered (codes "p2") v (back (to_one (codes "p1")) v ∷ [])
+    ∷ arrived 2 (drop (codes "s0") (codes "p1") cause.Acl ∷ [])
+    ∷ []
+
+-- and to have its chassis go and come again
+abbrev pub removed_chassis : List RowEvent
+removed_chassis = answers_alone
+    ++ entered (codes "p1") u (there (to_one (codes "p2")) u ∷ [])
+    ∷ arrived 1 (out (codes "p2") (hex u) ∷ [])
+    ∷ chassis_removed (codes "hv1")
+    ∷ chassis_added (codes "hv1")
+    ∷ bound (codes "p1") (codes "hv1")
+    ∷ entered (codes "p2") v (back (to_one (codes "p1")) v ∷ [])
+    ∷ arrived 2 (drop (codes "s0") (codes "p1") cause.Acl ∷ [])
     ∷ []
 
 -- an answer after 59 seconds keeps the connection, and 60 seconds later it has ended

@@ -17,11 +17,13 @@ pub fn verdicts()
     ensures group_on_two_switches { ComesOut row.group_on_two_switches }
 {}
 
-/// Answers pass, but where a rule has blocked the connection, where its port was bound anew, or where it was idle too long.
-#[tactic(auto, using(crate::proofs::RuleRows::blocked_connection, crate::proofs::RuleRows::rebound_port, crate::proofs::RuleRows::idle_connection, crate::proofs::RuleRows::used_connection))]
+/// Answers pass, but where a rule has blocked the connection, where its port was bound anew, after being bound nowhere or with its chassis gone for a while too, or where it was idle too long.
+#[tactic(auto, using(crate::proofs::RuleRows::blocked_connection, crate::proofs::RuleRows::rebound_port, crate::proofs::RuleRows::unbound_port, crate::proofs::RuleRows::removed_chassis, crate::proofs::RuleRows::idle_connection, crate::proofs::RuleRows::used_connection))]
 pub fn connections()
     ensures blocked_connection { ComesOut row.blocked_connection }
     ensures rebound_port { ComesOut row.rebound_port }
+    ensures unbound_port { ComesOut row.unbound_port }
+    ensures removed_chassis { ComesOut row.removed_chassis }
     ensures idle_connection { ComesOut row.idle_connection }
     ensures used_connection { ComesOut row.used_connection }
 {}
