@@ -1,0 +1,6 @@
+//! The logical flows of the network: its units, the rows of each in each stage as definitions, the facts that each reads, and the parts
+//! of which rows are made.
+#![tactic(auto)]
+
+pub mod laws;
+pub mod rows;
