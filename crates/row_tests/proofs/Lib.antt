@@ -1,0 +1,3 @@
+-- Lemmas.
+pub mod Texts
+pub mod SwitchLines
