@@ -1,0 +1,2 @@
+-- Definitions and laws that the unit cites.
+pub mod RuleLaw

@@ -1,0 +1,4 @@
+//! The stages of rules: a rule on a switch as a unit of the compiler.
+#![tactic(auto)]
+
+pub mod rule_unit;
