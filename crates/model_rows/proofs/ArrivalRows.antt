@@ -16,3 +16,11 @@ repeated_and_lost_frames = refl {a = all_wanted row.repeated_and_lost_frames}
 pub retired_keys : ComesOut row.retired_keys
 unfolding ComesOut all_told frame_of ip4_header verdict_of
 retired_keys = refl {a = all_wanted row.retired_keys}
+
+pub moved_port_of_entry : ComesOut row.moved_port_of_entry
+unfolding ComesOut all_told frame_of ip4_header verdict_of
+moved_port_of_entry = refl {a = all_wanted row.moved_port_of_entry}
+
+pub replaced_port_of_entry : ComesOut row.replaced_port_of_entry
+unfolding ComesOut all_told frame_of ip4_header verdict_of
+replaced_port_of_entry = refl {a = all_wanted row.replaced_port_of_entry}

@@ -15,16 +15,17 @@ use Rattle.net_model.specs.Entry.{sight_in}
 use Rattle.net_model.specs.Exit.{sight_out}
 use Rattle.net_model.specs.Journey.{ended_journey}
 use Rattle.net_model.specs.State.{State, empty, finished}
-use Rattle.net_model.specs.Verdict.{default, allow_related, deny}
+use Rattle.net_model.specs.Verdict.{default, allow, allow_related, deny}
 use Rattle.ovn_base.specs.declared.name.Name.{Name}
 use Rattle.tunnel_keys.specs.declared.owner.Identity.{Identity}
 use Rattle.model_rows.specs.Frames.{AreFramesOf, hex, packet}
 use Rattle.model_rows.specs.Play.{RowEvent, edited, bound, unbound, chassis_added, chassis_removed, passed, RowLine, out, drop, to_one, Told, wanted, ComesOut, all_told, all_wanted}
 use Rattle.model_rows.specs.Records.{ether, redo_rule}
+use Rattle.model_rows.specs.Precedence as precedence
 use Rattle.model_rows.specs.Rules as row
 use Rattle.model_rows.specs.Switch.{there, back, f, u, v}
 use Rattle.model_rows.proofs.Steps.{Tells, quiet_after, journey_in, journey_out, enters, arrives, binds, unbinds, chassis_comes, chassis_goes, edits, passes, ends}
-use Rattle.model_rows.proofs.Verdicts.{equal_say, related_say, turned_say, alone_say, wide_say, group_say}
+use Rattle.model_rows.proofs.Verdicts.{equal_say, exit_say, lower_say, reject_say, related_say, turned_say, alone_say, wide_say, group_say}
 
 pub frames : AreFramesOf row.rule_frames
 unfolding AreFramesOf frame_of ip4_header
@@ -191,6 +192,47 @@ blocked_connection_tells = related_rules_first (
 pub blocked_connection : ComesOut row.blocked_connection
 unfolding ComesOut
 blocked_connection = blocked_connection_tells.told_so
+
+-- ---- unblocked-connection
+
+abbrev unblocked_connection_3 : State
+unblocked_connection_3 = quiet_after (edited (redo_rule (codes "a1") action.Drop ∷ []) ∷ []) blocked_connection_2
+
+abbrev unblocked_connection_4 : State
+unblocked_connection_4 = finished (ended_journey unblocked_connection_3 (journey_in unblocked_connection_3 (dropped (codes "p1") cause.Acl) p1 (codes "hv1") (packet u) deny))
+
+abbrev unblocked_connection_5 : State
+unblocked_connection_5 = quiet_after (edited (redo_rule (codes "a1") action.AllowRelated ∷ []) ∷ []) unblocked_connection_4
+
+abbrev unblocked_connection_6 : State
+unblocked_connection_6 = finished (ended_journey unblocked_connection_5 (journey_in unblocked_connection_5 (to_p2 u) p1 (codes "hv1") (packet u) allow_related))
+
+abbrev unblocked_connection_7 : State
+unblocked_connection_7 = finished (ended_journey unblocked_connection_6 (journey_out unblocked_connection_6 (out_p2 u) 2 switch_0 port_1 port_2 (codes "hv2") p2 (packet u) default))
+
+abbrev unblocked_connection_8 : State
+unblocked_connection_8 = finished (ended_journey unblocked_connection_7 (journey_in unblocked_connection_7 (to_p1 v) p2 (codes "hv2") (packet v) default))
+
+abbrev unblocked_connection_9 : State
+unblocked_connection_9 = finished (ended_journey unblocked_connection_8 (journey_out unblocked_connection_8 (out_p1 v) 3 switch_0 port_2 port_1 (codes "hv1") p1 (packet v) default))
+
+unblocked_connection_tells : Tells row.unblocked_connection empty (all_wanted row.unblocked_connection)
+unfolding frame_of ip4_header stands_in points
+unblocked_connection_tells = related_rules_first (
+    enters related_rules_state (to_p2 u) p1 (codes "hv1") (packet u) allow_related refl refl refl refl refl (related_say FromLport (sight_in p1 (packet u))) (tells (to_p2 u)) (
+    arrives blocked_connection_1 (out_p2 u) 1 switch_0 port_1 port_2 (codes "hv2") p2 (packet u) default refl refl refl refl refl (related_say ToLport (sight_out port_1 p2 (packet u))) (tells (out_p2 u)) (
+    edits blocked_connection_2 (redo_rule (codes "a1") action.Drop ∷ []) (
+    enters unblocked_connection_3 (dropped (codes "p1") cause.Acl) p1 (codes "hv1") (packet u) deny refl refl refl refl refl (turned_say FromLport (sight_in p1 (packet u))) (tells (dropped (codes "p1") cause.Acl)) (
+    edits unblocked_connection_4 (redo_rule (codes "a1") action.AllowRelated ∷ []) (
+    enters unblocked_connection_5 (to_p2 u) p1 (codes "hv1") (packet u) allow_related refl refl refl refl refl (related_say FromLport (sight_in p1 (packet u))) (tells (to_p2 u)) (
+    arrives unblocked_connection_6 (out_p2 u) 2 switch_0 port_1 port_2 (codes "hv2") p2 (packet u) default refl refl refl refl refl (related_say ToLport (sight_out port_1 p2 (packet u))) (tells (out_p2 u)) (
+    enters unblocked_connection_7 (to_p1 v) p2 (codes "hv2") (packet v) default refl refl refl refl refl (related_say FromLport (sight_in p2 (packet v))) (tells (to_p1 v)) (
+    arrives unblocked_connection_8 (out_p1 v) 3 switch_0 port_2 port_1 (codes "hv1") p1 (packet v) default refl refl refl refl refl (related_say ToLport (sight_out port_2 p1 (packet v))) (tells (out_p1 v)) (
+    ends unblocked_connection_9))))))))))
+
+pub unblocked_connection : ComesOut row.unblocked_connection
+unfolding ComesOut
+unblocked_connection = unblocked_connection_tells.told_so
 
 -- ---- rebound-port
 
@@ -413,3 +455,57 @@ used_connection_tells = answers_alone_first (
 pub used_connection : ComesOut row.used_connection
 unfolding ComesOut
 used_connection = used_connection_tells.told_so
+
+-- ---- lower-drop, drop-at-exit, reject-first
+
+abbrev lower_drop_state : State
+lower_drop_state = quiet_after precedence.lower_drop_rules empty
+
+lower_drop_begins : {rest : List RowEvent} {ws : List Told} → Tells rest lower_drop_state ws → Tells (precedence.lower_drop_rules ++ rest) empty ws
+unfolding all_told
+lower_drop_begins h = record { told_so = h.told_so }
+
+abbrev lower_drop_1 : State
+lower_drop_1 = finished (ended_journey lower_drop_state (journey_in lower_drop_state (to_p2 f) p1 (codes "hv1") (packet f) allow))
+
+abbrev lower_drop_2 : State
+lower_drop_2 = finished (ended_journey lower_drop_1 (journey_out lower_drop_1 (out_p2 f) 1 switch_0 port_1 port_2 (codes "hv2") p2 (packet f) default))
+
+lower_drop_tells : Tells precedence.lower_drop empty (all_wanted precedence.lower_drop)
+unfolding frame_of ip4_header stands_in points
+lower_drop_tells = lower_drop_begins (
+    enters lower_drop_state (to_p2 f) p1 (codes "hv1") (packet f) allow refl refl refl refl refl (lower_say FromLport (sight_in p1 (packet f))) (tells (to_p2 f)) (
+    arrives lower_drop_1 (out_p2 f) 1 switch_0 port_1 port_2 (codes "hv2") p2 (packet f) default refl refl refl refl refl (lower_say ToLport (sight_out port_1 p2 (packet f))) (tells (out_p2 f)) (
+    ends lower_drop_2)))
+
+pub lower_drop : ComesOut precedence.lower_drop
+unfolding ComesOut
+lower_drop = lower_drop_tells.told_so
+
+abbrev drop_at_exit_state : State
+drop_at_exit_state = quiet_after precedence.drop_at_exit_rules empty
+
+drop_at_exit_begins : {rest : List RowEvent} {ws : List Told} → Tells rest drop_at_exit_state ws → Tells (precedence.drop_at_exit_rules ++ rest) empty ws
+unfolding all_told
+drop_at_exit_begins h = record { told_so = h.told_so }
+
+abbrev drop_at_exit_1 : State
+drop_at_exit_1 = finished (ended_journey drop_at_exit_state (journey_in drop_at_exit_state (to_p2 f) p1 (codes "hv1") (packet f) default))
+
+abbrev drop_at_exit_2 : State
+drop_at_exit_2 = finished (ended_journey drop_at_exit_1 (journey_out drop_at_exit_1 (dropped (codes "p2") cause.Acl) 1 switch_0 port_1 port_2 (codes "hv2") p2 (packet f) deny))
+
+drop_at_exit_tells : Tells precedence.drop_at_exit empty (all_wanted precedence.drop_at_exit)
+unfolding frame_of ip4_header stands_in points
+drop_at_exit_tells = drop_at_exit_begins (
+    enters drop_at_exit_state (to_p2 f) p1 (codes "hv1") (packet f) default refl refl refl refl refl (exit_say FromLport (sight_in p1 (packet f))) (tells (to_p2 f)) (
+    arrives drop_at_exit_1 (dropped (codes "p2") cause.Acl) 1 switch_0 port_1 port_2 (codes "hv2") p2 (packet f) deny refl refl refl refl refl (exit_say ToLport (sight_out port_1 p2 (packet f))) (tells (dropped (codes "p2") cause.Acl)) (
+    ends drop_at_exit_2)))
+
+pub drop_at_exit : ComesOut precedence.drop_at_exit
+unfolding ComesOut
+drop_at_exit = drop_at_exit_tells.told_so
+
+pub reject_first : ComesOut precedence.reject_first
+unfolding ComesOut all_told frame_of ip4_header stands_in points
+reject_first = rw (reject_say) (refl {a = all_wanted precedence.reject_first})

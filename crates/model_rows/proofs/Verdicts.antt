@@ -24,6 +24,7 @@ use Rattle.net_model.specs.Sights.{Sight, roster_of, truth_at, compares, holds_a
 use Rattle.net_model.specs.Verdict.{Verdict, same_direction, outranks, speaks, verdict_if, verdict_of}
 use Rattle.ovn_base.specs.declared.name.Name.{Name}
 use Rattle.model_rows.specs.Play.{RowEvent, edited, bound, unbound, chassis_added, chassis_removed, marked, passed, went}
+use Rattle.model_rows.specs.Precedence as precedence
 use Rattle.model_rows.specs.Rules as row
 use Rattle.model_rows.proofs.Meanings.{meaning_compare, meaning_both}
 
@@ -114,6 +115,34 @@ equal_say w s = spoken equal_net s0 w s (equal_answers w s) (
   (one_holds equal_net s way.FromLport w field.EthType rel.Eq (value.Number 0x88b5 0xffff ∷ []), tt),
 )
 
+-- lower-drop, reject-first
+abbrev is_number : List Value
+is_number = value.Number 0x88b5 0xffff ∷ []
+
+abbrev pub lower_net : Network
+lower_net = net_of precedence.lower_drop_rules
+
+abbrev pub two_answers : Network → Direction → Sight → List Bool
+two_answers net w s =
+    says way.FromLport w (one net s field.EthType rel.Eq is_number)
+    ∷ says way.FromLport w (one net s field.EthType rel.Eq is_number)
+    ∷ []
+
+pub lower_say : (w : Direction) (s : Sight) → verdict_of lower_net s0 w s ≡ by_rules lower_net (two_answers lower_net w s)
+lower_say w s = spoken lower_net s0 w s (two_answers lower_net w s) (
+  one_holds lower_net s way.FromLport w field.EthType rel.Eq is_number,
+  (one_holds lower_net s way.FromLport w field.EthType rel.Eq is_number, tt),
+)
+
+abbrev pub reject_net : Network
+reject_net = net_of precedence.reject_rules
+
+pub reject_say : (w : Direction) (s : Sight) → verdict_of reject_net s0 w s ≡ by_rules reject_net (two_answers reject_net w s)
+reject_say w s = spoken reject_net s0 w s (two_answers reject_net w s) (
+  one_holds reject_net s way.FromLport w field.EthType rel.Eq is_number,
+  (one_holds reject_net s way.FromLport w field.EthType rel.Eq is_number, tt),
+)
+
 -- blocked-connection, before a rule is turned and after it
 abbrev pub related_net : Network
 related_net = net_of row.related_rules
@@ -189,3 +218,13 @@ group_answers w s = says way.FromLport w (one group_net s field.Inport rel.Eq (v
 
 pub group_say : (w : Direction) (s : Sight) → verdict_of group_net s0 w s ≡ by_rules group_net (group_answers w s)
 group_say w s = spoken group_net s0 w s (group_answers w s) (one_holds group_net s way.FromLport w field.Inport rel.Eq (value.Group (codes "pg") ∷ []), tt)
+
+-- drop-at-exit
+abbrev pub exit_net : Network
+exit_net = net_of precedence.drop_at_exit_rules
+
+abbrev pub exit_answers : Direction → Sight → List Bool
+exit_answers w s = says way.ToLport w (one exit_net s field.EthType rel.Eq is_number) ∷ []
+
+pub exit_say : (w : Direction) (s : Sight) → verdict_of exit_net s0 w s ≡ by_rules exit_net (exit_answers w s)
+exit_say w s = spoken exit_net s0 w s (exit_answers w s) (one_holds exit_net s way.ToLport w field.EthType rel.Eq is_number, tt)

@@ -2,9 +2,9 @@
 use Rattle.std.specs.Prelude.{List, [], ◌∷◌, ◌++◌, true, false, codes}
 use Rattle.net_model.specs.Journey.{enter_one, arrive_one, lose_one, arrive_all}
 use Rattle.model_rows.specs.Frames.{hex, packet}
-use Rattle.model_rows.specs.Play.{RowEvent, edited, bound, went, out, lost, to_one}
+use Rattle.model_rows.specs.Play.{RowEvent, edited, bound, went, out, lost, to_one, to_all}
 use Rattle.model_rows.specs.Records.{remove_port}
-use Rattle.model_rows.specs.Switch.{two_ports, p2_added, there, f}
+use Rattle.model_rows.specs.Switch.{two_ports, p1_added, p2_added, entered, arrived, asks_for_nobody, there, f}
 
 -- the frame from p1 lies between the chassis
 abbrev pub injected : RowEvent
@@ -28,6 +28,24 @@ repeated_and_lost_frames = two_ports
     ∷ went (arrive_one 1 true) (out (codes "p2") (hex f) ∷ [])
     ∷ went (lose_one 1) []
     ∷ went arrive_all []
+    ∷ []
+
+-- a frame to all arrives where its port of entry is at home by now: that gets no copy; the lines of this row and the next are those of a second reading of the rules, made apart from these definitions
+abbrev pub moved_port_of_entry : List RowEvent
+moved_port_of_entry = two_ports
+    ++ entered (codes "p1") asks_for_nobody (there to_all asks_for_nobody ∷ [])
+    ∷ bound (codes "p1") (codes "hv2")
+    ∷ arrived 1 (out (codes "p2") (hex asks_for_nobody) ∷ [])
+    ∷ []
+
+-- another port of its name does
+abbrev pub replaced_port_of_entry : List RowEvent
+replaced_port_of_entry = two_ports
+    ++ entered (codes "p1") asks_for_nobody (there to_all asks_for_nobody ∷ [])
+    ∷ edited (remove_port (codes "p1") ∷ [])
+    ∷ p1_added
+    ∷ bound (codes "p1") (codes "hv2")
+    ∷ arrived 1 (out (codes "p1") (hex asks_for_nobody) ∷ out (codes "p2") (hex asks_for_nobody) ∷ [])
     ∷ []
 
 -- its port goes before it arrives

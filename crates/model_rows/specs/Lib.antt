@@ -7,3 +7,4 @@ pub mod Arrivals
 pub mod Routers
 pub mod Balancers
 pub mod Rules
+pub mod Precedence

@@ -68,8 +68,11 @@ abbrev pub add_balancer : Name → BalancerProtocol → Backend → List Backend
 add_balancer name protocol vip backends switches = op.Add (row.LoadBalancer (record { name = name; birth = unborn; protocol = protocol; vips = record { at = vip; backends = backends } ∷ []; switches = switches; routers = [] }))
 
 -- a rule of a switch, of the priority that all rules have here
+abbrev pub add_rule_at : ℕ → Name → Name → Direction → Expr → RuleAction → Op
+add_rule_at priority name switch way matching action = op.Add (row.Acl (record { name = name; birth = unborn; switch = Some switch; port_group = None; direction = way; priority = priority; matching = matching; action = action }))
+
 abbrev pub add_rule : Name → Name → Direction → Expr → RuleAction → Op
-add_rule name switch way matching action = op.Add (row.Acl (record { name = name; birth = unborn; switch = Some switch; port_group = None; direction = way; priority = 1000; matching = matching; action = action }))
+add_rule = add_rule_at 1000
 
 -- a rule of the switches of a group's ports
 abbrev pub add_group_rule : Name → Name → Direction → Expr → RuleAction → Op

@@ -79,6 +79,20 @@ blocked_connection = related_rules
     ∷ arrived 3 (drop (codes "s0") (codes "p1") cause.Blocked ∷ [])
     ∷ []
 
+-- a connection that was blocked goes on when its rule allows it again; the lines are those of a second reading of the rules, made apart from these definitions
+abbrev pub unblocked_connection : List RowEvent
+unblocked_connection = related_rules
+    ++ entered (codes "p1") u (there (to_one (codes "p2")) u ∷ [])
+    ∷ arrived 1 (out (codes "p2") (hex u) ∷ [])
+    ∷ rule_turned
+    ∷ entered (codes "p1") u (drop (codes "s0") (codes "p1") cause.Acl ∷ [])
+    ∷ edited (redo_rule (codes "a1") action.AllowRelated ∷ [])
+    ∷ entered (codes "p1") u (there (to_one (codes "p2")) u ∷ [])
+    ∷ arrived 2 (out (codes "p2") (hex u) ∷ [])
+    ∷ entered (codes "p2") v (back (to_one (codes "p1")) v ∷ [])
+    ∷ arrived 3 (out (codes "p1") (hex v) ∷ [])
+    ∷ []
+
 -- ---- rebound-port, idle-connection, used-connection
 
 -- what p1 sends begins connections, and nothing else comes to it

@@ -10,3 +10,10 @@ pub fn arrivals()
     ensures repeated_and_lost_frames { ComesOut row.repeated_and_lost_frames }
     ensures retired_keys { ComesOut row.retired_keys }
 {}
+
+/// One to all gives its port of entry no copy, wherever that is by then, and another port of the name one.
+#[tactic(auto, using(crate::proofs::ArrivalRows::moved_port_of_entry, crate::proofs::ArrivalRows::replaced_port_of_entry))]
+pub fn ports_of_entry()
+    ensures moved_port_of_entry { ComesOut row.moved_port_of_entry }
+    ensures replaced_port_of_entry { ComesOut row.replaced_port_of_entry }
+{}
