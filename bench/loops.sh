@@ -4,9 +4,8 @@ top=$(cd "$(dirname "${BASH_SOURCE[0]}")/.." && pwd)
 work=$(mktemp -d)
 trap 'rm -rf "$work"' EXIT
 
-# Builds a program over the crates that are named. Its main.rt comes on standard input, and takes three words: what to do
-# in each round, how long the frame is, and how many rounds there are.
-build_loop() {
+# Makes a program over the crates that are named, in the folder crates/timed. Its main.rt comes on standard input.
+make_program() {
   local crate folder=$work/crates/timed
   mkdir -p "$folder/src"
   cat >"$folder/src/main.rt"
@@ -16,7 +15,13 @@ build_loop() {
     grep "^$crate:" "$top/crates.txt" >>"$work/crates.txt"
   done
   echo "timed: $*" >>"$work/crates.txt"
-  if ! (cd "$folder" && "${RT:-rt}" run -- nothing 64 1) >"$work/log" 2>&1; then
+}
+
+# Builds a program over the crates that are named. Its main.rt comes on standard input, and takes three words: what to do
+# in each round, how long the frame is, and how many rounds there are.
+build_loop() {
+  make_program "$@"
+  if ! (cd "$work/crates/timed" && "${RT:-rt}" run -- nothing 64 1) >"$work/log" 2>&1; then
     cat "$work/log" >&2
     exit 70
   fi
