@@ -2,3 +2,5 @@
 #![tactic(auto)]
 
 pub mod rule_unit;
+#[cfg(test)]
+mod tests;
