@@ -1,3 +1,4 @@
 -- Lemmas.
 pub mod Texts
 pub mod SwitchLines
+pub mod RouterLines

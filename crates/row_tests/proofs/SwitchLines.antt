@@ -1,36 +1,9 @@
 -- The rows of small switches have their lines, by computing.
 use Rattle.std.specs.Fmt.{digits}
 use Rattle.std.proofs.Common.{refl}
-use Rattle.logical_flows.proofs.Tops.{one_const, one_is, one_not, one_all, one_any, one_compare, any_const, any_is, any_not, any_all, any_any, any_compare}
-use Rattle.match_language.proofs.Spelled.{spells_const, spells_is, spells_not, spells_all, spells_any, spells_compare}
 use Rattle.match_language.specs.Spelling.{number_text, prefix_below, mask_text, value_text, values_text}
-use Rattle.row_tests.proofs.Texts.{inner_is, inner_not, inner_compare, inner_any}
+use Rattle.row_tests.proofs.Texts.{texts}
 use Rattle.row_tests.specs.Lines as line
-
-ruleset texts = (
-  one_const,
-  one_is,
-  one_not,
-  one_all,
-  one_any,
-  one_compare,
-  any_const,
-  any_is,
-  any_not,
-  any_all,
-  any_any,
-  any_compare,
-  spells_const,
-  spells_is,
-  spells_not,
-  spells_all,
-  spells_any,
-  spells_compare,
-  inner_is,
-  inner_not,
-  inner_compare,
-  inner_any,
-)
 
 pub no_security : line.no_security
 unfolding digits number_text prefix_below mask_text value_text values_text

@@ -1,7 +1,8 @@
 -- The text of an expression within another, by the cases of the expression.
 use Rattle.std.specs.Prelude.{◌≡◌, ℕ, Bool, true, false, if◌then◌else◌, List, [], ◌∷◌, ◌++◌, map, codes}
 use Rattle.std.proofs.Common.{ap, ◌∙◌}
-use Rattle.match_language.proofs.Spelled.{spells_is, spells_not, spells_any, spells_compare, joined_is, joined_not, joined_any, joined_compare}
+use Rattle.logical_flows.proofs.Tops.{one_const, one_is, one_not, one_all, one_any, one_compare, any_const, any_is, any_not, any_all, any_any, any_compare}
+use Rattle.match_language.proofs.Spelled.{spells_const, spells_is, spells_not, spells_all, spells_any, spells_compare, joined_is, joined_not, joined_any, joined_compare}
 use Rattle.match_language.specs.Spelling.{text_of, spelling, inner_spelling, comparison_text, joined_text}
 use Rattle.match_language.specs.Tables.{predicate_name}
 use Rattle.match_language.specs.declared.expr.Expr.{Expr}
@@ -30,3 +31,29 @@ inner_compare f r vs = alone (ex.Compare f r vs) (joined_compare f r vs) ∙ spe
 
 pub inner_any : (xs : List Expr) → inner_spelling (ex.Any xs) ≡ 40 ∷ (joined_text (codes " || ") (map inner_spelling xs) ++ (41 ∷ []))
 inner_any xs = within (ex.Any xs) (joined_any xs) ∙ ap (λ (t : List ℕ). 40 ∷ (t ++ (41 ∷ []))) (spells_any xs)
+
+-- what rewrites the text of a flow
+pub ruleset texts = (
+  one_const,
+  one_is,
+  one_not,
+  one_all,
+  one_any,
+  one_compare,
+  any_const,
+  any_is,
+  any_not,
+  any_all,
+  any_any,
+  any_compare,
+  spells_const,
+  spells_is,
+  spells_not,
+  spells_all,
+  spells_any,
+  spells_compare,
+  inner_is,
+  inner_not,
+  inner_compare,
+  inner_any,
+)

@@ -1,6 +1,5 @@
 -- Small networks: a switch s0 with the port p1, and what else a row needs.
-use Rattle.std.specs.Prelude.{ℕ, true, false, List, [], ◌∷◌, Option, Some, None, codes}
-use Rattle.match_language.specs.declared.expr.Expr.{Expr}
+use Rattle.std.specs.Prelude.{ℕ, true, false, List, [], ◌∷◌, Some, None, codes}
 use Rattle.match_language.specs.declared.expr.Expr.TheVariants as e
 use Rattle.match_language.specs.declared.field.Direction.TheVariants.{FromLport}
 use Rattle.match_language.specs.declared.field.Predicate.TheVariants as p
@@ -9,7 +8,6 @@ use Rattle.nb_records.specs.declared.balancer.BalancerProtocol.TheVariants.{Tcp}
 use Rattle.nb_records.specs.declared.record.Record.{Record}
 use Rattle.nb_records.specs.declared.record.Record.TheVariants as row
 use Rattle.nb_records.specs.declared.rule.RuleAction.{RuleAction}
-use Rattle.nb_records.specs.declared.rule.RuleAction.TheVariants as action
 use Rattle.nb_records.specs.declared.switch.PortAddress.{PortAddress}
 use Rattle.nb_records.specs.declared.switch.PortAddress.TheVariants as address
 use Rattle.nb_records.specs.declared.switch.PortKind.TheVariants.{Virtual}
