@@ -10,7 +10,6 @@ use Rattle.nb_records.specs.Network.{Network}
 use Rattle.nb_records.specs.Routers.{router_ports_of}
 use Rattle.nb_records.specs.Switches.{is_virtual, is_stateful, has_balancer, router_port_behind, entry_mac, applies}
 use Rattle.nb_records.specs.Ways.{best_by, is_better_way, ways_of_port}
-use Rattle.nb_records.specs.declared.router.Nat.{Nat}
 use Rattle.nb_records.specs.declared.router.Route.{Route}
 use Rattle.nb_records.specs.declared.router.RouterPort.{RouterPort}
 use Rattle.nb_records.specs.declared.rule.Acl.{Acl}
