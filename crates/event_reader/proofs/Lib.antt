@@ -1,0 +1,5 @@
+-- Lemmas on reading.
+mod Counts
+mod Exits
+mod Lines
+mod Loops
