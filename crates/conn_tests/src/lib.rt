@@ -7,4 +7,8 @@ mod frames;
 #[cfg(test)]
 mod lists;
 #[cfg(test)]
+mod tables;
+#[cfg(test)]
 mod tracker;
+#[cfg(test)]
+mod tuples;

@@ -1,34 +1,18 @@
 //! Connections that begin, answer, clash and end.
 use crate::tracker::{Told, Tracker};
+use crate::tuples::{ONE, THREE, TWO, tuple};
 use conn_table::tuple::{Protocol, Tuple};
-use ovn_base::address::Ip4;
 use ovn_base::limits::MAX_CONNECTIONS;
 use std::alloc::Global;
 use std::test::*;
 
-const ONE: Ip4 = Ip4(0x0a00_0001);
-
-const TWO: Ip4 = Ip4(0x0a00_0002);
-
-const THREE: Ip4 = Ip4(0x0a00_0003);
-
-fn tuple(protocol: Protocol, src: Ip4, src_port: u16, dst: Ip4, dst_port: u16) -> Tuple {
-    Tuple {
-        protocol,
-        src,
-        src_port,
-        dst,
-        dst_port,
-    }
-}
-
 // A tuple of packets of the protocol from 10.0.0.1 to 10.0.0.2.
 fn of(protocol: Protocol) -> Tuple {
     match protocol {
-        Protocol::Tcp => tuple(protocol, ONE, 40000, TWO, 443),
-        Protocol::Udp => tuple(protocol, ONE, 5000, TWO, 53),
-        Protocol::EchoRequest | Protocol::EchoReply => tuple(protocol, ONE, 7, TWO, 7),
-        Protocol::Other(_) => tuple(protocol, ONE, 0, TWO, 0),
+        Protocol::Tcp => tuple((protocol, ONE, 40000, TWO, 443)),
+        Protocol::Udp => tuple((protocol, ONE, 5000, TWO, 53)),
+        Protocol::EchoRequest | Protocol::EchoReply => tuple((protocol, ONE, 7, TWO, 7)),
+        Protocol::Other(_) => tuple((protocol, ONE, 0, TWO, 0)),
     }
 }
 
@@ -137,9 +121,9 @@ fn beside(alloc: Global, first: (Tuple, Tuple), second: (Tuple, Tuple)) -> Resul
 #[test]
 fn taken_answers_clash(rt: HostRuntime) -> Result<(), Fail> {
     let udp = Protocol::Udp;
-    let first = tuple(udp, ONE, 5000, THREE, 53);
-    let answer = tuple(udp, THREE, 53, TWO, 1024);
-    let other = tuple(udp, TWO, 5000, THREE, 53);
+    let first = tuple((udp, ONE, 5000, THREE, 53));
+    let answer = tuple((udp, THREE, 53, TWO, 1024));
+    let other = tuple((udp, TWO, 5000, THREE, 53));
     // another's answers, another's packets, and none of both
     assert_eq!(rt;
         beside(rt.alloc(), (first, answer), (other, answer))?,
@@ -153,7 +137,7 @@ fn taken_answers_clash(rt: HostRuntime) -> Result<(), Fail> {
         beside(
             rt.alloc(),
             (first, answer),
-            (other, tuple(udp, THREE, 53, TWO, 1025))
+            (other, tuple((udp, THREE, 53, TWO, 1025)))
         )?,
         Told::Added
     );
@@ -171,13 +155,13 @@ fn lists_are_full(rt: HostRuntime) -> Result<(), Fail> {
     // there are as many ports as a list has entries
     let mut all = true;
     for port in 0..=u16::MAX {
-        let forward = tuple(Protocol::Udp, ONE, port, TWO, 53);
+        let forward = tuple((Protocol::Udp, ONE, port, TWO, 53));
         all &= list.begin(forward, forward.reversed(), 0) == Told::Added;
     }
     let more = of(Protocol::Tcp);
     let told = [
         list.begin(more, more.reversed(), 0),
-        list.begin(more, tuple(Protocol::Tcp, TWO, 443, ONE, 40001), 0),
+        list.begin(more, tuple((Protocol::Tcp, TWO, 443, ONE, 40001)), 0),
     ];
     assert!(rt; all);
     assert_eq!(rt; MAX_CONNECTIONS, 65_536);
