@@ -3,3 +3,4 @@ pub mod Named
 pub mod EachKind
 pub mod Leasts
 pub mod Capped
+pub mod AllKept

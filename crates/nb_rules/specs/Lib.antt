@@ -8,4 +8,5 @@ pub mod Prefixes
 pub mod Gateways
 pub mod Widths
 pub mod FirstBroken
+pub mod Unbroken
 pub mod Valid

@@ -7,6 +7,7 @@ pub mod fault;
 mod first;
 mod gateways;
 mod holders;
+pub mod laws;
 mod least;
 mod peers;
 mod prefixes;
