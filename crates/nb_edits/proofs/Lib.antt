@@ -1,0 +1,4 @@
+-- Lemmas.
+pub mod Outports
+pub mod Kept
+pub mod Marked

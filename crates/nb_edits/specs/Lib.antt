@@ -1,0 +1,5 @@
+-- Definitions that contracts cite: what is wrong with an edit, and what it leaves.
+pub mod Directions
+pub mod OpFaults
+pub mod Comings
+pub mod Plans
