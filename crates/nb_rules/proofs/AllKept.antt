@@ -1,12 +1,11 @@
 -- No clause is broken exactly where each is kept by all records.
-use Rattle.std.specs.Prelude.{◌≡◌, ◌≤◌, ◌+◌, ◌&&◌, ◌||◌, ◌↔◌, nat_lt, ℕ, not, Bool, true, false, cond, length, List, [], ◌∷◌, Option, Some, None, option_map}
-use Rattle.std.specs.List.{AllByRecursion, list_any}
-use Rattle.std.proofs.Common.{refl, sym, ap, ◌∙◌, arith}
+use Rattle.std.specs.Prelude.{◌≡◌, ◌≤◌, ◌+◌, ◌&&◌, ◌↔◌, nat_lt, ℕ, not, Bool, true, false, cond, length, List, [], ◌∷◌, Option, Some, None, option_map}
+use Rattle.std.specs.List.{AllByRecursion}
+use Rattle.std.proofs.Common.{refl, ◌∙◌, arith}
 use Rattle.ovn_base.specs.declared.limits.TheConstants.{MAX_DATAPATHS, MAX_PORTS, MAX_ACLS, MAX_WIDTH}
 use Rattle.ovn_base.specs.declared.address.Ip4.{Ip4}
-use Rattle.ovn_base.specs.declared.address.Mac.{Mac}
 use Rattle.ovn_base.specs.declared.name.Name.{Name}
-use Rattle.nb_records.specs.Network.{Network, is_there, records_of, name_of}
+use Rattle.nb_records.specs.Network.{Network, is_there, records_of}
 use Rattle.nb_records.specs.Switches.{or_else, first_answer}
 use Rattle.nb_records.specs.declared.change.Op.{Op}
 use Rattle.nb_records.specs.declared.record.Record.{Record}
@@ -20,10 +19,10 @@ use Rattle.nb_rules.specs.BadAddresses.{has_bad_address, address_fault, bad_addr
 use Rattle.nb_rules.specs.First.{first_of, first_record, fault_if}
 use Rattle.nb_rules.specs.FirstBroken.{first_broken}
 use Rattle.nb_rules.specs.Gateways.{needs_chassis, chassis_fault, nat_needs_chassis}
-use Rattle.nb_rules.specs.Holders.{shared_mac, shared_ip, repeated_ip, repeated_vip, bound_twice, mac_fault, ip_fault, vip_holder, first_holder, holder_fault, is_before, twice_mac, twice_ip, twice_own, twice_vip, twice_bound, duplicate_address}
+use Rattle.nb_rules.specs.Holders.{shared_mac, shared_ip, repeated_ip, repeated_vip, bound_twice, mac_fault, ip_fault, vip_holder, first_holder, is_before, twice_mac, twice_ip, twice_own, twice_vip, twice_bound, duplicate_address}
 use Rattle.nb_rules.specs.Peers.{has_bad_peer, peer_fault, bad_peer}
 use Rattle.nb_rules.specs.Prefixes.{repeats_prefix, prefix_fault, duplicate_prefix, has_network, next_hop_fault, no_network}
-use Rattle.nb_rules.specs.References.{Reference, references_of, is_removed, is_missing, first_named, missing_by, reference_fault, no_such, still_used}
+use Rattle.nb_rules.specs.References.{Reference, references_of, is_removed, is_missing, first_named, reference_fault, no_such, still_used}
 use Rattle.nb_rules.specs.Unbroken.{AreThere, AreUnbroken}
 use Rattle.nb_rules.specs.Widths.{rule_width, width_fault, too_wide, all_cubes, over, over_limit}
 use Rattle.nb_rules.specs.declared.fault.Limited.{Limited}

@@ -1,5 +1,5 @@
 -- Sums up to the greatest number.
-use Rattle.std.specs.Prelude.{◌≡◌, ◌≤◌, ◌<◌, ℕ, ◌+◌, ◌-◌, ◌^◌, min, max, Bool, true, false, nat_lt}
+use Rattle.std.specs.Prelude.{◌≡◌, ℕ, ◌+◌, ◌-◌, ◌^◌, min, max}
 use Rattle.std.proofs.Common.{arith}
 use Rattle.match_cubes.specs.Width.{saturated}
 

@@ -1,5 +1,5 @@
 -- The first name of a list of references, and the references of a match by its parts.
-use Rattle.std.specs.Prelude.{◌≡◌, ◌<◌, ◌+◌, ℕ, length, drop, get_or, Bool, true, false, cond, List, [], ◌∷◌, ◌++◌, map, Option, Some, None}
+use Rattle.std.specs.Prelude.{◌≡◌, ◌<◌, ◌+◌, ℕ, length, drop, get_or, Bool, true, false, cond, List, [], ◌∷◌, ◌++◌, map, Some}
 use Rattle.std.specs.List.{flat_map}
 use Rattle.std.proofs.Common.{refl, sym, ap, ◌∙◌}
 use Rattle.std.proofs.lemmas.List.{drop_more}
@@ -9,7 +9,6 @@ use Rattle.match_language.specs.declared.expr.Rel.{Rel}
 use Rattle.match_language.specs.declared.expr.Value.{Value}
 use Rattle.match_language.specs.declared.field.Field.{Field}
 use Rattle.match_language.specs.declared.field.Predicate.{Predicate}
-use Rattle.ovn_base.specs.declared.name.Name.{Name}
 use Rattle.nb_records.specs.Switches.{or_else}
 use Rattle.nb_rules.specs.References.{Reference, value_references, layer_references, match_references, first_named}
 

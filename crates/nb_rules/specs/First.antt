@@ -1,6 +1,5 @@
 -- The first record that gives an answer, and the least address of several.
-use Rattle.std.specs.Prelude.{◌==◌, ◌||◌, nat_lt, ℕ, Bool, true, false, cond, List, [], ◌∷◌, Option, Some, None}
-use Rattle.std.specs.List.{list_any}
+use Rattle.std.specs.Prelude.{◌||◌, nat_lt, ℕ, Bool, true, false, cond, List, [], ◌∷◌, Option, Some, None}
 use Rattle.ovn_base.specs.declared.name.Name.{Name}
 use Rattle.nb_records.specs.Network.{Network, records_of}
 use Rattle.nb_records.specs.Switches.{or_else, first_answer}

@@ -1,5 +1,5 @@
 -- Clause 8: only gateway routers translate.
-use Rattle.std.specs.Prelude.{Bool, true, false, not, List, Option, Some, None}
+use Rattle.std.specs.Prelude.{Bool, false, not, Option, Some, None}
 use Rattle.std.specs.List.{list_any}
 use Rattle.ovn_base.specs.declared.name.Name.{Name}
 use Rattle.ovn_base.specs.names.ByName.{at}

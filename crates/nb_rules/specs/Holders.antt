@@ -1,8 +1,7 @@
 -- Clause 5: addresses that two hold.
-use Rattle.std.specs.Prelude.{◌&&◌, ◌||◌, ◌++◌, nat_lt, ℕ, Bool, true, false, cond, List, [], ◌∷◌, map, flat_map, Option, Some, None, option_map}
+use Rattle.std.specs.Prelude.{◌&&◌, ◌||◌, ◌++◌, ℕ, Bool, true, false, cond, List, [], ◌∷◌, map, flat_map, Option, Some, None, option_map}
 use Rattle.std.specs.Cmp.Lexicographic.{slice_cmp}
-use Rattle.std.specs.List.{filter, list_any}
-use Rattle.std.specs.Map.{values_of}
+use Rattle.std.specs.List.{list_any}
 use Rattle.std.specs.Ordering.{nat_cmp, is_lt}
 use Rattle.ovn_base.specs.declared.address.Backend.{Backend}
 use Rattle.ovn_base.specs.declared.address.Cidr.{Cidr}

@@ -1,5 +1,5 @@
 -- Clause 4: partners of router ports.
-use Rattle.std.specs.Prelude.{◌||◌, Bool, true, false, not, List, Option, Some, None}
+use Rattle.std.specs.Prelude.{◌||◌, Bool, true, false, not, Option, Some, None}
 use Rattle.std.specs.List.{list_any}
 use Rattle.std.specs.Option.{option_and_then}
 use Rattle.ovn_base.specs.declared.name.Name.{Name}

@@ -1,10 +1,9 @@
 -- What holds of records that break no clause.
-use Rattle.std.specs.Prelude.{◌≡◌, ◌≤◌, ◌+◌, ◌↔◌, true, false, length, List, Option, None}
+use Rattle.std.specs.Prelude.{◌≡◌, ◌≤◌, ◌+◌, true, false, length, List, None}
 use Rattle.std.specs.List.{AllByRecursion}
 use Rattle.ovn_base.specs.declared.limits.TheConstants.{MAX_DATAPATHS, MAX_PORTS, MAX_ACLS, MAX_WIDTH}
 use Rattle.ovn_base.specs.declared.name.Name.{Name}
 use Rattle.nb_records.specs.Network.{Network, is_there, records_of}
-use Rattle.nb_records.specs.declared.change.Op.{Op}
 use Rattle.nb_records.specs.declared.record.Record.{Record}
 use Rattle.nb_records.specs.declared.router.Route.{Route}
 use Rattle.nb_records.specs.declared.router.Router.{Router}
@@ -13,7 +12,6 @@ use Rattle.nb_records.specs.declared.rule.Acl.{Acl}
 use Rattle.nb_records.specs.declared.switch.Switch.{Switch}
 use Rattle.nb_records.specs.declared.switch.SwitchPort.{SwitchPort}
 use Rattle.nb_rules.specs.BadAddresses.{has_bad_address}
-use Rattle.nb_rules.specs.FirstBroken.{first_broken}
 use Rattle.nb_rules.specs.Gateways.{needs_chassis}
 use Rattle.nb_rules.specs.Holders.{shared_mac, shared_ip, repeated_ip, repeated_vip, bound_twice}
 use Rattle.nb_rules.specs.Peers.{has_bad_peer}

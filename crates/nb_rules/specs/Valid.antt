@@ -1,5 +1,5 @@
 -- Valid records.
-use Rattle.std.specs.Prelude.{◌≡◌, List, [], ◌∷◌, Result, Ok, Err, Option, Some, None}
+use Rattle.std.specs.Prelude.{◌≡◌, List, [], None}
 use Rattle.std.specs.List.{AllByRecursion}
 use Rattle.ovn_base.specs.declared.name.Name.{Name}
 use Rattle.ovn_base.specs.names.ByName.{at}
@@ -17,7 +17,6 @@ use Rattle.nb_records.specs.declared.rule.PortGroup.{PortGroup}
 use Rattle.nb_records.specs.declared.switch.Switch.{Switch}
 use Rattle.nb_records.specs.declared.switch.SwitchPort.{SwitchPort}
 use Rattle.nb_rules.specs.FirstBroken.{first_broken}
-use Rattle.nb_rules.specs.declared.fault.SchemaFault.{SchemaFault}
 
 -- each entry stands at its record's own name
 abbrev pub AreAtTheirNames : {X : Type 0} → (X → Name) → List (Name × X) → Type 0

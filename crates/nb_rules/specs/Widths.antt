@@ -1,5 +1,5 @@
 -- Clauses 9 and 10: the widths of matches, and how many records there may be.
-use Rattle.std.specs.Prelude.{◌+◌, nat_lt, ℕ, max, Bool, List, [], length, Option, Some, None, unwrap_or, cond, option_map}
+use Rattle.std.specs.Prelude.{◌+◌, nat_lt, ℕ, max, [], length, Option, unwrap_or, cond, option_map}
 use Rattle.std.specs.List.{sum_by}
 use Rattle.ovn_base.specs.declared.limits.TheConstants.{MAX_DATAPATHS, MAX_PORTS, MAX_ACLS, MAX_WIDTH}
 use Rattle.ovn_base.specs.declared.name.Name.{Name}
