@@ -1,2 +1,2 @@
 -- Lemmas.
-pub mod Differing
+pub mod Differences

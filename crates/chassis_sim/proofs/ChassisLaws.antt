@@ -14,7 +14,7 @@ use Rattle.chassis_sim.specs.Holding.{AreProper}
 use Rattle.chassis_sim.specs.Settings.{set_in_turn}
 use Rattle.chassis_sim.specs.State.{at_name}
 use Rattle.chassis_sim.proofs.Lookups.{set_append}
-use Rattle.chassis_sim.proofs.Waiting.{all_found}
+use Rattle.chassis_sim.proofs.UnderlayLaws.{all_found}
 
 -- the flows are proper, if there are any
 abbrev ProperIfAny : Option (List Flow) → Type 0

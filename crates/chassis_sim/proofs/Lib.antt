@@ -1,8 +1,8 @@
 -- Lemmas.
 pub mod Whole
 pub mod Lookups
-pub mod Waiting
-pub mod Replacing
+pub mod UnderlayLaws
+pub mod TableChanges
 pub mod ChassisLaws
 pub mod Fronts
-pub mod Answering
+pub mod Outcomes

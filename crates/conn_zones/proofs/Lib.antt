@@ -5,6 +5,6 @@ pub mod FreeLaws
 pub mod PlaceLaws
 pub mod GivingLaws
 pub mod ZoneLists
-pub mod Rezoned
-pub mod Determined
+pub mod ZoneChanges
+pub mod OneResult
 pub mod ForCallers

@@ -1,6 +1,6 @@
 -- Lemmas.
 pub mod Entries
-pub mod Found
+pub mod FaultSearch
 pub mod Pieces
 pub mod Shapes
 pub mod OneEvent

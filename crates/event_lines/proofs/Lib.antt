@@ -1,3 +1,3 @@
 -- Lemmas.
 pub mod Pieces
-pub mod Reading
+pub mod PickLines

@@ -3,41 +3,12 @@ use Rattle.std.specs.Prelude.{ℕ, List, ◌++◌, codes, decimal, flat_map}
 use Rattle.hex.specs.Hex.{encode_lower}
 use Rattle.ovn_base.specs.declared.name.Name.{Name}
 use Rattle.inet_packet.specs.Frame.{frame_of}
-use Rattle.flow_table.specs.declared.flow.Cause.{Cause}
-use Rattle.flow_table.specs.declared.flow.Cause.TheVariants as cause
+use Rattle.flow_table.specs.Causes.{cause_name}
 use Rattle.edit_reader.specs.declared.event.ReadRefusal.TheVariants.{TooLong, BadJson}
 use Rattle.switch_engine.specs.declared.effect.NetEffect.{NetEffect}
 use Rattle.switch_engine.specs.declared.effect.NetEffect.TheVariants.{DatapathKey, PortKey, Tunnel, Out, Drop, Lost}
 use Rattle.event_lines.specs.declared.refusal.Refusal.{Refusal}
 use Rattle.event_lines.specs.declared.refusal.Refusal.TheVariants.{Read, NoSuch, DuplicateName, LimitChassis, NoFrame, TooManyFrames, NotBuilt}
-
--- why a packet was dropped
-abbrev pub cause_name : Cause → List ℕ
-cause_name cause.Disabled = codes "disabled"
-cause_name cause.BadSource = codes "bad-source"
-cause_name cause.Vlan = codes "vlan"
-cause_name cause.PortSecurity = codes "port-security"
-cause_name cause.Acl = codes "acl"
-cause_name cause.Reject = codes "reject"
-cause_name cause.Invalid = codes "invalid"
-cause_name cause.Blocked = codes "blocked"
-cause_name cause.Clash = codes "clash"
-cause_name cause.Full = codes "full"
-cause_name cause.NoLiveBackend = codes "no-live-backend"
-cause_name cause.UnknownAddress = codes "unknown-address"
-cause_name cause.Loopback = codes "loopback"
-cause_name cause.Unbound = codes "unbound"
-cause_name cause.NotForRouter = codes "not-for-router"
-cause_name cause.Arp = codes "arp"
-cause_name cause.BadIp = codes "bad-ip"
-cause_name cause.Ttl = codes "ttl"
-cause_name cause.NotIp4 = codes "not-ip4"
-cause_name cause.ForRouter = codes "for-router"
-cause_name cause.NoRoute = codes "no-route"
-cause_name cause.NoNeighbour = codes "no-neighbour"
-cause_name cause.NoFreePort = codes "no-free-port"
-cause_name cause.NoPeer = codes "no-peer"
-cause_name cause.HopLimit = codes "hop-limit"
 
 -- from one chassis to another, and the bytes in hexadecimal digits
 abbrev pub route_words : Name → Name → List ℕ → List ℕ

@@ -1,6 +1,7 @@
 //! The lines of events.
 ghost use Rattle.std.specs.Prelude.{◌≡◌, ◌++◌, codes, decimal, OnOk, OnErr};
-ghost use Rattle.event_lines.specs.Lines.{cause_name, route_words, words_of, line_of, ok_line, accepted_lines, refusal_words, refused_line, end_line};
+ghost use Rattle.flow_table.specs.Causes.{cause_name};
+ghost use Rattle.event_lines.specs.Lines.{route_words, words_of, line_of, ok_line, accepted_lines, refusal_words, refused_line, end_line};
 ghost use Rattle.event_lines.specs.Text.{StartsWith};
 
 use crate::put::{put, put_frame, put_hex, put_number, put_wide};
@@ -24,33 +25,7 @@ fn put_cause(cause: Cause, out: &mut Vec<u8>) -> Result<(), NoMemory>
     ensures ok { OnOk result (out.new.items ≡ out.old.items ++ cause_name cause) }
     ensures err { OnErr result (StartsWith out.new.items out.old.items) }
 {
-    match cause {
-        Cause::Disabled => put(b"disabled", out),
-        Cause::BadSource => put(b"bad-source", out),
-        Cause::Vlan => put(b"vlan", out),
-        Cause::PortSecurity => put(b"port-security", out),
-        Cause::Acl => put(b"acl", out),
-        Cause::Reject => put(b"reject", out),
-        Cause::Invalid => put(b"invalid", out),
-        Cause::Blocked => put(b"blocked", out),
-        Cause::Clash => put(b"clash", out),
-        Cause::Full => put(b"full", out),
-        Cause::NoLiveBackend => put(b"no-live-backend", out),
-        Cause::UnknownAddress => put(b"unknown-address", out),
-        Cause::Loopback => put(b"loopback", out),
-        Cause::Unbound => put(b"unbound", out),
-        Cause::NotForRouter => put(b"not-for-router", out),
-        Cause::Arp => put(b"arp", out),
-        Cause::BadIp => put(b"bad-ip", out),
-        Cause::Ttl => put(b"ttl", out),
-        Cause::NotIp4 => put(b"not-ip4", out),
-        Cause::ForRouter => put(b"for-router", out),
-        Cause::NoRoute => put(b"no-route", out),
-        Cause::NoNeighbour => put(b"no-neighbour", out),
-        Cause::NoFreePort => put(b"no-free-port", out),
-        Cause::NoPeer => put(b"no-peer", out),
-        Cause::HopLimit => put(b"hop-limit", out),
-    }
+    put(cause.name(), out)
 }
 
 // The kind, the name and the key.

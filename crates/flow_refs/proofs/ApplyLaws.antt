@@ -17,7 +17,7 @@ use Rattle.flow_refs.specs.Origins.{flows_of, flows_after, IsEachOnce, IsHeld, I
 use Rattle.flow_refs.specs.Store.{put_flows, put_all, HavePlaces, AreSame, AreCounted, AreIdleAmong, IsPreparedFor}
 use Rattle.flow_refs.proofs.CountLaws.{once_put}
 use Rattle.flow_refs.proofs.Deltas.{is_difference, kept_where}
-use Rattle.flow_refs.proofs.Holding.{held_where_counted, counted_where_held, listed_where_counted}
+use Rattle.flow_refs.proofs.HoldLaws.{held_where_counted, counted_where_held, listed_where_counted}
 use Rattle.flow_refs.proofs.Lookups.{found_alike}
 use Rattle.flow_refs.proofs.PutLaws.{filled, lookup_put, each_once_put, each_once_put_all, places_put, flows_put}
 

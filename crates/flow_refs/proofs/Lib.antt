@@ -4,7 +4,7 @@ pub mod ApplyLaws
 pub mod CountLaws
 pub mod PutLaws
 pub mod ForCallers
-pub mod Holding
+pub mod HoldLaws
 pub mod Deltas
 pub mod Midway
 pub mod Numbers

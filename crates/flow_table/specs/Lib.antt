@@ -2,3 +2,4 @@
 pub mod Matching
 pub mod Change
 pub mod HeldFlows
+pub mod Causes

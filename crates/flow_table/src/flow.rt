@@ -1,3 +1,6 @@
+ghost use Rattle.std.specs.Prelude.{◌≡◌};
+ghost use Rattle.flow_table.specs.Causes.{cause_name};
+
 use inet_packet::cube::Cube;
 use inet_packet::regs::Reg;
 use ovn_base::list::List;
@@ -57,6 +60,41 @@ pub enum Cause {
     NoPeer,
     /// It has been through as many switches and routers as a packet may.
     HopLimit,
+}
+
+impl Cause {
+    /// The cause's word, as lines and the texts of flows have it.
+    pub fn name(self) -> &'static [u8]
+        ensures { result.now ≡ cause_name self }
+    {
+        match self {
+            Cause::Disabled => b"disabled",
+            Cause::BadSource => b"bad-source",
+            Cause::Vlan => b"vlan",
+            Cause::PortSecurity => b"port-security",
+            Cause::Acl => b"acl",
+            Cause::Reject => b"reject",
+            Cause::Invalid => b"invalid",
+            Cause::Blocked => b"blocked",
+            Cause::Clash => b"clash",
+            Cause::Full => b"full",
+            Cause::NoLiveBackend => b"no-live-backend",
+            Cause::UnknownAddress => b"unknown-address",
+            Cause::Loopback => b"loopback",
+            Cause::Unbound => b"unbound",
+            Cause::NotForRouter => b"not-for-router",
+            Cause::Arp => b"arp",
+            Cause::BadIp => b"bad-ip",
+            Cause::Ttl => b"ttl",
+            Cause::NotIp4 => b"not-ip4",
+            Cause::ForRouter => b"for-router",
+            Cause::NoRoute => b"no-route",
+            Cause::NoNeighbour => b"no-neighbour",
+            Cause::NoFreePort => b"no-free-port",
+            Cause::NoPeer => b"no-peer",
+            Cause::HopLimit => b"hop-limit",
+        }
+    }
 }
 
 /// A port that is a member of a group, as a chassis knows it.

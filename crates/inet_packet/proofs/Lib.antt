@@ -1,7 +1,7 @@
 -- Lemmas.
 pub mod Lists
 pub mod Ip4
-pub mod Decoding
+pub mod DecodeLaws
 pub mod Exactness
 pub mod OnePacket
 pub mod SumLaws

@@ -11,7 +11,7 @@ use Rattle.inet_packet.specs.declared.packet.Part.{Part}
 use Rattle.inet_packet.specs.declared.packet.Part.TheVariants.{Tcp, Udp, Icmp, OtherIp, Fragment}
 use Rattle.inet_packet.specs.Frame.{two, four, ip4_header, arp_bytes, part_bytes, body_bytes, frame_of}
 use Rattle.inet_packet.specs.Whole.{IsArpBytes, IsPart, IsPartWithin, IsWhole, IsWholeArp, IsWholeBody, IsWholeIp4}
-use Rattle.inet_packet.proofs.Decoding.{same_front}
+use Rattle.inet_packet.proofs.DecodeLaws.{same_front}
 
 -- the byte of two equal lists at a place
 at : (k : ℕ) (x y : List ℕ) → x ≡ y → get_or x k 0 ≡ get_or y k 0

@@ -1,2 +1,2 @@
 -- Lemmas.
-pub mod Registering
+pub mod RegisterLaws

@@ -6,8 +6,7 @@ use Rattle.ovn_base.specs.declared.address.Backend.{Backend}
 use Rattle.ovn_base.specs.declared.name.Name.{Name}
 use Rattle.inet_packet.specs.declared.regs.Reg.{Reg}
 use Rattle.inet_packet.specs.declared.regs.Reg.TheVariants as reg
-use Rattle.flow_table.specs.declared.flow.Cause.{Cause}
-use Rattle.flow_table.specs.declared.flow.Cause.TheVariants as cause
+use Rattle.flow_table.specs.Causes.{cause_name}
 use Rattle.match_language.specs.declared.expr.Expr.{Expr, Expr-F, fold-Expr}
 use Rattle.match_language.specs.Spelling.{spelling, joined_text}
 use Rattle.logical_flows.specs.declared.action.Action.{Action}
@@ -63,34 +62,6 @@ zone_name zone.Out = codes "out"
 zone_name zone.Dnat = codes "dnat"
 zone_name zone.Snat = codes "snat"
 
--- why a packet is dropped
-abbrev pub cause_word : Cause → List ℕ
-cause_word cause.Disabled = codes "disabled"
-cause_word cause.BadSource = codes "bad-source"
-cause_word cause.Vlan = codes "vlan"
-cause_word cause.PortSecurity = codes "port-security"
-cause_word cause.Acl = codes "acl"
-cause_word cause.Reject = codes "reject"
-cause_word cause.Invalid = codes "invalid"
-cause_word cause.Blocked = codes "blocked"
-cause_word cause.Clash = codes "clash"
-cause_word cause.Full = codes "full"
-cause_word cause.NoLiveBackend = codes "no-live-backend"
-cause_word cause.UnknownAddress = codes "unknown-address"
-cause_word cause.Loopback = codes "loopback"
-cause_word cause.Unbound = codes "unbound"
-cause_word cause.NotForRouter = codes "not-for-router"
-cause_word cause.Arp = codes "arp"
-cause_word cause.BadIp = codes "bad-ip"
-cause_word cause.Ttl = codes "ttl"
-cause_word cause.NotIp4 = codes "not-ip4"
-cause_word cause.ForRouter = codes "for-router"
-cause_word cause.NoRoute = codes "no-route"
-cause_word cause.NoNeighbour = codes "no-neighbour"
-cause_word cause.NoFreePort = codes "no-free-port"
-cause_word cause.NoPeer = codes "no-peer"
-cause_word cause.HopLimit = codes "hop-limit"
-
 -- ---- actions
 
 -- IP:PORT
@@ -122,7 +93,7 @@ action_text a.NextDst = codes "next_dst"
 action_text (a.EthSrc mac) = codes "eth_src " ++ mac_text mac
 action_text (a.EthDst mac) = codes "eth_dst " ++ mac_text mac
 action_text (a.Go table) = codes "go " ++ decimal table
-action_text (a.Drop c) = codes "drop " ++ cause_word c
+action_text (a.Drop c) = codes "drop " ++ cause_name c
 
 -- the actions, with semicolons between
 abbrev pub actions_text : List Action → List ℕ

@@ -5,7 +5,7 @@ ghost use Rattle.match_language.specs.Spelling.{joined_text};
 ghost use Rattle.logical_flows.specs.FlowText as spec;
 
 use crate::action::{Action, ZoneOf};
-use crate::words::{cause_word, put, reg_name, zone_name};
+use crate::words::{put, reg_name, zone_name};
 use inet_packet::regs::Reg;
 use ovn_base::address::{Backend, Ip4, Mac};
 use ovn_base::memory::NoMemory;
@@ -137,7 +137,7 @@ fn push_action(action: &Action, out: &mut Vec<u8>) -> Result<(), NoMemory>
         }
         Action::Drop(cause) => {
             put(b"drop ", out)?;
-            put(cause_word(*cause), out)
+            put(cause.name(), out)
         }
     }
 }

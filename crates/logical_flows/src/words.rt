@@ -3,7 +3,6 @@ ghost use Rattle.std.specs.Prelude.{◌≡◌, ◌++◌, OnOk};
 ghost use Rattle.logical_flows.specs.FlowText as spec;
 
 use crate::action::ZoneOf;
-use flow_table::flow::Cause;
 use inet_packet::regs::Reg;
 use ovn_base::memory::NoMemory;
 
@@ -72,38 +71,5 @@ pub fn zone_name(zone: ZoneOf) -> &'static [u8]
         ZoneOf::Out => b"out",
         ZoneOf::Dnat => b"dnat",
         ZoneOf::Snat => b"snat",
-    }
-}
-
-// The cause's word in a text.
-pub fn cause_word(cause: Cause) -> &'static [u8]
-    ensures { result.now ≡ spec.cause_word cause }
-{
-    match cause {
-        Cause::Disabled => b"disabled",
-        Cause::BadSource => b"bad-source",
-        Cause::Vlan => b"vlan",
-        Cause::PortSecurity => b"port-security",
-        Cause::Acl => b"acl",
-        Cause::Reject => b"reject",
-        Cause::Invalid => b"invalid",
-        Cause::Blocked => b"blocked",
-        Cause::Clash => b"clash",
-        Cause::Full => b"full",
-        Cause::NoLiveBackend => b"no-live-backend",
-        Cause::UnknownAddress => b"unknown-address",
-        Cause::Loopback => b"loopback",
-        Cause::Unbound => b"unbound",
-        Cause::NotForRouter => b"not-for-router",
-        Cause::Arp => b"arp",
-        Cause::BadIp => b"bad-ip",
-        Cause::Ttl => b"ttl",
-        Cause::NotIp4 => b"not-ip4",
-        Cause::ForRouter => b"for-router",
-        Cause::NoRoute => b"no-route",
-        Cause::NoNeighbour => b"no-neighbour",
-        Cause::NoFreePort => b"no-free-port",
-        Cause::NoPeer => b"no-peer",
-        Cause::HopLimit => b"hop-limit",
     }
 }

@@ -8,7 +8,7 @@ use Rattle.match_language.specs.declared.expr.Value.{Value}
 use Rattle.match_language.specs.declared.field.Field.{Field}
 use Rattle.match_language.specs.declared.field.Predicate.{Predicate}
 use Rattle.match_cubes.specs.Inwards.{Meaning, turn, turned_rel, joins, predicate, meaning}
-use Rattle.match_cubes.proofs.Related.{meaning_roll}
+use Rattle.match_cubes.proofs.Relations.{meaning_roll}
 
 each_at : {X : Type 0} (h : Expr → Bool → X) (positive : Bool) (es : List Expr) → map (λ x. x positive) (map h es) ≡ map (λ e. h e positive) es
 each_at h positive [] = refl

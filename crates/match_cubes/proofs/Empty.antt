@@ -13,9 +13,9 @@ use Rattle.match_cubes.specs.Points.{Setting}
 use Rattle.match_cubes.specs.Cubes.{other, unlike, meets_with, cubes_in}
 use Rattle.match_cubes.specs.Width.{product, width_in, saturated}
 use Rattle.match_cubes.specs.Steps.{asks_nothing, joined_in, width_joined}
-use Rattle.match_cubes.proofs.Related.{Zips, zips_none, zips_more}
+use Rattle.match_cubes.proofs.Relations.{Zips, zips_none, zips_more}
 use Rattle.match_cubes.proofs.WidthLaws.{Few, few_every, cubes_few}
-use Rattle.match_cubes.proofs.Joining.{join_every}
+use Rattle.match_cubes.proofs.Joins.{join_every}
 use Rattle.match_cubes.proofs.TernaryLaws.{turned_length}
 
 terms_few : (s : Setting) (positive : Bool) (es : List Expr) → Zips Few (map (λ e. cubes_in s e positive) es) (map (λ e. width_in s.members e positive) es)

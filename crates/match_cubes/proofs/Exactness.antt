@@ -33,7 +33,7 @@ use Rattle.match_cubes.proofs.TernaryLaws.{any_fits, meet_any, IsWithin, under_w
 use Rattle.match_cubes.proofs.Alternatives.{any_map, any_same, any_and, any_meets}
 use Rattle.match_cubes.proofs.PrefixLaws.{prefixes_any}
 use Rattle.match_cubes.proofs.AskedLaws.{cubes_meet, all_in, comparing_in}
-use Rattle.match_cubes.proofs.Related.{Zips, zips_none, zips_more, related}
+use Rattle.match_cubes.proofs.Relations.{Zips, zips_none, zips_more, related}
 
 -- ---- the values of a comparison
 

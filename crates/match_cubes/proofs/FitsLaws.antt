@@ -22,7 +22,7 @@ use Rattle.match_cubes.specs.Holds.{holds}
 use Rattle.match_cubes.specs.Cubes.{alternatives, comparing, meets_with, all_cubes, constant_cubes, as_cubes, cubes_in}
 use Rattle.match_cubes.specs.Suited.{are_suited}
 use Rattle.match_cubes.specs.Answer.{InOne, AreExact}
-use Rattle.match_cubes.proofs.Related.{Zips, zips_none, zips_more, related, always}
+use Rattle.match_cubes.proofs.Relations.{Zips, zips_none, zips_more, related, always}
 use Rattle.match_cubes.proofs.Exactness.{cubes_hold}
 
 -- ---- a cube of fields

@@ -24,7 +24,7 @@ use Rattle.match_cubes.specs.Width.{product, total, entry_weight, weights_of, we
 use Rattle.match_cubes.proofs.TernaryLaws.{meet_few, turned_length}
 use Rattle.match_cubes.proofs.Alternatives.{few_meets}
 use Rattle.match_cubes.proofs.AskedLaws.{cubes_few_meet}
-use Rattle.match_cubes.proofs.Related.{Zips, zips_none, zips_more, related, always}
+use Rattle.match_cubes.proofs.Relations.{Zips, zips_none, zips_more, related, always}
 
 -- ---- how many cubes one value has that differ from it
 

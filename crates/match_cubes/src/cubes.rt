@@ -109,7 +109,7 @@ fn ordered(alloc: Global, width: u32, rel: Rel, values: &[Value]) -> Result<List
 }
 
 // The values under masks that stand in the relation.
-#[tactic(auto, using(crate::proofs::Compared::alternatives_order), unfolding(crate::specs::Cubes::alternatives))]
+#[tactic(auto, using(crate::proofs::OrderRelations::alternatives_order), unfolding(crate::specs::Cubes::alternatives))]
 fn alternatives(
     alloc: Global,
     field: Field,
@@ -237,7 +237,7 @@ fn test_cubes(
     compared(alloc, field, met.as_slice())
 }
 
-#[tactic(auto, using(crate::proofs::Joining::join_at, crate::proofs::Joining::join_done), unfolding(crate::specs::Steps::predicate_in))]
+#[tactic(auto, using(crate::proofs::Joins::join_at, crate::proofs::Joins::join_done), unfolding(crate::specs::Steps::predicate_in))]
 fn predicate_cubes(
     alloc: Global,
     predicate: Predicate,
@@ -256,7 +256,7 @@ fn predicate_cubes(
 
 // The cubes of terms that `&&` joins, or `||`; no list on the way is longer than its width.
 #[cycle(cubes)]
-#[tactic(auto, using(crate::proofs::Joining::join_done, crate::proofs::Empty::joined_none), unfolding(crate::specs::Steps::joined_in))]
+#[tactic(auto, using(crate::proofs::Joins::join_done, crate::proofs::Empty::joined_none), unfolding(crate::specs::Steps::joined_in))]
 fn joined_cubes(
     alloc: Global,
     terms: &[Expr],
@@ -280,7 +280,7 @@ fn joined_cubes(
 
 // The cubes of the match, or of its negation.
 #[cycle(cubes)]
-#[tactic(auto, using(crate::proofs::Joining::cubes_const, crate::proofs::Joining::cubes_is, crate::proofs::Joining::cubes_not, crate::proofs::Joining::cubes_all, crate::proofs::Joining::cubes_any, crate::proofs::Joining::cubes_compare))]
+#[tactic(auto, using(crate::proofs::Joins::cubes_const, crate::proofs::Joins::cubes_is, crate::proofs::Joins::cubes_not, crate::proofs::Joins::cubes_all, crate::proofs::Joins::cubes_any, crate::proofs::Joins::cubes_compare))]
 fn cubes_in(
     alloc: Global,
     expr: &Expr,
@@ -310,7 +310,7 @@ fn cubes_in(
 }
 
 /// The cubes of the match on the datapath that has these live ports.
-#[tactic(auto, using(crate::proofs::WidthLaws::cubes_few, crate::proofs::Compared::too_wide, crate::proofs::Compared::not_wide))]
+#[tactic(auto, using(crate::proofs::WidthLaws::cubes_few, crate::proofs::OrderRelations::too_wide, crate::proofs::OrderRelations::not_wide))]
 pub fn cubes(
     alloc: Global,
     expr: &Expr,

@@ -83,7 +83,7 @@ fn grow_value<S: SetSource>(
     }
 }
 
-#[tactic(auto, using(crate::proofs::Widening::grown_at_each, crate::proofs::Widening::grown_done_each), unfolding(crate::specs::Width::weights))]
+#[tactic(auto, using(crate::proofs::WidthSteps::grown_at_each, crate::proofs::WidthSteps::grown_done_each), unfolding(crate::specs::Width::weights))]
 fn values_width<S: SetSource>(is_equal: bool, field: Field, values: &[Value], sets: &S) -> u128
     ensures { result ≡ saturated (steps.grown is_equal (steps.first_count is_equal) (spec.weights (S.members sets.now) field values.now)) }
 {
@@ -105,7 +105,7 @@ fn order_width(field: Field, rel: Rel, values: &[Value]) -> u128
     }
 }
 
-#[tactic(auto, using(crate::proofs::Widening::compare_order, crate::proofs::Widening::compare_equal, crate::proofs::Widening::compare_unlike, crate::proofs::Widening::saturated_is))]
+#[tactic(auto, using(crate::proofs::WidthSteps::compare_order, crate::proofs::WidthSteps::compare_equal, crate::proofs::WidthSteps::compare_unlike, crate::proofs::WidthSteps::saturated_is))]
 fn compare_width<S: SetSource>(field: Field, rel: Rel, values: &[Value], sets: &S) -> u128
     ensures { result ≡ saturated (spec.compare_width (S.members sets.now) field rel values.now) }
 {
@@ -144,7 +144,7 @@ fn widen(is_every: bool, so_far: u128, width: u128) -> u128
 
 /// The width of terms that `&&` joins, or `||`.
 #[cycle(widths)]
-#[tactic(auto, using(crate::proofs::Widening::widened_at, crate::proofs::Widening::widened_done), unfolding(crate::specs::Steps::width_joined))]
+#[tactic(auto, using(crate::proofs::WidthSteps::widened_at, crate::proofs::WidthSteps::widened_done), unfolding(crate::specs::Steps::width_joined))]
 pub(crate) fn joined_width<S: SetSource>(
     terms: &[Expr],
     is_every: bool,
@@ -162,7 +162,7 @@ pub(crate) fn joined_width<S: SetSource>(
 
 // The width of the match, or of its negation.
 #[cycle(widths)]
-#[tactic(auto, using(crate::proofs::Widening::width_const, crate::proofs::Widening::width_is_weight, crate::proofs::Widening::width_not, crate::proofs::Widening::width_all, crate::proofs::Widening::width_any, crate::proofs::Widening::width_compare))]
+#[tactic(auto, using(crate::proofs::WidthSteps::width_const, crate::proofs::WidthSteps::width_is_weight, crate::proofs::WidthSteps::width_not, crate::proofs::WidthSteps::width_all, crate::proofs::WidthSteps::width_any, crate::proofs::WidthSteps::width_compare))]
 fn width_in<S: SetSource>(expr: &Expr, positive: bool, sets: &S) -> u128
     ensures { result ≡ saturated (spec.width_in (S.members sets.now) expr.now positive) }
 {

@@ -31,10 +31,10 @@ use Rattle.match_language.specs.Nesting.Nests.{nests_constant, nests_predicate, 
 use Rattle.match_language.specs.Nesting.AllNest.{nests_last, nests_before}
 use Rattle.match_language.specs.Nesting.FitsLevels.{fits_one, fits_all, fits_any}
 use Rattle.match_language.specs.Spelling.{text_of, spelling, inner_spelling, rest_text, joined_text, values_text, comparison_text, bit_text}
-use Rattle.match_language.proofs.Spelled.{spells_const, spells_is, spells_not, spells_all, spells_any, spells_compare, joined_const, joined_is, joined_not, joined_all, joined_any, joined_compare}
+use Rattle.match_language.proofs.ExprTexts.{spells_const, spells_is, spells_not, spells_all, spells_any, spells_compare, joined_const, joined_is, joined_not, joined_all, joined_any, joined_compare}
 use Rattle.match_language.proofs.Begins.{Begins, Follows, begins_run, begins_first, begins_open, begins_close, begins_bang, begins_and, begins_or, begins_blank, blank_skipped, end_follows, close_follows, and_follows, or_follows}
 use Rattle.match_language.proofs.AgainValues.{values_again}
-use Rattle.match_language.proofs.Nested.{spelled_fits}
+use Rattle.match_language.proofs.Depth.{spelled_fits}
 
 -- ---- the names of the tables
 

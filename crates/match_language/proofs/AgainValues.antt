@@ -35,7 +35,7 @@ use Rattle.match_language.specs.Nesting.TakesAll.{takes_one, takes_several}
 use Rattle.match_language.specs.Spelling.{joined_text, number_text, prefix_below, dotted_mask_text, mask_text, value_text, values_text}
 use Rattle.match_language.proofs.Prefixes.{below_is}
 use Rattle.match_language.proofs.Begins.{Follows, begins_run, begins_slash, begins_comma, begins_open_brace, begins_close_brace, blank_skipped, begins_string, begins_set, begins_group, comma_follows, close_brace_follows}
-use Rattle.match_language.proofs.Written.{Decimal, decimal_word, decimal_passes, digits_run, Word, ip4_word, mac_word}
+use Rattle.match_language.proofs.PrintLaws.{Decimal, decimal_word, decimal_passes, digits_run, Word, ip4_word, mac_word}
 
 none_is : {A : Type 0} (x : A) → None ≡ Some x → ⊥
 none_is x e = absurd cc

@@ -19,7 +19,7 @@ use Rattle.match_language.specs.FirstFault.{after, Same, Shares}
 use Rattle.match_language.proofs.Names.{prefix_passes}
 use Rattle.match_language.proofs.Begins.{begins_first, blank_skipped, skip_none, prefix_exact}
 use Rattle.match_language.proofs.Shorter.{first_takes}
-use Rattle.match_language.proofs.Shared.{is_plain, Plain}
+use Rattle.match_language.proofs.CommonParts.{is_plain, Plain}
 
 -- ---- prefixes
 

@@ -28,13 +28,13 @@ use Rattle.match_language.specs.FirstFault.{after, Same, Shares, tokens_seen, wa
 use Rattle.match_language.specs.FirstFault.Wanted.{wants_relation, wants_value, wants_more, wants_operator}
 use Rattle.match_language.specs.Reading.{Read, ◌>>=◌, unexpected, relation, relation_by, number, number_by, where_taken, one_by, one, closes, past_comma, more_values, several, opens, values, comparison}
 use Rattle.match_language.proofs.Steps.{done, failed}
-use Rattle.match_language.proofs.FoundValues.{one_found}
+use Rattle.match_language.proofs.ParseValues.{one_found}
 use Rattle.match_language.proofs.OnlyValues.{one_only, one_shorter}
 use Rattle.match_language.proofs.Shorter.{next_no_longer, empty_token}
 use Rattle.match_language.proofs.Begins.{Follows, begins_close_brace, close_brace_follows, blank_skipped}
 use Rattle.match_language.proofs.Again.{relation_begins}
-use Rattle.match_language.proofs.Shared.{plus, Fails, fails_here, fails_within, fails_behind}
-use Rattle.match_language.proofs.Moved.{Past, token_moves, one_moves, other_settled, lone}
+use Rattle.match_language.proofs.CommonParts.{plus, Fails, fails_here, fails_within, fails_behind}
+use Rattle.match_language.proofs.TokenMoves.{Past, token_moves, one_moves, other_settled, lone}
 use Rattle.match_language.proofs.FailsValues.{err_is, bind_err, err_never, Admits, sample, sample_bare, sample_stands, ValueDue, more_due, relation_due, one_fails}
 
 -- ---- the bound on the turns

@@ -21,13 +21,13 @@ use Rattle.match_language.specs.FirstFault.{Wanted, fault_by}
 use Rattle.match_language.specs.FirstFault.Wanted.{wants_term, wants_operator}
 use Rattle.match_language.specs.Reading.{Read, ◌>>=◌, unexpected, comparison, leaf_by, leaf, is_operator, more, joined, after_first, expression, closed_by, group, negation, deep_by, deep, flat_by, flat, term}
 use Rattle.match_language.proofs.Steps.{bind_ok, done, failed, ok_is, never, chosen}
-use Rattle.match_language.proofs.Found.{operator, operator_is, term_found, expr_found}
+use Rattle.match_language.proofs.ParseLaws.{operator, operator_is, term_found, expr_found}
 use Rattle.match_language.proofs.Only.{Stops, term_leaf, term_only, term_shorter, expr_only}
 use Rattle.match_language.proofs.Shorter.{next_no_longer, empty_token, empty_next}
 use Rattle.match_language.proofs.Begins.{begins_close, close_follows}
 use Rattle.match_language.proofs.Again.{const_in}
-use Rattle.match_language.proofs.Shared.{Moves, then, Fails, fails_here, fails_within, fails_behind}
-use Rattle.match_language.proofs.Moved.{Ended, Stands, Opens, Operates, token_moves, term_moves, expr_moves, behind_bang, behind_open, and_operates, or_operates}
+use Rattle.match_language.proofs.CommonParts.{Moves, then, Fails, fails_here, fails_within, fails_behind}
+use Rattle.match_language.proofs.TokenMoves.{Ended, Stands, Opens, Operates, token_moves, term_moves, expr_moves, behind_bang, behind_open, and_operates, or_operates}
 use Rattle.match_language.proofs.FailsValues.{err_is, bind_err, err_never}
 use Rattle.match_language.proofs.FailsLists.{bind_same, SomeComparison, comparison_fails}
 

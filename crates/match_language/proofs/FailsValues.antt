@@ -31,13 +31,13 @@ use Rattle.match_language.specs.FirstFault.{after, Same, Shares, tokens_seen, wa
 use Rattle.match_language.specs.FirstFault.Wanted.{wants_value, wants_mask, wants_more}
 use Rattle.match_language.specs.Reading.{Read, ◌>>=◌, unexpected, masked_value, mask, mask_by, after_constant, number_by, number, where_taken, one_by, one}
 use Rattle.match_language.proofs.Steps.{done, failed, never, chosen}
-use Rattle.match_language.proofs.Nested.{chosen_some, passed_some, bind_some, at_most_is}
+use Rattle.match_language.proofs.Depth.{chosen_some, passed_some, bind_some, at_most_is}
 use Rattle.match_language.proofs.Begins.{Follows, begins_run}
-use Rattle.match_language.proofs.Written.{decimal_word, decimal_passes, digits_run, ip4_word, mac_word}
+use Rattle.match_language.proofs.PrintLaws.{decimal_word, decimal_passes, digits_run, ip4_word, mac_word}
 use Rattle.match_language.proofs.AgainValues.{one_again, at_most_within, field_max_small}
 use Rattle.match_language.proofs.OnlyValues.{mask_constant}
-use Rattle.match_language.proofs.Shared.{plus, is_plain, Fails, fails_here}
-use Rattle.match_language.proofs.Moved.{constant_is, constant_value, constant_plain, other_settled}
+use Rattle.match_language.proofs.CommonParts.{plus, is_plain, Fails, fails_here}
+use Rattle.match_language.proofs.TokenMoves.{constant_is, constant_value, constant_plain, other_settled}
 
 -- ---- failed steps
 

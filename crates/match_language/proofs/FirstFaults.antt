@@ -17,12 +17,12 @@ use Rattle.match_language.specs.FirstFault.{after, tokens_seen, Wanted, wanted, 
 use Rattle.match_language.specs.FirstFault.Wanted.{wants_operator}
 use Rattle.match_language.specs.Reading.{Read, ◌>>=◌, unexpected, is_operator, expression, term, ended_by, ended, whole}
 use Rattle.match_language.proofs.Steps.{failed, never}
-use Rattle.match_language.proofs.Found.{term_found, expr_found, whole_found}
+use Rattle.match_language.proofs.ParseLaws.{term_found, expr_found, whole_found}
 use Rattle.match_language.proofs.Only.{Stops, expr_only, whole_only}
 use Rattle.match_language.proofs.Begins.{end_follows}
 use Rattle.match_language.proofs.Again as again
-use Rattle.match_language.proofs.Shared.{plus, Gap, Fails, fails_here, fails_within, fails_behind, seen_last, shares_less, shares_own}
-use Rattle.match_language.proofs.Moved.{expr_moves, at_first}
+use Rattle.match_language.proofs.CommonParts.{plus, Gap, Fails, fails_here, fails_within, fails_behind, seen_last, shares_less, shares_own}
+use Rattle.match_language.proofs.TokenMoves.{expr_moves, at_first}
 use Rattle.match_language.proofs.Cut.{graft}
 use Rattle.match_language.proofs.FailsValues.{err_is, bind_err, err_never}
 use Rattle.match_language.proofs.FailsTerms.{SomeExpr, term_fails, expression_fails, expression_stops}

@@ -13,7 +13,7 @@ use Rattle.match_language.specs.Grammar.IsTerm.{constant, predicate, compared, n
 use Rattle.match_language.specs.Grammar.IsExpr.{alone, all_of, any_of}
 use Rattle.match_language.specs.Grammar.IsJoined.{last_term, before_others}
 use Rattle.match_language.specs.Reading.{Read, leaf_by, leaf, is_operator, more, joined, after_first, expression, group, negation, deep_by, deep, flat_by, flat, term, ended_by, whole}
-use Rattle.match_language.proofs.Found.{operator}
+use Rattle.match_language.proofs.ParseLaws.{operator}
 use Rattle.match_language.proofs.Shorter.{is_end, next_shorter, next_no_longer}
 use Rattle.match_language.proofs.OnlyValues.{comparison_only, values_no_longer}
 

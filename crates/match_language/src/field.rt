@@ -196,7 +196,7 @@ impl Field {
     }
 
     /// The field of that name.
-    #[tactic(auto, using(crate::proofs::Named::named_split))]
+    #[tactic(auto, using(crate::proofs::FieldNames::named_split))]
     pub(crate) fn named(word: &[u8]) -> Option<Field>
         ensures { result ≡ spec.field_named word.now }
     {

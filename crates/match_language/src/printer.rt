@@ -145,7 +145,7 @@ fn push_joined(terms: &[Expr], operator: &[u8], out: &mut Vec<u8>) -> Result<(),
     Ok(())
 }
 
-#[tactic(auto, using(crate::proofs::Spelled::joined_const, crate::proofs::Spelled::joined_is, crate::proofs::Spelled::joined_not, crate::proofs::Spelled::joined_all, crate::proofs::Spelled::joined_any, crate::proofs::Spelled::joined_compare))]
+#[tactic(auto, using(crate::proofs::ExprTexts::joined_const, crate::proofs::ExprTexts::joined_is, crate::proofs::ExprTexts::joined_not, crate::proofs::ExprTexts::joined_all, crate::proofs::ExprTexts::joined_any, crate::proofs::ExprTexts::joined_compare))]
 fn is_joined(expr: &Expr) -> bool
     ensures { result ≡ spec.is_joined expr.now }
 {
@@ -188,7 +188,7 @@ fn push_comparison(
 
 // An expression alone.
 #[cycle(printer)]
-#[tactic(auto, using(crate::proofs::Spelled::spells_const, crate::proofs::Spelled::spells_is, crate::proofs::Spelled::spells_not, crate::proofs::Spelled::spells_all, crate::proofs::Spelled::spells_any, crate::proofs::Spelled::spells_compare))]
+#[tactic(auto, using(crate::proofs::ExprTexts::spells_const, crate::proofs::ExprTexts::spells_is, crate::proofs::ExprTexts::spells_not, crate::proofs::ExprTexts::spells_all, crate::proofs::ExprTexts::spells_any, crate::proofs::ExprTexts::spells_compare))]
 fn push_expr(expr: &Expr, out: &mut Vec<u8>) -> Result<(), NoMemory>
     ensures { OnOk result (out.new.items ≡ out.old.items ++ spelling expr.now) }
 {

@@ -1,4 +1,4 @@
 -- Lemmas.
 pub mod Outports
-pub mod Kept
-pub mod Marked
+pub mod OwnerLists
+pub mod MarkLists

@@ -147,7 +147,7 @@ fn push_switch_ports(
 }
 
 /// The datapaths and ports of the other records that these don't have.
-#[tactic(auto, using(crate::proofs::Kept::only_in_all))]
+#[tactic(auto, using(crate::proofs::OwnerLists::only_in_all))]
 pub(crate) fn new_owners(
     alloc: Global,
     records: &Records,

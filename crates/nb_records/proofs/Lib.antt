@@ -1,3 +1,3 @@
 -- Lemmas.
 pub mod AnyLaws
-pub mod Served
+pub mod Services

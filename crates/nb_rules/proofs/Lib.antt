@@ -1,6 +1,6 @@
 -- Lemmas.
-pub mod Named
+pub mod FirstNames
 pub mod EachKind
 pub mod Leasts
-pub mod Capped
-pub mod AllKept
+pub mod SumCaps
+pub mod Validity

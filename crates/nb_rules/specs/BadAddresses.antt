@@ -1,4 +1,4 @@
--- Clause 3: addresses that are none, or that stand where they can't.
+-- Addresses that are none, or that stand where they can't.
 use Rattle.std.specs.Prelude.{◌==◌, ◌&&◌, ◌||◌, ◌-◌, ◌%◌, ◌^◌, nat_lt, Bool, true, false, not, Option}
 use Rattle.std.specs.List.{list_any}
 use Rattle.ovn_base.specs.addresses.EtherAddress.{is_multicast_mac}

@@ -1,4 +1,4 @@
--- Clause 8: only gateway routers translate.
+-- Only gateway routers translate.
 use Rattle.std.specs.Prelude.{Bool, false, not, Option, Some, None}
 use Rattle.std.specs.List.{list_any}
 use Rattle.ovn_base.specs.declared.name.Name.{Name}

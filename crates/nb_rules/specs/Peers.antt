@@ -1,4 +1,4 @@
--- Clause 4: partners of router ports.
+-- Partners of router ports.
 use Rattle.std.specs.Prelude.{◌||◌, Bool, true, false, not, Option, Some, None}
 use Rattle.std.specs.List.{list_any}
 use Rattle.std.specs.Option.{option_and_then}

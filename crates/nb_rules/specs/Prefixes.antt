@@ -1,4 +1,4 @@
--- Clauses 6 and 7: networks, routes and translations of one prefix, and next hops that no network holds.
+-- Networks, routes and translations of one prefix, and next hops that no network holds.
 use Rattle.std.specs.Prelude.{◌==◌, ◌&&◌, ◌||◌, Bool, true, false, not, Option}
 use Rattle.std.specs.List.{list_any}
 use Rattle.ovn_base.specs.declared.address.Cidr.{Cidr}

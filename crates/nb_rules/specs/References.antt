@@ -1,4 +1,4 @@
--- Clauses 1 and 2: each record that another names is there.
+-- Each record that another names is there.
 use Rattle.std.specs.Prelude.{◌&&◌, Bool, true, false, not, cond, List, [], ◌∷◌, ◌++◌, map, flat_map, Option, Some, None, option_map}
 use Rattle.std.specs.List.{list_any}
 use Rattle.match_language.specs.declared.expr.Expr.{Expr, Expr-F, fold-Expr}

@@ -1,4 +1,4 @@
--- Clauses 9 and 10: the widths of matches, and how many records there may be.
+-- The widths of matches, and how many records there may be.
 use Rattle.std.specs.Prelude.{◌+◌, nat_lt, ℕ, max, [], length, Option, unwrap_or, cond, option_map}
 use Rattle.std.specs.List.{sum_by}
 use Rattle.ovn_base.specs.declared.limits.TheConstants.{MAX_DATAPATHS, MAX_PORTS, MAX_ACLS, MAX_WIDTH}

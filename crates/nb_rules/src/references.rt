@@ -109,7 +109,7 @@ impl Missing<'_> {
     }
 
     // The first address set or port group of the values that is missing.
-    #[tactic(auto, using(crate::proofs::Named::named_append))]
+    #[tactic(auto, using(crate::proofs::FirstNames::named_append))]
     fn in_values(&self, values: &[Value]) -> Option<Name>
         ensures { result ≡ spec.first_named (spec.is_missing self.now.records.now self.now.ops.now self.now.removed) (flat_map spec.value_references values.now) }
     {
@@ -133,7 +133,7 @@ impl Missing<'_> {
 
     // The first of the terms' that is missing.
     #[cycle(matches)]
-    #[tactic(auto, using(crate::proofs::Named::named_append))]
+    #[tactic(auto, using(crate::proofs::FirstNames::named_append))]
     fn in_terms(&self, terms: &[Expr]) -> Option<Name>
         ensures { result ≡ spec.first_named (spec.is_missing self.now.records.now self.now.ops.now self.now.removed) (flat_map spec.match_references terms.now) }
     {
@@ -147,7 +147,7 @@ impl Missing<'_> {
 
     // The first address set or port group of the match that is missing.
     #[cycle(matches)]
-    #[tactic(auto, using(crate::proofs::Named::references_const, crate::proofs::Named::references_is, crate::proofs::Named::references_not, crate::proofs::Named::references_all, crate::proofs::Named::references_any, crate::proofs::Named::references_compare))]
+    #[tactic(auto, using(crate::proofs::FirstNames::references_const, crate::proofs::FirstNames::references_is, crate::proofs::FirstNames::references_not, crate::proofs::FirstNames::references_all, crate::proofs::FirstNames::references_any, crate::proofs::FirstNames::references_compare))]
     fn in_match(&self, expr: &Expr) -> Option<Name>
         ensures { result ≡ spec.first_named (spec.is_missing self.now.records.now self.now.ops.now self.now.removed) (spec.match_references expr.now) }
     {
@@ -213,7 +213,7 @@ impl Clause<PortGroup> for Missing<'_> {
 impl Clause<Acl> for Missing<'_> {
     ghost broken = { λ m r. spec.reference_fault m.records.now m.ops.now m.removed (row.Acl r) };
 
-    #[tactic(auto, using(crate::proofs::Named::named_append))]
+    #[tactic(auto, using(crate::proofs::FirstNames::named_append))]
     fn broken(&self, rule: &Acl) -> Option<SchemaFault> {
         if let Some(name) = self.in_given(Kind::Switch, &rule.switch) {
             return self.fault(&rule.name, Some(name));
@@ -244,7 +244,7 @@ impl Clause<Nat> for Missing<'_> {
 impl Clause<LoadBalancer> for Missing<'_> {
     ghost broken = { λ m r. spec.reference_fault m.records.now m.ops.now m.removed (row.LoadBalancer r) };
 
-    #[tactic(auto, using(crate::proofs::Named::named_append))]
+    #[tactic(auto, using(crate::proofs::FirstNames::named_append))]
     fn broken(&self, balancer: &LoadBalancer) -> Option<SchemaFault> {
         if let Some(name) = self.in_each(Kind::Switch, balancer.switches.as_slice()) {
             return self.fault(&balancer.name, Some(name));

@@ -88,7 +88,7 @@ fn applies(records: &Records, switch: &Name, rule: &Acl) -> bool
 }
 
 // The sum so far with the cubes of the rule on all switches, or the greatest number where there are more.
-#[tactic(auto, using(crate::proofs::Capped::add_applying, crate::proofs::Capped::add_none))]
+#[tactic(auto, using(crate::proofs::SumCaps::add_applying, crate::proofs::SumCaps::add_none))]
 fn with_rule(records: &Records, so_far: u128, rule: &Acl) -> u128
     ensures { result ≡ saturated (so_far + spec.cubes_of records.now rule.now) }
 {

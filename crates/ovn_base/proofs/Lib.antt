@@ -1,6 +1,7 @@
 -- Lemmas.
 pub mod AmongLaws
 pub mod ByNameLaws
+pub mod SameEntries
 pub mod AddressLemmas
 pub mod DecimalLemmas
 pub mod JoinedLemmas

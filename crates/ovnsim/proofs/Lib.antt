@@ -1,9 +1,9 @@
 -- Lemmas.
 pub mod Admits
-pub mod Named
+pub mod NameLaws
 pub mod ReadOff
 pub mod OneReading
 pub mod OneRun
-pub mod Running
-pub mod Taken
-pub mod Stopped
+pub mod RunSteps
+pub mod OneEvent
+pub mod Stops

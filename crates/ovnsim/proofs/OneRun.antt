@@ -18,7 +18,7 @@ use Rattle.world_core.proofs.OnePass.{same_walks}
 use Rattle.world_core.proofs.EmptyWorld.{new_sound}
 use Rattle.ovnsim.specs.Runs.{Runs, RunsLines, Takes, accepts, refuses, IsTextOf, AreTexts}
 use Rattle.ovnsim.proofs.OneReading.{same_events}
-use Rattle.ovnsim.proofs.Taken.{step_counts}
+use Rattle.ovnsim.proofs.OneEvent.{step_counts}
 
 -- two worlds of one state, and with the same zones
 pub record AreAlike (one two : WorldView) : Type 0 where

@@ -10,14 +10,14 @@ use Rattle.nb_records.specs.declared.record.Record.TheVariants as kind
 use Rattle.edit_reader.specs.Reads.{Adds, IsForm, Reads, edits, adds_chassis, binds, sends, injects, delivers, loses, repeats, drains, is_form, is_none}
 use Rattle.edit_reader.specs.declared.event.Event.{Event}
 use Rattle.event_lines.specs.Picks.{Pick, picks_in, AreWholeLines}
-use Rattle.event_lines.proofs.Reading as read
+use Rattle.event_lines.proofs.PickLines as read
 use Rattle.world_core.specs.Outcome.{matched}
 use Rattle.world_core.specs.StepParts.{new_world}
 use Rattle.world_core.specs.WorldView.{WorldView, IsSound}
 use Rattle.net_model.specs.State.{event_count}
 use Rattle.ovnsim.specs.Events.{AreEvents, AsksFor, is_too_long, is_no_json, is_read}
 use Rattle.ovnsim.specs.Runs.{Runs, Takes, accepts, refuses}
-use Rattle.ovnsim.proofs.Named.{IsNamedRecord, IsNamedEvent, IsNamedState, none_named, refusal_named, step_named}
+use Rattle.ovnsim.proofs.NameLaws.{IsNamedRecord, IsNamedEvent, IsNamedState, none_named, refusal_named, step_named}
 
 -- ---- the names in what a line asks for
 

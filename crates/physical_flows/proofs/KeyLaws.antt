@@ -13,9 +13,9 @@ use Rattle.tunnel_keys.specs.Keys.{Keys, held_datapath, held_datapaths, held_por
 use Rattle.tunnel_keys.specs.declared.owner.DatapathKey.{DatapathKey}
 use Rattle.tunnel_keys.specs.declared.owner.Identity.{Identity}
 use Rattle.tunnel_keys.specs.declared.owner.PortKey.{PortKey}
-use Rattle.tunnel_keys.proofs.Held.{is_held_port, on_datapath_key}
+use Rattle.tunnel_keys.proofs.HeldKeys.{is_held_port, on_datapath_key}
 use Rattle.physical_flows.specs.RecordKeys.{HaveKeys}
-use Rattle.physical_flows.proofs.Found.{some_of}
+use Rattle.physical_flows.proofs.FlowSearch.{some_of}
 
 -- the key that has the number
 pub of_number : {X : Type 0} (number : X → ℕ) (o : Option X) (n : ℕ) → option_map number o ≡ Some n → (x : X) × (o ≡ Some x) × (number x ≡ n)

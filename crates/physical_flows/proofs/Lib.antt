@@ -1,6 +1,6 @@
 -- Lemmas.
 pub mod FlowsOnce
-pub mod Found
+pub mod FlowSearch
 pub mod KeyLaws
 pub mod Macs
 pub mod Members

@@ -26,7 +26,7 @@ use Rattle.physical_flows.specs.ChassisFlows.{AreExactly}
 use Rattle.physical_flows.specs.Stages.{Basis, IsDatapath, IsPort, IsHere, members_here, homes_of, has_unknown, EntryRow, AdmitRow, PortSecRow, TrackRow, AclInRow, StateInRow, ArpRow, LookupRow, RemoteRow, HomeRow, ReturnRow, TrackOutRow, AclOutRow, StateOutRow, SecOutRow, OutputRow}
 use Rattle.physical_flows.specs.TableList.{ingress_rows, egress_rows, group_rows, switch_rows, switch_part, port_rows, local_rows, local_part, bound_rows, port_part, table_flows}
 use Rattle.physical_flows.specs.Tables.{TableFlow}
-use Rattle.physical_flows.proofs.Found.{some_of}
+use Rattle.physical_flows.proofs.FlowSearch.{some_of}
 use Rattle.physical_flows.proofs.Macs.{listed_mac, mac_listed}
 use Rattle.physical_flows.proofs.FlowsOnce.{table_flows_once}
 

@@ -2,7 +2,7 @@
 use Rattle.std.specs.Prelude.{◌≡◌, ℕ, Bool, true, false, if◌then◌else◌, List, [], ◌∷◌, ◌++◌, map, codes}
 use Rattle.std.proofs.Common.{ap, ◌∙◌}
 use Rattle.logical_flows.proofs.Tops.{one_const, one_is, one_not, one_all, one_any, one_compare, any_const, any_is, any_not, any_all, any_any, any_compare}
-use Rattle.match_language.proofs.Spelled.{spells_const, spells_is, spells_not, spells_all, spells_any, spells_compare, joined_is, joined_not, joined_any, joined_compare}
+use Rattle.match_language.proofs.ExprTexts.{spells_const, spells_is, spells_not, spells_all, spells_any, spells_compare, joined_is, joined_not, joined_any, joined_compare}
 use Rattle.match_language.specs.Spelling.{text_of, spelling, inner_spelling, comparison_text, joined_text}
 use Rattle.match_language.specs.Tables.{predicate_name}
 use Rattle.match_language.specs.declared.expr.Expr.{Expr}

@@ -46,7 +46,7 @@ use Rattle.net_model.specs.Trail.{End, leaves, is_lost}
 use Rattle.sim_laws.specs.Visit.{arrival, reached, is_gone, is_same_port, is_switch, misses}
 use Rattle.physical_flows.specs.Homes.{members_at}
 use Rattle.sim_laws.specs.WalkLaw.{ArrivalLaw}
-use Rattle.physical_flows.proofs.Found.{is_some_of, some_of}
+use Rattle.physical_flows.proofs.FlowSearch.{is_some_of, some_of}
 use Rattle.sim_laws.proofs.KeyLookups.{datapath_key_is, port_key_is}
 use Rattle.sim_laws.proofs.EffectNames.{AreEndsOn}
 use Rattle.sim_laws.proofs.Refinements.{told_effects, told_held, amidst_kept, amidst_with, crossings_behind, held_kept}

@@ -19,7 +19,7 @@ use Rattle.tunnel_keys.specs.Keys.{held_datapath, held_ports}
 use Rattle.tunnel_keys.specs.declared.owner.DatapathKey.{DatapathKey}
 use Rattle.tunnel_keys.specs.declared.owner.HeldPort.{HeldPort}
 use Rattle.tunnel_keys.specs.declared.owner.Identity.{Identity}
-use Rattle.tunnel_keys.proofs.Held.{on_datapath_key}
+use Rattle.tunnel_keys.proofs.HeldKeys.{on_datapath_key}
 use Rattle.net_model.specs.declared.crossing.Aim.{Aim}
 use Rattle.net_model.specs.declared.crossing.Aim.TheVariants.{ToPort, ToGroup}
 use Rattle.net_model.specs.declared.crossing.Group.{Group}

@@ -25,7 +25,7 @@ use Rattle.sim_laws.specs.PacketSteps.{Enters}
 use Rattle.sim_laws.specs.PlainJourneys.{sent_on}
 use Rattle.sim_laws.specs.WalkLaw.{AreVisit, EntryLaw}
 use Rattle.sim_laws.proofs.Crossings.{visit_ends}
-use Rattle.physical_flows.proofs.Found.{some_of}
+use Rattle.physical_flows.proofs.FlowSearch.{some_of}
 use Rattle.sim_laws.proofs.Refinements.{told_effects, told_held, amidst_with, crossings_behind}
 
 module _ (law : EntryLaw) (m : State) (zones : List (Name × ℕ)) (more : ℕ) (s new : sim.SimState) (p : Name) (frame : List ℕ) (before after : SimOut) (a : IsAmidst m zones more) (h : AreHeld m zones s) where

@@ -35,7 +35,7 @@ use Rattle.sim_laws.specs.Visit.{IsTarget, Target, one, group, none, HasTarget, 
 use Rattle.sim_laws.specs.WalkLaw.{AreVisit}
 use Rattle.physical_flows.proofs.Tables.{at_0, at_8, at_9, at_10, at_11, at_12, at_13, at_14}
 use Rattle.sim_laws.proofs.WalkForms.{Setting, basis_of, copy_at, Comes, Matched, After, as_row, row_fits, comes_none, comes_by, comes_row}
-use Rattle.physical_flows.proofs.Found.{some_of}
+use Rattle.physical_flows.proofs.FlowSearch.{some_of}
 use Rattle.sim_laws.proofs.GroupBits.{multicast_fits, fits_multicast}
 use Rattle.sim_laws.proofs.Table34.{From, pass, pass_9, pass_10, pass_11, pass_12, pass_13}
 use Rattle.sim_laws.proofs.LiveKeys.{dp_small, one_datapath, port_is, port_on}

@@ -18,7 +18,7 @@ use Rattle.sim_laws.specs.Naming.{HasDatapathKey, HasPortKey}
 use Rattle.physical_flows.specs.RecordKeys.{HaveKeys}
 use Rattle.physical_flows.specs.Stages.{Basis, IsDatapath, IsPort}
 use Rattle.sim_laws.proofs.WalkForms.{Setting, basis_of}
-use Rattle.physical_flows.proofs.Found.{some_of}
+use Rattle.physical_flows.proofs.FlowSearch.{some_of}
 use Rattle.physical_flows.proofs.KeyLaws as laws
 
 abbrev pub identity : Name → Birth → Identity

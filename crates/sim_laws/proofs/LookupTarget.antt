@@ -31,7 +31,7 @@ use Rattle.physical_flows.specs.Stages.{Basis, IsDatapath, IsPort, IsHere, homes
 use Rattle.net_model.specs.Trail.{End, leaves, is_dropped, crosses}
 use Rattle.sim_laws.specs.Visit.{SentFrom, crossing_to, sent_home, sent_to, group}
 use Rattle.sim_laws.proofs.WalkForms.{Setting, basis_of, copy_at, Comes, comes_by}
-use Rattle.physical_flows.proofs.Found.{some_of}
+use Rattle.physical_flows.proofs.FlowSearch.{some_of}
 use Rattle.sim_laws.proofs.Groups.{IsMember, of_group, copies_leave}
 use Rattle.sim_laws.proofs.Table33.{home_33, away_33, group_33}
 use Rattle.sim_laws.proofs.KeyLookups.{datapath_key_is, port_key_is}

@@ -1,9 +1,9 @@
 -- Lemmas.
-pub mod Doing
-pub mod Framed
-pub mod Going
-pub mod Keeping
-pub mod Left
+pub mod ActionSteps
+pub mod FrameKeys
+pub mod WalkSteps
+pub mod Fronts
+pub mod Measure
 pub mod Lists
 pub mod Ranges
 pub mod Walks

@@ -20,9 +20,9 @@ use Rattle.tunnel_keys.specs.declared.owner.HeldDatapath.{HeldDatapath}
 use Rattle.tunnel_keys.specs.declared.owner.HeldPort.{HeldPort}
 use Rattle.tunnel_keys.specs.declared.owner.KeyOwner.{KeyOwner}
 use Rattle.tunnel_keys.proofs.Lists.{in_order_same}
-use Rattle.tunnel_keys.proofs.Planned.{all_datapaths, new_ports, planned, HasRoom, between_sorted, between_ports_sorted, all_datapaths_sorted, planned_gives, planned_least}
+use Rattle.tunnel_keys.proofs.Plans.{all_datapaths, new_ports, planned, HasRoom, between_sorted, between_ports_sorted, all_datapaths_sorted, planned_gives, planned_least}
 use Rattle.tunnel_keys.proofs.Invariant.{planned_hold, retired_datapaths_once, retired_ports_once}
-use Rattle.tunnel_keys.proofs.Ordered.{held_datapath_cmp, held_port_cmp, datapaths_in_order, ports_in_order}
+use Rattle.tunnel_keys.proofs.KeyOrder.{held_datapath_cmp, held_port_cmp, datapaths_in_order, ports_in_order}
 use Rattle.tunnel_keys.proofs.Faults.{lacks_datapaths, has_datapaths, first_lacks, has_keys}
 
 -- the keys with other entries

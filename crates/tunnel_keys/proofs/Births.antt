@@ -22,7 +22,7 @@ use Rattle.tunnel_keys.specs.declared.owner.KeyOwner.{KeyOwner}
 use Rattle.tunnel_keys.specs.declared.owner.KeyOwner.TheVariants.{Datapath, Port}
 use Rattle.tunnel_keys.specs.declared.owner.PortKey.{PortKey}
 use Rattle.tunnel_keys.proofs.Invariant.{settled_datapath, settled_port}
-use Rattle.tunnel_keys.proofs.Held.{held_port_is, live_owner_held}
+use Rattle.tunnel_keys.proofs.HeldKeys.{held_port_is, live_owner_held}
 use Rattle.tunnel_keys.proofs.Lists.{filter_at}
 
 -- ---- the same keys later, and settled ones

@@ -28,7 +28,7 @@ use Rattle.tunnel_keys.specs.declared.owner.PortKey.{PortKey}
 use Rattle.tunnel_keys.specs.declared.owner.HeldPort.{HeldPort}
 use Rattle.tunnel_keys.specs.declared.owner.KeyOwner.{KeyOwner}
 use Rattle.ovn_base.proofs.ByNameLaws.{at_among, among_at, below_apart, above_among}
-use Rattle.tunnel_keys.proofs.Planned.{all_datapaths, all_datapaths_sorted, HasRoom, datapaths_count, ports_count, there_datapath, found_datapath}
+use Rattle.tunnel_keys.proofs.Plans.{all_datapaths, all_datapaths_sorted, HasRoom, datapaths_count, ports_count, there_datapath, found_datapath}
 
 -- a name behind another in order is above it
 above_behind : (before : List (Name × DatapathKey)) (n : Name) (d : DatapathKey) (behind : List (Name × DatapathKey)) → IsByName (before ++ (n, d) ∷ behind) → (m : Name) (e : DatapathKey) → Among (m, e) behind → slice_cmp nat_cmp n m ≡ Less
@@ -36,7 +36,7 @@ unfolding IsStrictlySortedBy
 above_behind [] n d behind s m e k = above_among n m e behind s.0 k
 above_behind (b ∷ bs) n d behind s m e k = above_behind bs n d behind s.1 m e k
 
-pub not_both : (a b : Name) → slice_cmp nat_cmp a b ≡ Less → slice_cmp nat_cmp b a ≢ Less
+not_both : (a b : Name) → slice_cmp nat_cmp a b ≡ Less → slice_cmp nat_cmp b a ≢ Less
 not_both a b h k = true≢false (ap is_lt (sym k ∙ nat_list_cmp_total.antisymm b a ∙ ap ordering_reverse h))
 
 -- all datapaths before those that are left have enough keys

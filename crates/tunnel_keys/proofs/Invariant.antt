@@ -26,11 +26,11 @@ use Rattle.tunnel_keys.specs.declared.owner.HeldPort.{HeldPort}
 use Rattle.tunnel_keys.specs.declared.owner.KeyOwner.{KeyOwner}
 use Rattle.tunnel_keys.specs.declared.owner.KeyOwner.TheVariants.{Datapath, Port}
 use Rattle.ovn_base.proofs.ByNameLaws.{at_among, among_at}
-use Rattle.tunnel_keys.proofs.Held.{found, is_found, on_datapath_key, held_port_is, is_held_port}
+use Rattle.tunnel_keys.proofs.HeldKeys.{found, is_found, on_datapath_key, held_port_is, is_held_port}
 use Rattle.tunnel_keys.proofs.Lists.{put_all_sorted}
 use Rattle.tunnel_keys.proofs.FreeKeys.{free_is_free, free_once, with_keys_apart}
 use Rattle.tunnel_keys.proofs.OwnerLaws.{listed_among, among_listed}
-use Rattle.tunnel_keys.proofs.Planned.{new_datapaths, new_datapaths_sorted, all_datapaths, new_ports_on, new_ports, planned, HasRoom, one_entry, stays_datapath, stays_port, between_ports_sorted, all_datapaths_sorted, new_datapath_who, datapath_cases, found_datapath, new_port_who, port_cases, new_port_on, new_port_owner}
+use Rattle.tunnel_keys.proofs.Plans.{new_datapaths, new_datapaths_sorted, all_datapaths, new_ports_on, new_ports, planned, HasRoom, one_entry, stays_datapath, stays_port, between_ports_sorted, all_datapaths_sorted, new_datapath_who, datapath_cases, found_datapath, new_port_who, port_cases, new_port_on, new_port_owner}
 
 -- in one of two lists, the second of which has other members
 among_either : {X : Type 0} (a : X) (xs ys zs : List X) → (Among a ys → Among a zs) → Among a (xs ++ ys) → Among a (xs ++ zs)

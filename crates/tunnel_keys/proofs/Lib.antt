@@ -1,18 +1,18 @@
 -- Lemmas.
 pub mod Lists
-pub mod Ordered
+pub mod KeyOrder
 pub mod UnderLaws
 pub mod FreeKeys
-pub mod Taken
+pub mod TakenKeys
 pub mod OwnerLaws
-pub mod Held
-pub mod Planned
+pub mod HeldKeys
+pub mod Plans
 pub mod Room
 pub mod Invariant
 pub mod Faults
-pub mod Determined
-pub mod Listed
+pub mod OneOutcome
+pub mod PortLists
 pub mod After
-pub mod Staying
+pub mod KeyStays
 pub mod Births
 pub mod Single

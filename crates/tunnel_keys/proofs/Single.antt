@@ -17,7 +17,7 @@ use Rattle.tunnel_keys.specs.declared.owner.KeyOwner.{KeyOwner}
 use Rattle.tunnel_keys.specs.declared.owner.KeyOwner.TheVariants.{Datapath, Port}
 use Rattle.tunnel_keys.specs.declared.owner.PortKey.{PortKey}
 use Rattle.tunnel_keys.specs.Owners.{name_in, birth_in, place_in}
-use Rattle.tunnel_keys.proofs.Held.{found}
+use Rattle.tunnel_keys.proofs.HeldKeys.{found}
 use Rattle.tunnel_keys.proofs.OwnerLaws.{not_port, the_one}
 
 module _ (keys : Keys) (hold : IsKeys keys) where

@@ -22,8 +22,8 @@ use Rattle.world_core.specs.Zones.{zone_for}
 use Rattle.tunnel_keys.proofs.Births.{born_later, keys_born}
 use Rattle.world_core.proofs.NewKeys.{given_beside, switch_keys, port_keys}
 use Rattle.world_core.proofs.NamesInOrder.{name_kept, names_few, names_sorted}
-use Rattle.world_core.proofs.RecordsKept.{switch_valid, port_valid, some_kept, bound_kept, bound_fresh, born_kept, born_switch, born_port}
-use Rattle.world_core.proofs.WaitingKept.{port_kept, same_kept, switch_kept, way_on}
+use Rattle.world_core.proofs.RecordChanges.{switch_valid, port_valid, some_kept, bound_kept, bound_fresh, born_kept, born_switch, born_port}
+use Rattle.world_core.proofs.WaitingFrames.{port_kept, same_kept, switch_kept, way_on}
 use Rattle.tunnel_keys.specs.Owners.{birth_in}
 use Rattle.tunnel_keys.proofs.OwnerLaws.{the_one}
 use Rattle.world_core.proofs.FreedKeys.{counted, finished_consistent}

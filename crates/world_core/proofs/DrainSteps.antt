@@ -18,7 +18,7 @@ use Rattle.world_core.specs.WorldView.{WorldView}
 use Rattle.sim_laws.specs.Held.{AreHeld, frame_of_crossing}
 use Rattle.net_model.specs.State.{State}
 use Rattle.sim_laws.specs.PacketSteps.{Drains, most_arrivals}
-use Rattle.physical_flows.proofs.Found.{is_some_of}
+use Rattle.physical_flows.proofs.FlowSearch.{is_some_of}
 
 -- some frames arrived, and however those that are left arrive, so do all
 pub record AreDraining (old : WorldView) (before : SimOut) (left : ℕ) (now : WorldView) (told : SimOut) : Type 0 where

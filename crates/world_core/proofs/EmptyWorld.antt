@@ -21,7 +21,7 @@ use Rattle.physical_flows.specs.RecordKeys.{HaveKeys}
 use Rattle.physical_flows.specs.Bindings.{AreBound}
 use Rattle.sim_laws.specs.Sound.{AreBorn, AreCrossings}
 use Rattle.net_model.specs.State.{empty}
-use Rattle.physical_flows.proofs.Found.{some_of}
+use Rattle.physical_flows.proofs.FlowSearch.{some_of}
 
 abbrev first_keys : Keys
 first_keys = no_keys 16777215 32767

@@ -16,7 +16,7 @@ use Rattle.tunnel_keys.specs.Keys.{held_port, held_ports}
 use Rattle.tunnel_keys.specs.declared.owner.HeldPort.{HeldPort}
 use Rattle.tunnel_keys.specs.declared.owner.Identity.{Identity}
 use Rattle.tunnel_keys.specs.declared.owner.PortKey.{PortKey}
-use Rattle.tunnel_keys.proofs.Held.{held_port_is}
+use Rattle.tunnel_keys.proofs.HeldKeys.{held_port_is}
 use Rattle.net_model.specs.declared.crossing.Aim.{Aim}
 use Rattle.net_model.specs.declared.crossing.Aim.TheVariants.{ToPort, ToGroup}
 use Rattle.net_model.specs.declared.crossing.Crossing.{Crossing}
@@ -27,7 +27,7 @@ use Rattle.physical_flows.specs.RecordKeys.{HaveKeys}
 use Rattle.sim_laws.specs.Sound.{HasAimKey, IsAimOnLive}
 use Rattle.net_model.specs.State.{State}
 use Rattle.sim_laws.specs.Visit.{has_birth, is_switch}
-use Rattle.physical_flows.proofs.Found.{some_of}
+use Rattle.physical_flows.proofs.FlowSearch.{some_of}
 use Rattle.sim_laws.proofs.KeyLookups.{port_key_is}
 use Rattle.world_core.proofs.OneCrossing.{are_small}
 

@@ -15,7 +15,7 @@ use Rattle.tunnel_keys.specs.declared.owner.Identity.{Identity}
 use Rattle.tunnel_keys.specs.declared.owner.KeyOwner.TheVariants.{Datapath, Port}
 use Rattle.tunnel_keys.specs.declared.owner.PortKey.{PortKey}
 use Rattle.tunnel_keys.proofs.Births.{datapath_new, datapath_bare, port_new}
-use Rattle.tunnel_keys.proofs.Held.{is_found}
+use Rattle.tunnel_keys.proofs.HeldKeys.{is_found}
 use Rattle.tunnel_keys.proofs.Single.{datapath_fits}
 use Rattle.tunnel_keys.proofs.Single as single
 use Rattle.tunnel_keys.proofs.Room.{filter_few, free_count, retire_none}
@@ -23,7 +23,7 @@ use Rattle.sim_laws.specs.Sound.{AreBorn}
 use Rattle.physical_flows.specs.RecordKeys.{HaveKeys}
 use Rattle.net_model.specs.State.{State, event_count}
 use Rattle.world_core.proofs.Counts.{few_entries}
-use Rattle.physical_flows.proofs.Found.{some_of}
+use Rattle.physical_flows.proofs.FlowSearch.{some_of}
 use Rattle.physical_flows.proofs.KeyLaws.{no_datapath_key, no_port_key}
 
 pub map_length : {X Y : Type 0} (f : X → Y) (xs : List X) → length (map f xs) ≡ length xs

@@ -19,13 +19,13 @@ pub mod OneCrossing
 pub mod OnePass
 pub mod OneStep
 pub mod PacketEvents
-pub mod PacketsHeld
+pub mod PacketState
 pub mod PlainSteps
-pub mod RecordsKept
+pub mod RecordChanges
 pub mod Refusal
 pub mod Refusals
 pub mod StepByStep
 pub mod TurnEvents
 pub mod Turns
-pub mod WaitingKept
+pub mod WaitingFrames
 pub mod ZoneNumbers

@@ -13,10 +13,10 @@ use Rattle.tunnel_keys.specs.declared.owner.HeldDatapath.{HeldDatapath}
 use Rattle.tunnel_keys.specs.declared.owner.HeldPort.{HeldPort}
 use Rattle.tunnel_keys.specs.declared.owner.KeyOwner.{KeyOwner}
 use Rattle.tunnel_keys.specs.declared.owner.KeyOwner.TheVariants.{Datapath, Port}
-use Rattle.tunnel_keys.proofs.Ordered.{none_in_order}
+use Rattle.tunnel_keys.proofs.KeyOrder.{none_in_order}
 use Rattle.tunnel_keys.proofs.Room.{retire_none}
 use Rattle.physical_flows.specs.RecordKeys.{HaveKeys}
-use Rattle.world_core.proofs.RecordsKept.{some_kept, some_put}
+use Rattle.world_core.proofs.RecordChanges.{some_kept, some_put}
 use Rattle.tunnel_keys.specs.Owners.{name_in}
 use Rattle.tunnel_keys.proofs.OwnerLaws.{not_port, the_one}
 

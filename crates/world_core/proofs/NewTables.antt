@@ -26,7 +26,7 @@ use Rattle.physical_flows.specs.Bindings.{AreBound}
 use Rattle.physical_flows.specs.ChassisFlows.{AreFlowsOf}
 use Rattle.net_model.specs.State.{State, finished, settled_where_none_waits}
 use Rattle.net_model.specs.declared.crossing.Crossing.{Crossing}
-use Rattle.physical_flows.proofs.Found.{is_some_of}
+use Rattle.physical_flows.proofs.FlowSearch.{is_some_of}
 use Rattle.physical_flows.proofs.ProperTables.{proper}
 
 -- ---- what the chassis that come hold

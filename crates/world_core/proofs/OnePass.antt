@@ -35,7 +35,7 @@ use Rattle.world_core.specs.EventPasses.{Passes}
 use Rattle.sim_laws.specs.PacketSteps.{most_arrivals}
 use Rattle.world_core.specs.WorldView.{WorldView, IsSound}
 use Rattle.sim_laws.specs.Held.{AreHeld}
-use Rattle.physical_flows.proofs.Found.{some_of, is_some_of}
+use Rattle.physical_flows.proofs.FlowSearch.{some_of, is_some_of}
 use Rattle.sim_laws.proofs.OneWalk as walk
 
 -- the first number of those that wait

@@ -28,14 +28,14 @@ use Rattle.event_lines.specs.Picks.{Pick, datapath_key, port_key, picks_of}
 use Rattle.switch_engine.specs.declared.effect.NetEffect.{NetEffect}
 use Rattle.tunnel_keys.specs.declared.owner.HeldDatapath.{HeldDatapath}
 use Rattle.tunnel_keys.specs.declared.owner.HeldPort.{HeldPort}
-use Rattle.tunnel_keys.proofs.Ordered.{one_order}
+use Rattle.tunnel_keys.proofs.KeyOrder.{one_order}
 use Rattle.tunnel_keys.specs.Edits.{GivesKeysAfter}
 use Rattle.tunnel_keys.specs.Keys.{Keys, retire}
 use Rattle.tunnel_keys.specs.Owners.{datapaths_in, ports_in}
 use Rattle.tunnel_keys.specs.declared.owner.DatapathKey.{DatapathKey}
 use Rattle.tunnel_keys.specs.declared.owner.KeyOwner.{KeyOwner}
 use Rattle.tunnel_keys.specs.declared.owner.PortKey.{PortKey}
-use Rattle.tunnel_keys.proofs.Determined.{same_found}
+use Rattle.ovn_base.proofs.SameEntries.{same_found}
 use Rattle.tunnel_keys.proofs.OwnerLaws.{datapaths_have, ports_have}
 use Rattle.world_core.specs.Admitted.{IsAdmitted}
 use Rattle.world_core.specs.Editing.{owners_of, datapath_effect, port_effect, added_ports, key_effects, edited}
@@ -47,7 +47,7 @@ use Rattle.physical_flows.specs.Valid.{IsValid}
 use Rattle.net_model.specs.State.{State, event_count, finished}
 use Rattle.world_core.specs.Step.{NetworkStep, Does, Moves, Sends}
 use Rattle.world_core.specs.Unbuilt.{is_unbuilt_port}
-use Rattle.world_core.proofs.RecordsKept.{switch_valid, port_valid}
+use Rattle.world_core.proofs.RecordChanges.{switch_valid, port_valid}
 use Rattle.world_core.proofs.Refusals.{built_port, is_new}
 
 -- the same effects, the same state, and the same picks left

@@ -43,7 +43,7 @@ use Rattle.physical_flows.specs.Valid.{IsValid}
 use Rattle.world_core.specs.Step.{Moves, Sends}
 use Rattle.sim_laws.specs.Visit.{Goes, HasTarget, IsTarget, SentFrom, Target, Visit, arrival, group, none, one, sent_to}
 use Rattle.world_core.proofs.DrainSteps.{own_waits}
-use Rattle.physical_flows.proofs.Found.{some_of}
+use Rattle.physical_flows.proofs.FlowSearch.{some_of}
 use Rattle.world_core.proofs.PlainSteps.{arrives_moves, drains_moves, enters_moves, loses_moves, sends_moves}
 use Rattle.sim_laws.proofs.PlainVisit.{has_from, has_to, plain}
 

@@ -28,7 +28,7 @@ use Rattle.switch_engine.specs.declared.effect.NetEffect.{NetEffect}
 use Rattle.switch_engine.specs.declared.walk.Walk.{Walk}
 use Rattle.tunnel_keys.specs.declared.owner.HeldDatapath.{HeldDatapath}
 use Rattle.tunnel_keys.specs.declared.owner.HeldPort.{HeldPort}
-use Rattle.tunnel_keys.proofs.Ordered.{none_in_order}
+use Rattle.tunnel_keys.proofs.KeyOrder.{none_in_order}
 use Rattle.tunnel_keys.specs.Edits.{GivesKeys, GivesKeysAfter}
 use Rattle.tunnel_keys.specs.Keys.{Keys}
 use Rattle.tunnel_keys.specs.declared.owner.DatapathKey.{DatapathKey}
@@ -48,7 +48,7 @@ use Rattle.net_model.specs.declared.crossing.Crossing.{Crossing}
 use Rattle.world_core.proofs.KeyNames.{datapath_called, port_called}
 use Rattle.world_core.proofs.NewKeys.{given_beside}
 use Rattle.world_core.proofs.NamesInOrder.{name_kept}
-use Rattle.world_core.proofs.WaitingKept.{AreKept, frames_same, port_kept, same_kept, switch_kept}
+use Rattle.world_core.proofs.WaitingFrames.{AreKept, frames_same, port_kept, same_kept, switch_kept}
 use Rattle.world_core.proofs.NewTables.{held_again}
 
 -- where no key is retired, nothing comes of giving retired ones up

@@ -29,7 +29,7 @@ use Rattle.world_core.specs.Editing.{edited}
 use Rattle.physical_flows.specs.Bindings.{AreBound}
 use Rattle.physical_flows.specs.Valid.{IsValid}
 use Rattle.world_core.specs.Untracked.{untracked}
-use Rattle.physical_flows.proofs.Found.{some_of}
+use Rattle.physical_flows.proofs.FlowSearch.{some_of}
 
 -- ---- lists
 

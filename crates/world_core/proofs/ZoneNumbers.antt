@@ -20,7 +20,7 @@ use Rattle.physical_flows.specs.Bindings.{AreBound}
 use Rattle.net_model.specs.State.{State}
 use Rattle.world_core.specs.Zones.{first_of, least_free, zone_for, zones_on}
 use Rattle.world_core.proofs.Counts.{few_entries}
-use Rattle.physical_flows.proofs.Found.{some_of}
+use Rattle.physical_flows.proofs.FlowSearch.{some_of}
 use Rattle.world_core.proofs.KeyPlans.{map_length}
 
 -- ---- the least free number

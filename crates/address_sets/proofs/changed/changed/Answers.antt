@@ -3,7 +3,7 @@ use Rattle.match_cubes.specs.Points.{members_of}
 use Rattle.nb_records.specs.declared.rule.AddressSet.{AddressSet}
 use Rattle.nb_records.specs.declared.rule.PortGroup.{PortGroup}
 use Rattle.address_sets.specs.Members.{sets_of, members_there}
-use Rattle.address_sets.proofs.Differing.{read_members, same_differ}
+use Rattle.address_sets.proofs.Differences.{read_members, same_differ}
 use Rattle.address_sets.proofs.changed.changed.Goals as goal
 
 pub returns-clause-sets : goal.returns-clause-sets

@@ -1,4 +1,4 @@
-use Rattle.address_sets.proofs.Differing.{both_ok, both_came}
+use Rattle.address_sets.proofs.Differences.{both_ok, both_came}
 use Rattle.address_sets.proofs.changed.differing.Goals as goal
 
 pub returns : goal.returns

@@ -1,4 +1,4 @@
-use Rattle.address_sets.proofs.Differing.{one_came, none_left}
+use Rattle.address_sets.proofs.Differences.{one_came, none_left}
 use Rattle.address_sets.proofs.changed.put_differing.Goals as goal
 
 pub loop-name-preserved : goal.loop-name-preserved

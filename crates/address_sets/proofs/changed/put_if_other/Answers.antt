@@ -1,6 +1,6 @@
 use Rattle.std.proofs.Common.{◌∙◌, sym}
 use Rattle.std.proofs.lemmas.Bool.{false≢true}
-use Rattle.address_sets.proofs.Differing.{one_put}
+use Rattle.address_sets.proofs.Differences.{one_put}
 use Rattle.address_sets.proofs.changed.put_if_other.Goals as goal
 
 pub returns : goal.returns

@@ -1,4 +1,4 @@
-use Rattle.address_sets.proofs.Differing.{one_answer}
+use Rattle.address_sets.proofs.Differences.{one_answer}
 use Rattle.address_sets.proofs.laws.one_list_differs.Goals as goal
 
 pub returns : goal.returns

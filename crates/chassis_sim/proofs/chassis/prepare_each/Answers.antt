@@ -9,7 +9,7 @@ use Rattle.chassis_sim.specs.Changing.{AllAreDeltas, AreReady, IsDeltaOfAny, IsR
 use Rattle.chassis_sim.specs.State.{at_name}
 use Rattle.chassis_sim.specs.Tables.{flows_held}
 use Rattle.chassis_sim.proofs.Lookups.{take_more, split_at, once_before}
-use Rattle.chassis_sim.proofs.Replacing.{all_kept}
+use Rattle.chassis_sim.proofs.TableChanges.{all_kept}
 use Rattle.chassis_sim.proofs.chassis.prepare_each.Goals as goal
 
 pub prepare_one-requires : goal.prepare_one-requires

@@ -7,7 +7,7 @@ use Rattle.chassis_sim.specs.Changing.{AreReplaced, AreReady, IsReadyFor}
 use Rattle.chassis_sim.specs.State.{at_name}
 use Rattle.chassis_sim.specs.Tables.{flows_held}
 use Rattle.chassis_sim.proofs.Lookups.{seen_same}
-use Rattle.chassis_sim.proofs.Replacing.{one_more, all_kept}
+use Rattle.chassis_sim.proofs.TableChanges.{one_more, all_kept}
 use Rattle.chassis_sim.proofs.chassis.replace_each.Goals as goal
 
 pub deltas-preserved : goal.deltas-preserved

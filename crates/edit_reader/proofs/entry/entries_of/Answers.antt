@@ -6,7 +6,7 @@ use Rattle.serde_json.specs.View.{view}
 use Rattle.serde_json.specs.declared.value.Value.{Value}
 use Rattle.edit_reader.specs.Reads.{SpellsEntry}
 use Rattle.edit_reader.proofs.Entries.{AreRead, one_more, entry_at}
-use Rattle.edit_reader.proofs.Found.{found, none}
+use Rattle.edit_reader.proofs.FaultSearch.{found, none}
 use Rattle.edit_reader.proofs.Shapes.{same_text}
 use Rattle.edit_reader.proofs.entry.entries_of.Goals as goal
 

@@ -1,7 +1,7 @@
 use Rattle.std.proofs.lemmas.Bool.{false≢true}
 use Rattle.edit_reader.specs.Reads.{SpellsEther}
 use Rattle.edit_reader.proofs.Entries.{no_entry}
-use Rattle.edit_reader.proofs.Found.{none}
+use Rattle.edit_reader.proofs.FaultSearch.{none}
 use Rattle.edit_reader.proofs.entry.entry_of.Goals as goal
 
 pub returns-in-None : goal.returns-in-None

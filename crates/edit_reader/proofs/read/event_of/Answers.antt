@@ -9,7 +9,7 @@ use Rattle.edit_reader.specs.declared.event.Event.TheVariants.{Edit}
 use Rattle.edit_reader.specs.Reads.{IsEdit, IsPacketForm}
 use Rattle.edit_reader.specs.Reads.IsForm.{edits, adds_chassis, binds, sends, injects, delivers, loses, repeats}
 use Rattle.edit_reader.specs.Reads.Reads.{is_form}
-use Rattle.edit_reader.proofs.Found.{found, none}
+use Rattle.edit_reader.proofs.FaultSearch.{found, none}
 use Rattle.edit_reader.proofs.NoForm.{not_built}
 use Rattle.edit_reader.proofs.read.event_of.Goals as goal
 

@@ -1,4 +1,4 @@
-use Rattle.event_lines.proofs.Reading as read
+use Rattle.event_lines.proofs.PickLines as read
 use Rattle.event_lines.proofs.picks.picks_are_read.Goals as goal
 
 pub returns-clause-accepted : goal.returns-clause-accepted

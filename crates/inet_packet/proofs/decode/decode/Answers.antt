@@ -1,6 +1,6 @@
 use Rattle.std.proofs.Common.{sym, ◌∙◌, arith}
 use Rattle.std.proofs.lemmas.Result.{err_from_is_err_and}
-use Rattle.inet_packet.proofs.Decoding.{head_of, made_frame, made_whole, fault_bad, not_bad}
+use Rattle.inet_packet.proofs.DecodeLaws.{head_of, made_frame, made_whole, fault_bad, not_bad}
 use Rattle.inet_packet.proofs.OnePacket.{one_packet_at_most}
 use Rattle.inet_packet.proofs.decode.decode.Goals as goal
 

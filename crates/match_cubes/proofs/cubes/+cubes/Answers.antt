@@ -4,7 +4,7 @@ use Rattle.match_language.specs.declared.expr.Expr.{Expr}
 use Rattle.match_cubes.specs.Cubes.{cubes_in}
 use Rattle.match_cubes.specs.Points.{setting}
 use Rattle.match_cubes.specs.Steps.{join_one, join_from}
-use Rattle.match_cubes.proofs.Joining.{join_at}
+use Rattle.match_cubes.proofs.Joins.{join_at}
 use Rattle.match_cubes.proofs.cubes.+cubes.Goals as goal
 
 pub joined_cubes-loop-term-preserved : goal.joined_cubes-loop-term-preserved

@@ -2,7 +2,7 @@ use Rattle.std.proofs.Common.{List, map, drop, ap, ◌∙◌, ◌+◌}
 use Rattle.inet_packet.specs.declared.cube.Cube.{Cube}
 use Rattle.match_language.specs.declared.field.Field.TheVariants as f
 use Rattle.match_cubes.specs.Steps.{join_one, join_from, test_in}
-use Rattle.match_cubes.proofs.Joining.{join_at_or}
+use Rattle.match_cubes.proofs.Joins.{join_at_or}
 use Rattle.match_cubes.proofs.cubes.predicate_cubes.Goals as goal
 
 pub loop-field-preserved : goal.loop-field-preserved

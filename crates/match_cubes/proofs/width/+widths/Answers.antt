@@ -2,7 +2,7 @@ use Rattle.std.proofs.Common.{ℕ, ◌<◌, [], ◌∷◌, length, ap, ◌∙◌
 use Rattle.match_cubes.specs.Width as spec
 use Rattle.match_cubes.specs.Width.{saturated}
 use Rattle.match_cubes.specs.Steps.{widened}
-use Rattle.match_cubes.proofs.Widening.{widened_at}
+use Rattle.match_cubes.proofs.WidthSteps.{widened_at}
 use Rattle.match_cubes.proofs.width.+widths.Goals as goal
 
 pub joined_width-loop-term-preserved : goal.joined_width-loop-term-preserved

@@ -1,5 +1,5 @@
 use Rattle.std.proofs.Common.{◌∙◌, arith}
-use Rattle.match_cubes.proofs.Widening.{grown_get, grown_end}
+use Rattle.match_cubes.proofs.WidthSteps.{grown_get, grown_end}
 use Rattle.match_cubes.proofs.width.grow_group.Goals as goal
 
 pub loop-port-preserved : goal.loop-port-preserved

@@ -2,7 +2,7 @@ use Rattle.std.proofs.Common.{ℕ, [], ◌∷◌, ap, ◌∙◌, arith}
 use Rattle.match_cubes.specs.Width as spec
 use Rattle.match_cubes.specs.Width.{saturated}
 use Rattle.match_cubes.specs.Steps.{grown}
-use Rattle.match_cubes.proofs.Widening.{grown_get, grown_end}
+use Rattle.match_cubes.proofs.WidthSteps.{grown_get, grown_end}
 use Rattle.match_cubes.proofs.width.grow_set.Goals as goal
 
 pub loop-entry-preserved : goal.loop-entry-preserved

@@ -1,4 +1,4 @@
-use Rattle.match_language.proofs.Spelled.{not_written}
+use Rattle.match_language.proofs.ExprTexts.{not_written}
 use Rattle.match_language.proofs.printer.+printer.Goals as goal
 
 pub push_expr-returns-in_ok-push-in-Not : goal.push_expr-returns-in_ok-push-in-Not

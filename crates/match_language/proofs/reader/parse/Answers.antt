@@ -3,9 +3,9 @@ use Rattle.std.proofs.Common.{subst}
 use Rattle.match_language.specs.declared.expr.Expr.{Expr}
 use Rattle.match_language.specs.declared.fault.MatchFault.{MatchFault}
 use Rattle.match_language.specs.Faults.{GivesExpr}
-use Rattle.match_language.proofs.Found.{gives_found}
+use Rattle.match_language.proofs.ParseLaws.{gives_found}
 use Rattle.match_language.proofs.Only.{whole_only}
-use Rattle.match_language.proofs.Nested.{found_fits}
+use Rattle.match_language.proofs.Depth.{found_fits}
 use Rattle.match_language.proofs.FirstFaults.{gives_first, gives_only_first}
 use Rattle.match_language.proofs.reader.parse.Goals as goal
 

@@ -1,4 +1,4 @@
-use Rattle.match_language.proofs.Nested.{spelled_fits}
+use Rattle.match_language.proofs.Depth.{spelled_fits}
 use Rattle.match_language.proofs.reader.spelled_fits.Goals as goal
 
 pub returns : goal.returns

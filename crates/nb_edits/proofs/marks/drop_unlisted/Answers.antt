@@ -3,7 +3,7 @@ use Rattle.std.specs.List.{find}
 use Rattle.nb_records.specs.Editing.{with_listed_marks}
 use Rattle.nb_records.specs.Network.{Network}
 use Rattle.nb_edits.specs.OpFaults.{is_kept_mark}
-use Rattle.nb_edits.proofs.Marked.{mark_dropped, fewer_marks, all_kept}
+use Rattle.nb_edits.proofs.MarkLists.{mark_dropped, fewer_marks, all_kept}
 use Rattle.nb_edits.proofs.marks.drop_unlisted.Goals as goal
 
 pub marks-smaller : goal.marks-smaller

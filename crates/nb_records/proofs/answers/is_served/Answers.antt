@@ -2,7 +2,7 @@ use Rattle.std.proofs.Common.{◌∙◌, ap, sym, ◌&&◌, ◌||◌, Bool}
 use Rattle.std.specs.List.{list_any}
 use Rattle.nb_records.specs.Routers.{has_vip}
 use Rattle.nb_records.specs.Switches.{serves_at}
-use Rattle.nb_records.proofs.Served.{served_is}
+use Rattle.nb_records.proofs.Services.{served_is}
 use Rattle.nb_records.proofs.answers.is_served.Goals as goal
 
 pub returns-then-has_external_ip : goal.returns-then-has_external_ip

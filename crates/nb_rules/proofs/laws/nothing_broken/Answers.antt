@@ -1,4 +1,4 @@
-use Rattle.nb_rules.proofs.AllKept.{unbroken}
+use Rattle.nb_rules.proofs.Validity.{unbroken}
 use Rattle.nb_rules.proofs.laws.nothing_broken.Goals as goal
 
 pub returns : goal.returns

@@ -1,7 +1,7 @@
 use Rattle.std.proofs.Common.{ap, ◌∙◌, List, ℕ, ◌++◌, ◌+◌}
 use Rattle.event_lines.specs.Lines.{end_line}
 use Rattle.ovnsim.specs.declared.run.Stop.TheVariants.{WriteFault}
-use Rattle.ovnsim.proofs.Taken.{passed_on, was_cut, was_given}
+use Rattle.ovnsim.proofs.OneEvent.{passed_on, was_cut, was_given}
 use Rattle.ovnsim.proofs.run.give_end.Goals as goal
 
 pub returns-in_err-give-clause-stopped : goal.returns-in_err-give-clause-stopped

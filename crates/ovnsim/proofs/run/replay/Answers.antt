@@ -1,6 +1,6 @@
 use Rattle.ovnsim.specs.declared.run.Stop.TheVariants.{Memory}
-use Rattle.ovnsim.proofs.Stopped.{nothing_done}
-use Rattle.ovnsim.proofs.Taken.{passed_on}
+use Rattle.ovnsim.proofs.Stops.{nothing_done}
+use Rattle.ovnsim.proofs.OneEvent.{passed_on}
 use Rattle.ovnsim.proofs.run.replay.Goals as goal
 
 pub returns-in_err-buf-clause-stopped : goal.returns-in_err-buf-clause-stopped

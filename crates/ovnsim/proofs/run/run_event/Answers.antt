@@ -1,6 +1,6 @@
 use Rattle.ovnsim.specs.declared.run.Stop.TheVariants.{WriteFault}
 use Rattle.ovnsim.specs.Taking.{GainsCut}
-use Rattle.ovnsim.proofs.Taken.{passed_on, was_cut}
+use Rattle.ovnsim.proofs.OneEvent.{passed_on, was_cut}
 use Rattle.ovnsim.proofs.run.run_event.Goals as goal
 
 pub returns-in_err-give-clause-stopped : goal.returns-in_err-give-clause-stopped

@@ -1,7 +1,7 @@
 use Rattle.std.proofs.Common.{◌+◌, cond, ap, refl, sym, ◌∙◌, arith}
-use Rattle.ovnsim.proofs.Running.{ran_start, turn_event, turn_passed}
-use Rattle.ovnsim.proofs.Stopped.{at_end, give_stands, next_stands, starts, stays_at_end}
-use Rattle.ovnsim.proofs.Taken.{one_more_event, passed_on}
+use Rattle.ovnsim.proofs.RunSteps.{ran_start, turn_event, turn_passed}
+use Rattle.ovnsim.proofs.Stops.{at_end, give_stands, next_stands, starts, stays_at_end}
+use Rattle.ovnsim.proofs.OneEvent.{one_more_event, passed_on}
 use Rattle.ovnsim.proofs.run.run_lines.Goals as goal
 
 pub lines-init : goal.lines-init

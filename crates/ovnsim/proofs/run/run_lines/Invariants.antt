@@ -4,7 +4,7 @@ use Rattle.ovn_base.specs.lines.Reading.{unread}
 use Rattle.ovn_base.specs.streams.WhereTold.{WhereTold}
 use Rattle.world_core.specs.WorldView.{IsSound}
 use Rattle.net_model.specs.State.{event_count}
-use Rattle.ovnsim.proofs.Running.{Ran}
+use Rattle.ovnsim.proofs.RunSteps.{Ran}
 use Rattle.ovnsim.specs.Next.{IsBelowLimit}
 use Rattle.ovnsim.proofs.run.run_lines.Given as goal
 

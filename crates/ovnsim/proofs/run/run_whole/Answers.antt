@@ -1,6 +1,6 @@
 use Rattle.std.proofs.Common.{refl}
-use Rattle.ovnsim.proofs.Stopped.{end_stands, whole_of}
-use Rattle.ovnsim.proofs.Taken.{passed_on}
+use Rattle.ovnsim.proofs.Stops.{end_stands, whole_of}
+use Rattle.ovnsim.proofs.OneEvent.{passed_on}
 use Rattle.ovnsim.proofs.run.run_whole.Goals as goal
 
 pub returns-in_err-give_end-clause-stopped : goal.returns-in_err-give_end-clause-stopped

@@ -1,4 +1,4 @@
-use Rattle.ovnsim.proofs.Taken.{takes_accepted, takes_refused}
+use Rattle.ovnsim.proofs.OneEvent.{takes_accepted, takes_refused}
 use Rattle.ovnsim.proofs.run.step.Goals as goal
 
 pub returns-in-Ok : goal.returns-in-Ok

@@ -1,5 +1,5 @@
 use Rattle.std.proofs.Common.{true, false}
-use Rattle.ovnsim.proofs.Stopped.{answers_limit, answers_whole}
+use Rattle.ovnsim.proofs.Stops.{answers_limit, answers_whole}
 use Rattle.ovnsim.proofs.top.ovnsim.Goals as goal
 
 pub returns-in-Ok-true-clause-headline : goal.returns-in-Ok-true-clause-headline

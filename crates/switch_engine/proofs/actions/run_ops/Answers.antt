@@ -4,7 +4,7 @@ use Rattle.flow_table.specs.declared.flow.FlowOp.{FlowOp}
 use Rattle.switch_engine.specs.declared.effect.Effect.TheVariants as effect
 use Rattle.switch_engine.specs.Actions.{copies_for}
 use Rattle.switch_engine.specs.Range.{IsInRange}
-use Rattle.switch_engine.proofs.Doing.{Doing, did_set, did_header, did_frame, did_copies, did_output, doing_same}
+use Rattle.switch_engine.proofs.ActionSteps.{Doing, did_set, did_header, did_frame, did_copies, did_output, doing_same}
 use Rattle.switch_engine.proofs.actions.run_ops.Goals as goal
 use Rattle.switch_engine.proofs.actions.run_ops.Goals.{in-Set, in-Header, in-Frame+in_ok-framed-in-Frame+in_ok-push-in-Frame, in-Copies+in_ok-copy_to-in-Copies, in-Output+in_ok-copy-in-Output+in_ok-push-in-Output}
 

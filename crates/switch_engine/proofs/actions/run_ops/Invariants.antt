@@ -1,5 +1,5 @@
 use Rattle.std.proofs.Common.{drop}
-use Rattle.switch_engine.proofs.Doing.{Doing}
+use Rattle.switch_engine.proofs.ActionSteps.{Doing}
 use Rattle.switch_engine.proofs.actions.run_ops.Given as goal
 
 abbrev pub invariant-ops : goal.invariant-ops

@@ -4,9 +4,9 @@ use Rattle.std.specs.List.{AllByRecursion}
 use Rattle.switch_engine.specs.Actions.{outcome}
 use Rattle.switch_engine.specs.Advance.{IsCarriedInRange}
 use Rattle.switch_engine.specs.Proper.{Sets}
-use Rattle.switch_engine.proofs.Framed.{proper_sets}
-use Rattle.switch_engine.proofs.Going.{advanced, stacked_some, stacked_none}
-use Rattle.switch_engine.proofs.Keeping.{on_err, keeps_all, keeps_steps, keeps_both}
+use Rattle.switch_engine.proofs.FrameKeys.{proper_sets}
+use Rattle.switch_engine.proofs.WalkSteps.{advanced, stacked_some, stacked_none}
+use Rattle.switch_engine.proofs.Fronts.{on_err, keeps_all, keeps_steps, keeps_both}
 use Rattle.switch_engine.proofs.Lists.{all_append}
 use Rattle.switch_engine.proofs.engine.advance.Goals as goal
 

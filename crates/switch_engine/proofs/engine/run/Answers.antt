@@ -3,9 +3,9 @@ use Rattle.std.proofs.lemmas.Result.{err_from_is_err_and}
 use Rattle.std.specs.List.{AllByRecursion}
 use Rattle.switch_engine.specs.Advance.{IsCarriedInRange}
 use Rattle.switch_engine.specs.Walk.{start}
-use Rattle.switch_engine.proofs.Going.{Going, going_first, going_next, going_over, on_top}
-use Rattle.switch_engine.proofs.Keeping.{keeps_all}
-use Rattle.switch_engine.proofs.Left.{load, spread, advance_falls}
+use Rattle.switch_engine.proofs.WalkSteps.{Going, going_first, going_next, going_over, on_top}
+use Rattle.switch_engine.proofs.Fronts.{keeps_all}
+use Rattle.switch_engine.proofs.Measure.{load, spread, advance_falls}
 use Rattle.switch_engine.proofs.Ranges.{start_in_range}
 use Rattle.switch_engine.proofs.engine.run.Goals as goal
 

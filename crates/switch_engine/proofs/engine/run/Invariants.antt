@@ -2,8 +2,8 @@ use Rattle.std.specs.Prelude.{reverse}
 use Rattle.std.specs.List.{AllByRecursion}
 use Rattle.switch_engine.specs.Advance.{IsCarriedInRange}
 use Rattle.switch_engine.specs.Proper.{IsProper, IsEntry}
-use Rattle.switch_engine.proofs.Going.{Going}
-use Rattle.switch_engine.proofs.Left.{load, spread}
+use Rattle.switch_engine.proofs.WalkSteps.{Going}
+use Rattle.switch_engine.proofs.Measure.{load, spread}
 use Rattle.switch_engine.proofs.engine.run.Given as goal
 
 abbrev pub invariant-copies : goal.invariant-copies

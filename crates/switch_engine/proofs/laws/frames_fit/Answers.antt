@@ -1,4 +1,4 @@
-use Rattle.switch_engine.proofs.Framed.{walk_framed}
+use Rattle.switch_engine.proofs.FrameKeys.{walk_framed}
 use Rattle.switch_engine.proofs.laws.frames_fit.Goals as goal
 
 pub returns : goal.returns

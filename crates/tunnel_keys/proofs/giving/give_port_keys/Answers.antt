@@ -4,7 +4,7 @@ use Rattle.ovn_base.specs.names.ByName.{in_order}
 use Rattle.tunnel_keys.specs.Keys.{free_in, taken_ports}
 use Rattle.tunnel_keys.specs.Giving.{IsPortFaultOn}
 use Rattle.tunnel_keys.specs.declared.owner.Identity.{Identity}
-use Rattle.tunnel_keys.proofs.Taken.{retired_under, free_is, given_is}
+use Rattle.tunnel_keys.proofs.TakenKeys.{retired_under, free_is, given_is}
 use Rattle.tunnel_keys.proofs.Faults.{enough_more, given_more, fault_first}
 use Rattle.tunnel_keys.proofs.giving.give_port_keys.Goals as goal
 

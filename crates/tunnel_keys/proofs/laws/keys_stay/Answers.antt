@@ -1,4 +1,4 @@
-use Rattle.tunnel_keys.proofs.Staying.{datapaths_stay, ports_stay}
+use Rattle.tunnel_keys.proofs.KeyStays.{datapaths_stay, ports_stay}
 use Rattle.tunnel_keys.proofs.laws.keys_stay.Goals as goal
 
 pub returns-clause-datapaths : goal.returns-clause-datapaths

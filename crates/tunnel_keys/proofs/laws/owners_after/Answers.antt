@@ -1,4 +1,4 @@
-use Rattle.tunnel_keys.proofs.Determined.{live_after}
+use Rattle.tunnel_keys.proofs.OneOutcome.{live_after}
 use Rattle.tunnel_keys.proofs.laws.owners_after.Goals as goal
 
 pub returns : goal.returns

@@ -1,7 +1,7 @@
 use Rattle.std.proofs.Common.{◌+◌, ◌∙◌, ◌∷◌, drop, ap, sym, subst}
 use Rattle.std.proofs.lemmas.List.{drop_more, drop_all}
 use Rattle.std.specs.List.Sorted.{IsStrictlySortedBy}
-use Rattle.tunnel_keys.proofs.Ordered.{one_came, all_came, none_left}
+use Rattle.tunnel_keys.proofs.KeyOrder.{one_came, all_came, none_left}
 use Rattle.tunnel_keys.proofs.retiring.in_order.Goals as goal
 
 pub loop-key-preserved : goal.loop-key-preserved

@@ -6,7 +6,7 @@ use Rattle.chassis_sim.specs.InNames.{all_in_names, next_after_all, frames_sent}
 use Rattle.chassis_sim.specs.Passing.{AddsWalk, IsTold, IsArrived, arrived}
 use Rattle.chassis_sim.specs.State.{SimView, SimState, at_name}
 use Rattle.chassis_sim.specs.Tables.{flows_held}
-use Rattle.chassis_sim.proofs.Answering.{arrives_from}
+use Rattle.chassis_sim.proofs.Outcomes.{arrives_from}
 use Rattle.chassis_sim.proofs.sim.Sim.arrive.Goals as goal
 
 pub returns-clause-answer : goal.returns-clause-answer

@@ -7,7 +7,7 @@ use Rattle.chassis_sim.specs.State.{SimView, SimState, at_name}
 use Rattle.chassis_sim.specs.Tables.{flows_held}
 use Rattle.chassis_sim.proofs.Fronts.{keeps_out}
 use Rattle.chassis_sim.proofs.Lookups.{is_found}
-use Rattle.chassis_sim.proofs.Answering.{injected, no_memory}
+use Rattle.chassis_sim.proofs.Outcomes.{injected, no_memory}
 use Rattle.chassis_sim.proofs.sim.Sim.inject.Goals as goal
 
 pub returns-in_err-run-clause-answer : goal.returns-in_err-run-clause-answer

@@ -1,4 +1,4 @@
-use Rattle.chassis_sim.proofs.Waiting.{found_sent}
+use Rattle.chassis_sim.proofs.UnderlayLaws.{found_sent}
 use Rattle.chassis_sim.proofs.underlay.Underlay.frame.Goals as goal
 
 pub returns-clause-sent : goal.returns-clause-sent

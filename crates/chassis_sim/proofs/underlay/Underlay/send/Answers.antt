@@ -4,7 +4,7 @@ use Rattle.switch_engine.proofs.Lists.{all_append}
 use Rattle.chassis_sim.specs.declared.underlay.WaitingFrame.{WaitingFrame}
 use Rattle.chassis_sim.specs.Frames.{IsWaiting}
 use Rattle.chassis_sim.specs.Underlay.{Underway}
-use Rattle.chassis_sim.proofs.Waiting.{behind, waits_on}
+use Rattle.chassis_sim.proofs.UnderlayLaws.{behind, waits_on}
 use Rattle.chassis_sim.proofs.underlay.Underlay.send.Goals as goal
 
 pub invariant_of-self-2 : goal.invariant_of-self-2

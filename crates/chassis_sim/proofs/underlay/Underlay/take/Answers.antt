@@ -1,7 +1,7 @@
 use Rattle.std.proofs.Common.{sym, subst}
 use Rattle.std.specs.List.{AllByRecursion}
 use Rattle.chassis_sim.specs.Frames.{IsWaiting}
-use Rattle.chassis_sim.proofs.Waiting.{all_left}
+use Rattle.chassis_sim.proofs.UnderlayLaws.{all_left}
 use Rattle.chassis_sim.proofs.underlay.Underlay.take.Goals as goal
 
 pub invariant_of-self : goal.invariant_of-self

@@ -4,7 +4,7 @@ use Rattle.conn_zones.specs.declared.numbers.ZoneUse.{ZoneUse}
 use Rattle.conn_zones.specs.Zoning.{Zoned}
 use Rattle.conn_zones.specs.Rezoning.{IsHomeChange, IsRezoned}
 use Rattle.conn_zones.specs.Giving.{AreGiven, HaveNumbers}
-use Rattle.conn_zones.proofs.Rezoned.{room, rezoned}
+use Rattle.conn_zones.proofs.ZoneChanges.{room, rezoned}
 use Rattle.conn_zones.proofs.zones.ConnZones.after.Goals as goal
 
 pub give_each-requires : goal.give_each-requires

@@ -2,7 +2,7 @@ use Rattle.std.specs.Prelude.{is_some, ◌+◌, refl}
 use Rattle.std.proofs.Common.{sym, ap, subst, ◌∙◌}
 use Rattle.tunnel_keys.specs.declared.owner.KeyOwner.TheVariants.{Datapath}
 use Rattle.key_tests.specs.Register.{IsRegister}
-use Rattle.key_tests.proofs.Registering.{datapath_comes, other_came}
+use Rattle.key_tests.proofs.RegisterLaws.{datapath_comes, other_came}
 use Rattle.key_tests.proofs.register.Register.add_datapath.Goals as goal
 
 pub edit-requires : goal.edit-requires

@@ -3,7 +3,7 @@ use Rattle.std.proofs.Common.{sym, ap, subst, ◌∙◌}
 use Rattle.tunnel_keys.specs.declared.owner.KeyOwner.{KeyOwner}
 use Rattle.tunnel_keys.specs.declared.owner.KeyOwner.TheVariants.{Port}
 use Rattle.key_tests.specs.Register.{IsRegister}
-use Rattle.key_tests.proofs.Registering.{port_comes, port_came}
+use Rattle.key_tests.proofs.RegisterLaws.{port_comes, port_came}
 use Rattle.key_tests.proofs.register.Register.add_port.Goals as goal
 
 pub edit-requires : goal.edit-requires

@@ -1,6 +1,6 @@
 use Rattle.std.proofs.Common.{sym, subst}
 use Rattle.key_tests.specs.Register.{IsRegister}
-use Rattle.key_tests.proofs.Registering.{last_goes, last_gone}
+use Rattle.key_tests.proofs.RegisterLaws.{last_goes, last_gone}
 use Rattle.key_tests.proofs.register.Register.remove_last_port.Goals as goal
 
 pub edit-requires : goal.edit-requires

@@ -1,6 +1,6 @@
 use Rattle.std.proofs.Common.{sym, subst}
 use Rattle.key_tests.specs.Register.{IsRegister}
-use Rattle.key_tests.proofs.Registering.{settled_register}
+use Rattle.key_tests.proofs.RegisterLaws.{settled_register}
 use Rattle.key_tests.proofs.register.Register.settle.Goals as goal
 
 pub invariant_of-self : goal.invariant_of-self

@@ -3,7 +3,7 @@ use Rattle.std.specs.List.{flat_map}
 use Rattle.ovn_base.specs.declared.name.Name.{Name}
 use Rattle.nb_records.specs.Switches.{or_else}
 use Rattle.nb_rules.specs.References as spec
-use Rattle.nb_rules.proofs.Named.{named_at}
+use Rattle.nb_rules.proofs.FirstNames.{named_at}
 use Rattle.nb_rules.proofs.references.Missing.+matches.Goals as goal
 
 pub in_terms-returns-in-Some : goal.in_terms-returns-in-Some

@@ -6,8 +6,8 @@ use Rattle.tunnel_keys.specs.Keys.{Keys}
 use Rattle.tunnel_keys.specs.Edits.{IsKeyEdit, IsAfter}
 use Rattle.tunnel_keys.specs.Causes.{IsCause, HasKeys}
 use Rattle.tunnel_keys.proofs.After.{IsRetired, datapath_cause, port_cause, datapaths_sorted, made_after, made_has}
-use Rattle.tunnel_keys.proofs.Ordered.{held_datapath_exact, held_port_exact}
-use Rattle.tunnel_keys.proofs.Listed.{lists_in_order}
+use Rattle.tunnel_keys.proofs.KeyOrder.{held_datapath_exact, held_port_exact}
+use Rattle.tunnel_keys.proofs.PortLists.{lists_in_order}
 use Rattle.tunnel_keys.proofs.store.KeyStore.after.Goals as goal
 
 pub returns-in_err-more-clause-fault : goal.returns-in_err-more-clause-fault

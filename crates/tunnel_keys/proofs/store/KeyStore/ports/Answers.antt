@@ -2,7 +2,7 @@ use Rattle.std.proofs.Common.{◌∙◌, ap}
 use Rattle.std.specs.Option.{option_map}
 use Rattle.ovn_base.specs.names.ByName.{at}
 use Rattle.tunnel_keys.specs.Keys.{Keys}
-use Rattle.tunnel_keys.proofs.Listed.{list_on, lists_at}
+use Rattle.tunnel_keys.proofs.PortLists.{list_on, lists_at}
 use Rattle.tunnel_keys.proofs.store.KeyStore.ports.Goals as goal
 
 pub returns : goal.returns

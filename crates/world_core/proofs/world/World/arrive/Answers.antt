@@ -7,8 +7,8 @@ use Rattle.sim_laws.specs.Refinement.{IsAmidst}
 use Rattle.world_core.specs.WorldView.{WorldView}
 use Rattle.sim_laws.specs.Held.{AreHeld, frame_of_crossing}
 use Rattle.sim_laws.specs.PlainJourneys.{with_kept}
-use Rattle.physical_flows.proofs.Found.{some_of}
-use Rattle.world_core.proofs.PacketsHeld.{arrived_passed, world_with}
+use Rattle.physical_flows.proofs.FlowSearch.{some_of}
+use Rattle.world_core.proofs.PacketState.{arrived_passed, world_with}
 use Rattle.sim_laws.proofs.WaitingLists.{numbered_map}
 use Rattle.world_core.proofs.world.World.arrive.Goals as goal
 use Rattle.world_core.proofs.world.World.arrive.Goals.{in-Some-1, in-None-1}

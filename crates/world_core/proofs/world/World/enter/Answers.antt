@@ -7,7 +7,7 @@ use Rattle.sim_laws.specs.Passing.{GoesIn}
 use Rattle.sim_laws.specs.Refinement.{IsAmidst}
 use Rattle.world_core.specs.WorldView.{WorldView}
 use Rattle.sim_laws.specs.Held.{AreHeld}
-use Rattle.world_core.proofs.PacketsHeld.{goes_on, behind_with}
+use Rattle.world_core.proofs.PacketState.{goes_on, behind_with}
 use Rattle.world_core.proofs.world.World.enter.Goals as goal
 
 pub packet_of-requires : goal.packet_of-requires

@@ -4,7 +4,7 @@ use Rattle.chassis_sim.specs.State.{numbered}
 use Rattle.world_core.specs.Inside.{seen_of}
 use Rattle.world_core.specs.WorldView.{WorldView}
 use Rattle.sim_laws.specs.Held.{AreHeld, frame_of_crossing}
-use Rattle.physical_flows.proofs.Found.{some_of}
+use Rattle.physical_flows.proofs.FlowSearch.{some_of}
 use Rattle.sim_laws.proofs.WaitingLists.{numbered_map}
 use Rattle.world_core.proofs.world.World.lose.Goals as goal
 

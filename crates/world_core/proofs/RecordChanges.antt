@@ -24,7 +24,7 @@ use Rattle.world_core.specs.NewPort.{AreNew}
 use Rattle.physical_flows.specs.Valid.{IsValid}
 use Rattle.physical_flows.specs.Bindings.{AreBound}
 use Rattle.sim_laws.specs.Sound.{AreBorn}
-use Rattle.physical_flows.proofs.Found.{some_of, is_some_of}
+use Rattle.physical_flows.proofs.FlowSearch.{some_of, is_some_of}
 
 -- what is there at a name stays there, whatever is put
 pub some_kept : {X : Type 0} (entries : List (Name × X)) (name : Name) (value : X) (q : Name) → IsSome (at entries q) → IsSome (at (put entries name value) q)

@@ -17,13 +17,14 @@ use Rattle.ovn_base.specs.names.NameText.{IsName, name_byte}
 use Rattle.ovn_base.proofs.LineLaws.{ended_lines-feed}
 use Rattle.flow_table.specs.declared.flow.Cause.{Cause}
 use Rattle.flow_table.specs.declared.flow.Cause.TheVariants as cause
+use Rattle.flow_table.specs.Causes.{cause_name}
 use Rattle.edit_reader.specs.declared.event.ReadRefusal.TheVariants.{TooLong, BadJson}
 use Rattle.inet_packet.specs.Frame.{frame_of}
 use Rattle.switch_engine.specs.declared.effect.NetEffect.{NetEffect}
 use Rattle.switch_engine.specs.declared.effect.NetEffect.TheVariants.{DatapathKey, PortKey, Tunnel, Out, Drop, Lost}
 use Rattle.event_lines.specs.declared.refusal.Refusal.{Refusal}
 use Rattle.event_lines.specs.declared.refusal.Refusal.TheVariants.{Read, NoSuch, DuplicateName, LimitChassis, NoFrame, TooManyFrames, NotBuilt}
-use Rattle.event_lines.specs.Lines.{cause_name, route_words, words_of, line_of, ok_line, accepted_lines, refusal_words, refused_line, end_line}
+use Rattle.event_lines.specs.Lines.{route_words, words_of, line_of, ok_line, accepted_lines, refusal_words, refused_line, end_line}
 use Rattle.event_lines.specs.Picks.{Pick, words_in, is_word, is_number, key_of, named_by, picks_in, picks_of, IsNamedEffect, AreNamed, IsNamedRefusal, AreWholeLines}
 
 -- ---- bytes that end neither a word nor a line

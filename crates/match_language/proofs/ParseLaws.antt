@@ -17,7 +17,7 @@ use Rattle.match_language.specs.declared.fault.ParseFault.{ParseFault}
 use Rattle.match_language.specs.Faults.{GivesExpr}
 use Rattle.match_language.specs.Reading.{Read, unexpected, comparison, leaf_by, leaf, is_operator, more, joined, after_first, expression, closed_by, group, negation, deep_by, deep, flat_by, flat, term, ended_by, ended, whole}
 use Rattle.match_language.proofs.Steps.{bind_ok, done, ok_is, never, chosen, chosen_ok}
-use Rattle.match_language.proofs.FoundValues.{comparison_found}
+use Rattle.match_language.proofs.ParseValues.{comparison_found}
 
 leaf_found : (way : Direction) (n : ℕ) (i : Input) (k : Token) (x : Expr × Input) → token i ≡ k → leaf_by way k i ≡ Ok x → IsTerm way n x.0 i x.1
 leaf_found way n i (t.Bit b) x at e = subst (λ (y : Expr × Input). IsTerm way n y.0 i y.1) (ok_is (ex.Const b, next i) x e) (constant way n b i at)

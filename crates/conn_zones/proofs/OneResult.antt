@@ -15,7 +15,7 @@ use Rattle.conn_zones.specs.declared.numbers.ZoneUse.{ZoneUse}
 use Rattle.conn_zones.specs.declared.numbers.ZoneUse.TheVariants.{Port, Dnat, Snat}
 use Rattle.conn_zones.specs.Zoning.{KnownHomes, GivenNumbers, Zoned, home_for, place_for, number_on}
 use Rattle.conn_zones.specs.Rezoning.{AreHomesAfter, IsRehomed, zones_in, of_chassis, is_home_on, remains, names_zone, stays_on, coming, IsLeastFree, TakeLeast, IsRezoned}
-use Rattle.conn_zones.proofs.Lists.{same_found}
+use Rattle.ovn_base.proofs.SameEntries.{same_found}
 use Rattle.conn_zones.proofs.PlaceLaws.{own_name, has_value, number_placed, placed_number}
 use Rattle.conn_zones.proofs.ZoneLists.{home_zone}
 

@@ -21,7 +21,7 @@ use Rattle.tunnel_keys.specs.declared.owner.HeldPort.{HeldPort}
 use Rattle.tunnel_keys.specs.declared.owner.KeyOwner.{KeyOwner}
 use Rattle.tunnel_keys.specs.declared.owner.KeyOwner.TheVariants.{Datapath, Port}
 use Rattle.ovn_base.proofs.ByNameLaws.{at_among, among_at}
-use Rattle.tunnel_keys.proofs.Held.{live_owner_held}
+use Rattle.tunnel_keys.proofs.HeldKeys.{live_owner_held}
 use Rattle.tunnel_keys.proofs.Lists.{put_all_sorted, put_all_other, put_all_cases, put_all_there, in_order_sorted, in_order_among, among_in_order, in_order_length, filter_sorted, at_filter, filter_at, NamesOnce}
 use Rattle.tunnel_keys.proofs.FreeKeys.{free_is_free, with_keys_there, with_keys_cases, with_keys_sorted, with_keys_first}
 use Rattle.tunnel_keys.proofs.OwnerLaws.{unlisted_not, not_unlisted, in_datapaths, datapaths_have, datapaths_once, in_ports, ports_have, ports_once}

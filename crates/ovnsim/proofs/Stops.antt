@@ -22,9 +22,9 @@ use Rattle.ovnsim.specs.Taking.{GainsCut, WasCut}
 use Rattle.ovnsim.specs.declared.run.Stop.{Stop}
 use Rattle.ovnsim.specs.declared.run.Stop.TheVariants.{ReadFault, WriteFault, Memory, InputTooLong}
 use Rattle.event_lines.specs.Picks.{picks_in, AreWholeLines}
-use Rattle.event_lines.proofs.Reading as read
+use Rattle.event_lines.proofs.PickLines as read
 use Rattle.ovnsim.proofs.ReadOff.{run_whole}
-use Rattle.ovnsim.proofs.Running.{Ran, fresh, lines_more, lines_on}
+use Rattle.ovnsim.proofs.RunSteps.{Ran, fresh, lines_more, lines_on}
 
 -- the bytes that are left of the limit
 abbrev left_of : Reading → ℕ

@@ -25,7 +25,7 @@ use Rattle.match_language.specs.FirstFault as ff
 use Rattle.match_language.specs.FirstFault.{Same, Wanted, wanted, is_value, is_outside, is_passed}
 use Rattle.match_language.specs.FirstFault.Wanted.{wants_term, wants_relation, wants_value, wants_mask, wants_more, wants_operator}
 use Rattle.match_language.proofs.OnlyValues.{mask_constant}
-use Rattle.match_language.proofs.Shared.{is_plain, Moves, single, then, weaken}
+use Rattle.match_language.proofs.CommonParts.{is_plain, Moves, single, then, weaken}
 
 -- ---- tokens
 

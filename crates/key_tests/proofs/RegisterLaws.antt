@@ -17,7 +17,7 @@ use Rattle.tunnel_keys.specs.Owners.{birth_in}
 use Rattle.tunnel_keys.specs.declared.owner.KeyOwner.{KeyOwner}
 use Rattle.tunnel_keys.specs.declared.owner.KeyOwner.TheVariants.{Datapath, Port}
 use Rattle.tunnel_keys.proofs.Births.{born_later, settled_born, datapath_new, datapath_bare, port_new, keys_born}
-use Rattle.tunnel_keys.proofs.Determined.{live_after}
+use Rattle.tunnel_keys.proofs.OneOutcome.{live_after}
 use Rattle.tunnel_keys.proofs.OwnerLaws.{the_one}
 use Rattle.tunnel_keys.proofs.Single.{datapath_fits, port_fits, port_goes}
 use Rattle.key_tests.specs.Register.{IsLivePort, IsRegister}

@@ -18,7 +18,7 @@ use Rattle.tunnel_keys.specs.declared.owner.HeldDatapath.{HeldDatapath}
 use Rattle.tunnel_keys.specs.declared.owner.HeldPort.{HeldPort}
 use Rattle.tunnel_keys.specs.declared.owner.KeyOwner.{KeyOwner}
 use Rattle.tunnel_keys.specs.declared.owner.KeyOwner.TheVariants.{Datapath}
-use Rattle.tunnel_keys.proofs.Held.{found, held_port_is, is_held_port, on_datapath_key}
+use Rattle.tunnel_keys.proofs.HeldKeys.{found, held_port_is, is_held_port, on_datapath_key}
 use Rattle.tunnel_keys.proofs.Lists.{at_filter, filter_at}
 use Rattle.tunnel_keys.proofs.OwnerLaws.{listed_among, unlisted_not}
 

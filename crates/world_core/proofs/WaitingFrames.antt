@@ -22,7 +22,7 @@ use Rattle.tunnel_keys.specs.declared.owner.HeldPort.{HeldPort}
 use Rattle.tunnel_keys.specs.declared.owner.Identity.{Identity}
 use Rattle.tunnel_keys.specs.declared.owner.KeyOwner.{KeyOwner}
 use Rattle.tunnel_keys.specs.declared.owner.KeyOwner.TheVariants.{Datapath}
-use Rattle.tunnel_keys.proofs.Staying.{datapaths_stay, ports_stay}
+use Rattle.tunnel_keys.proofs.KeyStays.{datapaths_stay, ports_stay}
 use Rattle.net_model.specs.declared.crossing.Crossing.{Crossing}
 use Rattle.net_model.specs.declared.crossing.Aim.{Aim}
 use Rattle.net_model.specs.declared.crossing.Aim.TheVariants.{ToPort, ToGroup}

@@ -20,7 +20,7 @@ use Rattle.match_cubes.specs.Cubes.{ordered}
 use Rattle.match_cubes.specs.Width.{product, total, weights, compare_width, widths, width_in, saturated}
 use Rattle.match_cubes.specs.Steps.{grown, widened, predicate_weight, negated_weight, width_joined}
 use Rattle.match_cubes.proofs.Cases.{meaning_const, meaning_is, meaning_not, meaning_all, meaning_any, meaning_compare}
-use Rattle.match_cubes.proofs.Joining.{turn_true, turn_false}
+use Rattle.match_cubes.proofs.Joins.{turn_true, turn_false}
 
 -- ---- capped sums and products
 

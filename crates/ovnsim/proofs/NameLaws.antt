@@ -24,7 +24,7 @@ use Rattle.ovn_base.specs.declared.name.Name.{Name}
 use Rattle.ovn_base.proofs.AmongLaws.{among_all, filter_among, flat_map_among, map_among}
 use Rattle.ovn_base.proofs.ByNameLaws.{at_among}
 use Rattle.ovn_base.proofs.ByNameLaws as puts
-use Rattle.chassis_sim.proofs.Waiting.{all_found, all_left}
+use Rattle.chassis_sim.proofs.UnderlayLaws.{all_found, all_left}
 use Rattle.inet_packet.specs.declared.packet.Packet as inet
 use Rattle.flow_table.specs.declared.flow.Cause.TheVariants.{Loopback}
 use Rattle.nb_records.specs.Network.{Network, with_record}
