@@ -4,13 +4,14 @@ top=$(cd "$(dirname "${BASH_SOURCE[0]}")/.." && pwd)
 work=$(mktemp -d)
 trap 'rm -rf "$work"' EXIT
 
-# Makes a program over the crates that are named, in the folder crates/timed. Its main.rt comes on standard input.
+# Makes a program over the crates and libraries that are named, in the folder crates/timed. Its main.rt comes on standard input.
 make_program() {
   local crate folder=$work/crates/timed
   mkdir -p "$folder/src"
   cat >"$folder/src/main.rt"
   cp "$top/HANDLES" "$work"
   for crate in "$@"; do
+    [[ -d $top/crates/$crate ]] || continue
     cp -r "$top/crates/$crate" "$work/crates"
     grep "^$crate:" "$top/crates.txt" >>"$work/crates.txt"
   done
