@@ -4,7 +4,8 @@ top=$(cd "$(dirname "${BASH_SOURCE[0]}")/.." && pwd)
 work=$(mktemp -d)
 trap 'rm -rf "$work"' EXIT
 
-# Makes a program over the crates and libraries that are named, in the folder crates/timed. Its main.rt comes on standard input.
+# Makes a program over the crates that are named, in the folder crates/timed. Its main.rt comes on standard input. A name of no crate
+# of the repository is one of the toolchain's.
 make_program() {
   local crate folder=$work/crates/timed
   mkdir -p "$folder/src"
