@@ -89,6 +89,6 @@ has_bad_address _ = false
 abbrev pub address_fault : Record → Option SchemaFault
 address_fault r = fault_if (has_bad_address r) (fault.BadAddress (name_of r))
 
--- 3: a record has a bad address
+-- a record has a bad address
 unfoldable pub bad_address : Network → Option SchemaFault
 bad_address net = first_record address_fault net

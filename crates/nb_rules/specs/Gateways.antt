@@ -28,6 +28,6 @@ needs_chassis net _ = false
 abbrev pub chassis_fault : Network → Record → Option SchemaFault
 chassis_fault net r = fault_if (needs_chassis net r) (fault.NatNeedsChassis (name_of r))
 
--- 8: a translation or a balancer is of a distributed router
+-- a translation or a balancer is of a distributed router
 unfoldable pub nat_needs_chassis : Network → Option SchemaFault
 nat_needs_chassis net = first_record (chassis_fault net) net

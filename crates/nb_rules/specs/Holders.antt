@@ -226,6 +226,6 @@ twice_vip net = holder_fault (first_holder (first_of (λ (s : Switch). vip_holde
 abbrev pub twice_bound : Network → Option SchemaFault
 twice_bound net = first_of (λ (p : RouterPort). ip_fault p.name (bound_twice net p.name)) net.router_ports
 
--- 5: two hold an address; the first holder counts, and of its addresses the least
+-- two hold an address; the first holder counts, and of its addresses the least
 unfoldable pub duplicate_address : Network → Option SchemaFault
 duplicate_address net = or_else (twice_mac net) (or_else (twice_ip net) (or_else (twice_own net) (or_else (twice_vip net) (twice_bound net))))

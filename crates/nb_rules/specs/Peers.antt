@@ -53,6 +53,6 @@ has_bad_peer net p = has_two_partners net p || (is_given p.name p.peer || is_wro
 abbrev pub peer_fault : Network → RouterPort → Option SchemaFault
 peer_fault net p = fault_if (has_bad_peer net p) (fault.BadPeer p.name)
 
--- 4: a router port has two partners, is its own, or has a wrong peer
+-- a router port has two partners, is its own, or has a wrong peer
 unfoldable pub bad_peer : Network → Option SchemaFault
 bad_peer net = first_of (peer_fault net) net.router_ports

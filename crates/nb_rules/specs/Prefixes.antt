@@ -75,7 +75,7 @@ repeats_prefix net _ = false
 abbrev pub prefix_fault : Network → Record → Option SchemaFault
 prefix_fault net r = fault_if (repeats_prefix net r) (fault.DuplicatePrefix (name_of r))
 
--- 6: a record has the prefix of one before it
+-- a record has the prefix of one before it
 unfoldable pub duplicate_prefix : Network → Option SchemaFault
 duplicate_prefix net = first_record (prefix_fault net) net
 
@@ -86,6 +86,6 @@ has_network net r = list_any (λ (e : Name × RouterPort). same_name e.1.router 
 abbrev pub next_hop_fault : Network → Route → Option SchemaFault
 next_hop_fault net r = fault_if (not (has_network net r)) (fault.NoNetworkForNexthop r.name)
 
--- 7: no network holds a route's next hop
+-- no network holds a route's next hop
 unfoldable pub no_network : Network → Option SchemaFault
 no_network net = first_of (next_hop_fault net) net.routes

@@ -111,10 +111,10 @@ missing_by false by missing = fault.NoSuch missing
 abbrev pub reference_fault : Network → List Op → Bool → Record → Option SchemaFault
 reference_fault net ops removed r = option_map (missing_by removed (name_of r)) (first_named (is_missing net ops removed) (references_of r))
 
--- 1: a record names one that isn't there, and that no operation removed
+-- a record names one that isn't there, and that no operation removed
 unfoldable pub no_such : Network → List Op → Option SchemaFault
 no_such net ops = first_record (reference_fault net ops false) net
 
--- 2: a record names one that an operation removed
+-- a record names one that an operation removed
 unfoldable pub still_used : Network → List Op → Option SchemaFault
 still_used net ops = first_record (reference_fault net ops true) net

@@ -31,7 +31,7 @@ rule_width net rule = width_of (members_in net) rule.matching
 abbrev pub width_fault : ℕ → Option SchemaFault
 width_fault n = fault_if (nat_lt MAX_WIDTH n) (fault.TooWide (saturated n))
 
--- 9: a match is too wide
+-- a match is too wide
 unfoldable pub too_wide : Network → Option SchemaFault
 too_wide net = first_of (λ (rule : Acl). width_fault (rule_width net rule)) net.acls
 
@@ -49,7 +49,7 @@ all_cubes net = sum_by (λ (e : Name × Acl). cubes_of net e.1) net.acls
 abbrev pub over : ℕ → ℕ → Limited → Option SchemaFault
 over most n what = fault_if (nat_lt most n) (fault.Limit what)
 
--- 10: there are too many
+-- there are too many
 unfoldable pub over_limit : Network → Option SchemaFault
 over_limit net =
     or_else (over MAX_DATAPATHS (length net.switches + length net.routers) limited.Datapath)
