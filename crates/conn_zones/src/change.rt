@@ -1,5 +1,8 @@
 //! Homes that change.
+ghost use Rattle.std.specs.Prelude.{◌≡◌, IfOk};
+
 use ovn_base::list::List;
+use ovn_base::memory::NoMemory;
 use ovn_base::name::Name;
 
 /// New homes: of each port or gateway router whose identity or home changes, or whose list is emptied, with the chassis where it
@@ -8,4 +11,16 @@ use ovn_base::name::Name;
 pub struct HomeChange {
     pub ports: List<(Name, Option<Name>)>,
     pub routers: List<(Name, Option<Name>)>,
+}
+
+impl HomeChange {
+    /// An equal change in memory of its own.
+    pub fn copy(&self) -> Result<HomeChange, NoMemory>
+        ensures { IfOk result (λ c. c ≡ self.now) }
+    {
+        Ok(HomeChange {
+            ports: self.ports.copy()?,
+            routers: self.routers.copy()?,
+        })
+    }
 }

@@ -9,3 +9,5 @@ mod putting;
 pub mod shared;
 #[cfg(test)]
 mod tests;
+
+pub use ovn_base::delta::Delta;

@@ -65,6 +65,16 @@ pub fn exact_flow_clone()
     exact_list_clone::<FlowOp>();
 }
 
+impl FlowOp {
+    /// An equal operation in memory of its own.
+    pub fn copy(&self) -> Result<FlowOp, NoMemory>
+        ensures { IfOk result (λ op. op ≡ self.now) }
+    {
+        exact_op_clone();
+        Ok(self.clone()?)
+    }
+}
+
 impl Flow {
     /// An equal flow in memory of its own.
     pub fn copy(&self) -> Result<Flow, NoMemory>

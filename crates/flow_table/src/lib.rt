@@ -9,3 +9,5 @@ pub mod matching;
 pub mod tables;
 #[cfg(test)]
 mod tests;
+
+pub use inet_packet::regs::Regs;

@@ -1,5 +1,5 @@
 -- What follows from the records of routers: their ports, who translates, partners, and who answers for an address.
-use Rattle.std.specs.Prelude.{◌==◌, ◌&&◌, ◌||◌, ◌++◌, ◌-◌, ◌/◌, ◌^◌, Bool, false, List, map, flat_map, Option, Some, None, option_map, is_some}
+use Rattle.std.specs.Prelude.{◌==◌, ◌&&◌, ◌||◌, ◌++◌, ◌-◌, ◌/◌, ◌^◌, Bool, true, false, List, map, flat_map, Option, Some, None, option_map, is_some}
 use Rattle.std.specs.Map.{values_of}
 use Rattle.std.specs.List.{filter, find, list_any}
 use Rattle.ovn_base.specs.declared.address.Cidr.{Cidr}
@@ -11,6 +11,8 @@ use Rattle.nb_records.specs.Network.{Network}
 use Rattle.nb_records.specs.Switches.{same_ip, is_given, has_some, router_port_behind, balancers_of, has_balancer}
 use Rattle.nb_records.specs.declared.balancer.LoadBalancer.{LoadBalancer}
 use Rattle.nb_records.specs.declared.router.Nat.{Nat}
+use Rattle.nb_records.specs.declared.router.NatKind.{NatKind}
+use Rattle.nb_records.specs.declared.router.NatKind.TheVariants as nat_kind
 use Rattle.nb_records.specs.declared.router.Router.{Router}
 use Rattle.nb_records.specs.declared.router.RouterPort.{RouterPort}
 use Rattle.nb_records.specs.declared.switch.SwitchPort.{SwitchPort}
@@ -33,6 +35,17 @@ abbrev pub is_own_ip : Network → Name → Ip4 → Bool
 is_own_ip net router ip = list_any (has_own_ip ip) (router_ports_of net router)
 
 -- ---- translations
+
+-- a row of this kind translates the sources of what leaves, and the destinations of what comes
+abbrev pub translates_sources : NatKind → Bool
+translates_sources nat_kind.Snat = true
+translates_sources nat_kind.Dnat = false
+translates_sources nat_kind.DnatAndSnat = true
+
+abbrev pub translates_destinations : NatKind → Bool
+translates_destinations nat_kind.Snat = false
+translates_destinations nat_kind.Dnat = true
+translates_destinations nat_kind.DnatAndSnat = true
 
 abbrev pub nats_of : Network → Name → List Nat
 nats_of net router = filter (λ r. same_name r.router router) (values_of net.nats)

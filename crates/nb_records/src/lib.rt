@@ -8,6 +8,7 @@ pub mod exact;
 pub mod kinds;
 pub mod record;
 pub mod records;
+pub mod references;
 pub mod router;
 pub mod rule;
 pub mod switch;

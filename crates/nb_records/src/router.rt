@@ -1,5 +1,6 @@
 //! Logical routers, their ports, routes, translations and neighbours.
 ghost use Rattle.std.specs.Prelude.{◌≡◌, IfOk};
+ghost use Rattle.nb_records.specs.Routers as spec;
 
 use ovn_base::address::{Birth, Cidr, Ip4, Mac};
 use ovn_base::list::List;
@@ -70,6 +71,28 @@ pub struct StaticMac {
     pub port: Name,
     pub ip: Ip4,
     pub mac: Mac,
+}
+
+impl NatKind {
+    /// Whether it translates the sources of what leaves.
+    pub fn translates_sources(self) -> bool
+        ensures { result ≡ spec.translates_sources self }
+    {
+        match self {
+            NatKind::Snat | NatKind::DnatAndSnat => true,
+            NatKind::Dnat => false,
+        }
+    }
+
+    /// Whether it translates the destinations of what comes.
+    pub fn translates_destinations(self) -> bool
+        ensures { result ≡ spec.translates_destinations self }
+    {
+        match self {
+            NatKind::Dnat | NatKind::DnatAndSnat => true,
+            NatKind::Snat => false,
+        }
+    }
 }
 
 impl RouterPort {

@@ -1,5 +1,6 @@
 //! Logical switches and their ports.
 ghost use Rattle.std.specs.Prelude.{◌≡◌, IfOk};
+ghost use Rattle.nb_records.specs.Switches.{is_virtual_kind};
 
 use ovn_base::address::{Birth, Cidr, Ip4, Mac};
 use ovn_base::list::List;
@@ -54,6 +55,18 @@ pub struct SwitchPort {
     /// From and to which addresses the port may send and get; all, where the list is empty.
     pub port_security: List<SecurityEntry>,
     pub enabled: bool,
+}
+
+impl PortKind {
+    /// Whether a virtual machine or a container is behind the port.
+    pub fn is_virtual(self) -> bool
+        ensures { result ≡ is_virtual_kind self }
+    {
+        match self {
+            PortKind::Virtual => true,
+            PortKind::Router => false,
+        }
+    }
 }
 
 impl PortAddress {

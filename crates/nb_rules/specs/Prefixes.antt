@@ -1,17 +1,15 @@
 -- Networks, routes and translations of one prefix, and next hops that no network holds.
-use Rattle.std.specs.Prelude.{◌==◌, ◌&&◌, ◌||◌, Bool, true, false, not, Option}
+use Rattle.std.specs.Prelude.{◌==◌, ◌&&◌, ◌||◌, Bool, false, not, Option}
 use Rattle.std.specs.List.{list_any}
 use Rattle.ovn_base.specs.declared.address.Cidr.{Cidr}
 use Rattle.ovn_base.specs.declared.name.Name.{Name}
 use Rattle.ovn_base.specs.names.SameName.{same_name}
 use Rattle.nb_records.specs.Network.{Network, name_of}
-use Rattle.nb_records.specs.Routers.{contains}
+use Rattle.nb_records.specs.Routers.{contains, translates_sources, translates_destinations}
 use Rattle.nb_records.specs.Switches.{same_ip}
 use Rattle.nb_records.specs.declared.record.Record.{Record}
 use Rattle.nb_records.specs.declared.record.Record.TheVariants as row
 use Rattle.nb_records.specs.declared.router.Nat.{Nat}
-use Rattle.nb_records.specs.declared.router.NatKind.{NatKind}
-use Rattle.nb_records.specs.declared.router.NatKind.TheVariants as nat_kind
 use Rattle.nb_records.specs.declared.router.Route.{Route}
 use Rattle.nb_records.specs.declared.router.RouterPort.{RouterPort}
 use Rattle.nb_rules.specs.First.{first_of, first_record, fault_if, has_second}
@@ -39,16 +37,6 @@ is_route_before r other = same_name other.router r.router && is_before other.nam
 -- a route of the router before it has its prefix
 abbrev pub repeats_route : Network → Route → Bool
 repeats_route net r = list_any (λ (e : Name × Route). is_route_before r e.1 && same_prefix r.prefix e.1.prefix) net.routes
-
-abbrev pub translates_sources : NatKind → Bool
-translates_sources nat_kind.Snat = true
-translates_sources nat_kind.Dnat = false
-translates_sources nat_kind.DnatAndSnat = true
-
-abbrev pub translates_destinations : NatKind → Bool
-translates_destinations nat_kind.Snat = false
-translates_destinations nat_kind.Dnat = true
-translates_destinations nat_kind.DnatAndSnat = true
 
 -- both translate sources of one prefix
 abbrev pub same_sources : Nat → Nat → Bool

@@ -2,7 +2,7 @@
 ghost use Rattle.std.specs.Prelude.{◌≡◌, not};
 ghost use Rattle.std.specs.List.{list_any};
 ghost use Rattle.nb_records.specs.declared.record.Record.TheVariants as row;
-ghost use Rattle.nb_records.specs.Switches.{has_some, is_virtual_kind};
+ghost use Rattle.nb_records.specs.Switches.{has_some};
 ghost use Rattle.nb_rules.specs.BadAddresses as spec;
 
 use crate::fault::SchemaFault;
@@ -65,22 +65,13 @@ fn has_bad_own_ip(networks: &[Cidr]) -> bool
     networks.iter().any(|network| is_bad_own_ip(network.addr))
 }
 
-fn is_virtual(kind: PortKind) -> bool
-    ensures { result ≡ is_virtual_kind kind }
-{
-    match kind {
-        PortKind::Virtual => true,
-        PortKind::Router => false,
-    }
-}
-
 fn is_bad_port_address(kind: PortKind, entry: &PortAddress) -> bool
     ensures { result ≡ spec.is_bad_port_address kind entry.now }
 {
     match entry {
-        PortAddress::Ether { mac, ips } => is_bad_mac(mac) || (!is_virtual(kind) && has_some(ips)),
-        PortAddress::Unknown => !is_virtual(kind),
-        PortAddress::Router => is_virtual(kind),
+        PortAddress::Ether { mac, ips } => is_bad_mac(mac) || (!kind.is_virtual() && has_some(ips)),
+        PortAddress::Unknown => !kind.is_virtual(),
+        PortAddress::Router => kind.is_virtual(),
     }
 }
 
@@ -110,7 +101,7 @@ fn is_bad_switch_port(port: &SwitchPort) -> bool
 {
     has_bad_entry(port.kind, port.addresses.as_slice())
         || has_bad_security(port.port_security.as_slice())
-        || (!is_virtual(port.kind) && has_some(&port.port_security))
+        || (!port.kind.is_virtual() && has_some(&port.port_security))
 }
 
 fn has_bad_entry(kind: PortKind, entries: &[PortAddress]) -> bool

@@ -2,26 +2,16 @@
 ghost use Rattle.std.specs.Prelude.{◌≡◌, false};
 ghost use Rattle.std.specs.List.{list_any};
 ghost use Rattle.std.specs.Option.{option_copied};
-ghost use Rattle.nb_records.specs.Switches as facts;
 ghost use Rattle.nb_rules.specs.First.{has_second};
 ghost use Rattle.nb_rules.specs.Peers as spec;
 
 use crate::fault::SchemaFault;
 use crate::first::{Clause, first_of};
 use nb_records::records::Records;
+use nb_records::references::is_given;
 use nb_records::router::RouterPort;
 use nb_records::switch::SwitchPort;
 use ovn_base::name::Name;
-
-/// Whether the name is the one that is given.
-pub(crate) fn is_given(name: &Name, given: &Option<Name>) -> bool
-    ensures { result ≡ facts.is_given name.now given.now }
-{
-    match given {
-        Some(given) => *given == *name,
-        None => false,
-    }
-}
 
 // The router port is behind the switch port.
 fn is_behind(port: &RouterPort, other: &SwitchPort) -> bool

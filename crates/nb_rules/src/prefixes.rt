@@ -12,7 +12,7 @@ use crate::first::{Clause, first_of};
 use crate::holders::is_mate;
 use nb_records::answers::contains;
 use nb_records::records::Records;
-use nb_records::router::{Nat, NatKind, Route, RouterPort};
+use nb_records::router::{Nat, Route, RouterPort};
 use ovn_base::address::{Cidr, Ip4};
 
 // The prefixes hold the same addresses.
@@ -93,37 +93,19 @@ fn repeats_route(records: &Records, route: &Route) -> bool
 
 // ---- translations
 
-fn translates_sources(kind: NatKind) -> bool
-    ensures { result ≡ spec.translates_sources kind }
-{
-    match kind {
-        NatKind::Snat | NatKind::DnatAndSnat => true,
-        NatKind::Dnat => false,
-    }
-}
-
-fn translates_destinations(kind: NatKind) -> bool
-    ensures { result ≡ spec.translates_destinations kind }
-{
-    match kind {
-        NatKind::Dnat | NatKind::DnatAndSnat => true,
-        NatKind::Snat => false,
-    }
-}
-
 fn same_sources(nat: &Nat, other: &Nat) -> bool
     ensures { result ≡ spec.same_sources nat.now other.now }
 {
-    translates_sources(nat.kind)
-        && translates_sources(other.kind)
+    nat.kind.translates_sources()
+        && other.kind.translates_sources()
         && same_prefix(&nat.logical_ip, &other.logical_ip)
 }
 
 fn same_destination(nat: &Nat, other: &Nat) -> bool
     ensures { result ≡ spec.same_destination nat.now other.now }
 {
-    translates_destinations(nat.kind)
-        && translates_destinations(other.kind)
+    nat.kind.translates_destinations()
+        && other.kind.translates_destinations()
         && nat.external_ip == other.external_ip
 }
 

@@ -8,11 +8,11 @@ ghost use Rattle.nb_rules.specs.Widths as spec;
 
 use crate::fault::{Limited, SchemaFault};
 use crate::first::{Clause, first_of};
-use crate::peers::is_given;
 use crate::sets::RecordSets;
 use crate::vips::is_named;
 use match_cubes::width::width;
 use nb_records::records::Records;
+use nb_records::references::is_given;
 use nb_records::rule::{Acl, PortGroup};
 use ovn_base::limits::{MAX_ACLS, MAX_DATAPATHS, MAX_PORTS, MAX_WIDTH};
 use ovn_base::name::Name;

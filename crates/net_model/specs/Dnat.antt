@@ -1,16 +1,14 @@
 -- How a gateway router translates what comes from outside: it undoes translations of sources, and translates destinations.
-use Rattle.std.specs.Prelude.{◌&&◌, ℕ, Bool, true, false, Option, Some, None}
+use Rattle.std.specs.Prelude.{◌&&◌, ℕ, Bool, Option, Some, None}
 use Rattle.std.specs.List.{find}
 use Rattle.conn_table.specs.Tracking.{Seen, forward, reply, invalid, new, seen}
 use Rattle.conn_table.specs.Tuples.{reversed, with_tuple}
 use Rattle.conn_table.specs.declared.tuple.Tuple.{Tuple}
 use Rattle.inet_packet.specs.declared.packet.Packet.{Packet}
 use Rattle.nb_records.specs.Network.{Network}
-use Rattle.nb_records.specs.Routers.{nats_of}
+use Rattle.nb_records.specs.Routers.{nats_of, translates_destinations}
 use Rattle.nb_records.specs.Switches.{same_ip}
 use Rattle.nb_records.specs.declared.router.Nat.{Nat}
-use Rattle.nb_records.specs.declared.router.NatKind.{NatKind}
-use Rattle.nb_records.specs.declared.router.NatKind.TheVariants as nat_kind
 use Rattle.ovn_base.specs.declared.address.Ip4.{Ip4}
 use Rattle.ovn_base.specs.declared.name.Name.{Name}
 use Rattle.net_model.specs.Balancing.{Desk, commit_or_drop, Service, service_for, balance}
@@ -31,13 +29,8 @@ undo_snat now router t p = undo_as now router (seen (list_of t.lists (snat_of ro
 
 -- ---- translating the destination
 
-abbrev pub translates_destination : NatKind → Bool
-translates_destination nat_kind.Snat = false
-translates_destination nat_kind.Dnat = true
-translates_destination nat_kind.DnatAndSnat = true
-
 abbrev pub is_dnat_for : Ip4 → Nat → Bool
-is_dnat_for ip r = translates_destination r.kind && same_ip r.external_ip ip
+is_dnat_for ip r = translates_destinations r.kind && same_ip r.external_ip ip
 
 abbrev pub dnat_row : Network → Name → Ip4 → Option Nat
 dnat_row net router ip = find (is_dnat_for ip) (nats_of net router)

@@ -10,11 +10,9 @@ use Rattle.conn_table.specs.declared.tuple.Tuple.{Tuple}
 use Rattle.flow_table.specs.declared.flow.Cause.TheVariants as cause
 use Rattle.inet_packet.specs.declared.packet.Packet.{Packet}
 use Rattle.nb_records.specs.Network.{Network}
-use Rattle.nb_records.specs.Routers.{contains, nats_of}
+use Rattle.nb_records.specs.Routers.{contains, nats_of, translates_sources}
 use Rattle.nb_records.specs.Ways.{best_by}
 use Rattle.nb_records.specs.declared.router.Nat.{Nat}
-use Rattle.nb_records.specs.declared.router.NatKind.{NatKind}
-use Rattle.nb_records.specs.declared.router.NatKind.TheVariants as nat_kind
 use Rattle.ovn_base.specs.declared.address.Ip4.{Ip4}
 use Rattle.ovn_base.specs.declared.name.Name.{Name}
 use Rattle.net_model.specs.Balancing.{Desk, commit_or_drop}
@@ -24,13 +22,8 @@ use Rattle.net_model.specs.Trail.{Trail, snat_of, list_of, Spot, drop_for, tell,
 
 -- ---- rows
 
-abbrev pub translates_source : NatKind → Bool
-translates_source nat_kind.Snat = true
-translates_source nat_kind.Dnat = false
-translates_source nat_kind.DnatAndSnat = true
-
 abbrev pub is_snat_for : Ip4 → Nat → Bool
-is_snat_for ip r = translates_source r.kind && contains r.logical_ip ip
+is_snat_for ip r = translates_sources r.kind && contains r.logical_ip ip
 
 abbrev pub is_narrower : Nat → Nat → Bool
 is_narrower a b = nat_lt b.logical_ip.len a.logical_ip.len

@@ -10,8 +10,9 @@ ghost use Rattle.net_model.specs.Nearby as nearby;
 
 use nb_records::answers::answers_by;
 use nb_records::records::Records;
+use nb_records::references::is_given;
 use nb_records::router::RouterPort;
-use nb_records::switch::{PortAddress, PortKind, SwitchPort};
+use nb_records::switch::{PortAddress, SwitchPort};
 use ovn_base::address::{Ip4, Mac};
 use ovn_base::name::Name;
 
@@ -64,21 +65,11 @@ fn switch_before(records: &Records, port: &RouterPort) -> Option<Name>
     ensures { result ≡ option_map (λ q. q.switch) (switch_port_before records.now port.now) }
 {
     'ports: for (_name, before) in records.switch_ports() {
-        if is_given(&before.router_port, &port.name) {
+        if is_given(&port.name, &before.router_port) {
             return Some(before.switch);
         }
     }
     None
-}
-
-// The name is the one that is given.
-fn is_given(given: &Option<Name>, name: &Name) -> bool
-    ensures { result ≡ switches.is_given name.now given.now }
-{
-    match given {
-        Some(given) => *given == *name,
-        None => false,
-    }
 }
 
 // That of a directly joined router port, if it answers for the address.
@@ -99,7 +90,7 @@ fn of_naming(records: &Records, port: &RouterPort, ip: Ip4) -> Option<Mac>
     ensures { result ≡ nearby.peer_mac records.now ip (nearby.naming_among records.now.router_ports port.now.name) }
 {
     'ports: for (_name, other) in records.router_ports() {
-        if is_given(&other.peer, &port.name) {
+        if is_given(&port.name, &other.peer) {
             return mac_if_answering(records, other, ip);
         }
     }
@@ -144,20 +135,10 @@ fn of_virtual(records: &Records, switch: &Name, ip: Ip4) -> Option<Mac>
 fn virtual_mac(port: &SwitchPort, switch: &Name, ip: Ip4) -> Option<Mac>
     ensures { result ≡ nearby.virtual_mac switch.now ip port.now }
 {
-    if port.switch == *switch && (port.enabled && is_virtual(port)) {
+    if port.switch == *switch && (port.enabled && port.kind.is_virtual()) {
         mac_of_ip(port, ip)
     } else {
         None
-    }
-}
-
-// A virtual machine or a container is behind the port.
-fn is_virtual(port: &SwitchPort) -> bool
-    ensures { result ≡ switches.is_virtual port.now }
-{
-    match port.kind {
-        PortKind::Virtual => true,
-        PortKind::Router => false,
     }
 }
 

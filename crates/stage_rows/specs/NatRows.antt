@@ -1,26 +1,13 @@
 -- The rows of NAT.
-use Rattle.std.specs.Prelude.{◌+◌, Bool, true, false, List, [], ◌∷◌}
+use Rattle.std.specs.Prelude.{◌+◌, List, [], ◌∷◌}
 use Rattle.flow_table.specs.declared.flow.Cause.TheVariants as cause
 use Rattle.match_language.specs.declared.field.Field.TheVariants as f
 use Rattle.nb_records.specs.declared.router.Nat.{Nat}
-use Rattle.nb_records.specs.declared.router.NatKind.{NatKind}
-use Rattle.nb_records.specs.declared.router.NatKind.TheVariants as kind
 use Rattle.logical_flows.specs.declared.action.Action.TheVariants as a
 use Rattle.logical_flows.specs.declared.action.ZoneOf.TheVariants as zone
 use Rattle.logical_flows.specs.declared.flow.LFlow.{LFlow}
 use Rattle.logical_flows.specs.declared.stage.Stage.TheVariants as stage
 use Rattle.stage_rows.specs.Rows.{ip_is, ip_in, is_new, is_invalid, tracked_row, go_on}
-
--- the row translates destinations, and sources
-abbrev pub is_for_dst : NatKind → Bool
-is_for_dst kind.Snat = false
-is_for_dst kind.Dnat = true
-is_for_dst kind.DnatAndSnat = true
-
-abbrev pub is_for_src : NatKind → Bool
-is_for_src kind.Snat = true
-is_for_src kind.Dnat = false
-is_for_src kind.DnatAndSnat = true
 
 abbrev pub nat_dnat : Nat → List LFlow
 nat_dnat r = tracked_row stage.RouterDnat 80 (is_new ∷ []) (ip_is f.Ip4Dst r.external_ip ∷ []) (a.Dnat zone.Dnat r.logical_ip.addr ∷ go_on stage.RouterDnat ∷ []) ∷ []

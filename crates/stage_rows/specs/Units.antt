@@ -13,7 +13,7 @@ use Rattle.match_language.specs.declared.field.Direction.{Direction}
 use Rattle.match_language.specs.declared.field.Direction.TheVariants.{FromLport, ToLport}
 use Rattle.nb_records.specs.Network.{Network, is_online}
 use Rattle.nb_records.specs.Neighbours.{neighbour_of}
-use Rattle.nb_records.specs.Routers.{Partner, switch_side, router_side, partner_of_router_port, translates}
+use Rattle.nb_records.specs.Routers.{Partner, switch_side, router_side, partner_of_router_port, translates, translates_sources, translates_destinations}
 use Rattle.nb_records.specs.Switches.{is_virtual, is_stateful, is_named, applies, enabled_ports, router_port_behind, serves_at}
 use Rattle.nb_records.specs.declared.balancer.LoadBalancer.{LoadBalancer}
 use Rattle.nb_records.specs.declared.router.Nat.{Nat}
@@ -30,7 +30,7 @@ use Rattle.logical_flows.specs.declared.unit.UnitId.{UnitId}
 use Rattle.logical_flows.specs.declared.unit.UnitId.TheVariants as unit
 use Rattle.stage_rows.specs.BalancerRows.{switch_vips, router_vips}
 use Rattle.stage_rows.specs.Facts.{ips_in_order, answered_ips, port_ips}
-use Rattle.stage_rows.specs.NatRows.{is_for_dst, is_for_src, nat_dnat, nat_snat}
+use Rattle.stage_rows.specs.NatRows.{nat_dnat, nat_snat}
 use Rattle.stage_rows.specs.RouterRows as router
 use Rattle.stage_rows.specs.Rows.{on_some, when}
 use Rattle.stage_rows.specs.RuleRows.{rule_row}
@@ -78,8 +78,8 @@ neighbour_rows stage.RouterNeighbour port ip mac = router.neighbour_row port ip 
 neighbour_rows _ port ip mac = []
 
 abbrev pub nat_rows : Stage → Nat → List LFlow
-nat_rows stage.RouterDnat r = when (is_for_dst r.kind) (nat_dnat r)
-nat_rows stage.RouterSnat r = when (is_for_src r.kind) (nat_snat r)
+nat_rows stage.RouterDnat r = when (translates_destinations r.kind) (nat_dnat r)
+nat_rows stage.RouterSnat r = when (translates_sources r.kind) (nat_snat r)
 nat_rows _ r = []
 
 -- a balancer on a switch, or on a router, by the test of which backends are online

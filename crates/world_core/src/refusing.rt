@@ -1,12 +1,12 @@
 //! When an event is refused, and why.
 ghost use Rattle.std.specs.Prelude.{◌≡◌};
 ghost use Rattle.std.specs.List.{list_any};
-ghost use Rattle.nb_records.specs.Switches.{has_some, is_virtual};
+ghost use Rattle.nb_records.specs.Switches.{has_some};
 ghost use Rattle.physical_flows.specs.Built.{is_router_entry, is_plain_port};
 ghost use Rattle.world_core.specs.Unbuilt.{is_among, has_common, clash, clashes, share, repeats, has_no_entry, is_no_entry, is_held, is_unbuilt_port};
 
 use nb_records::records::Records;
-use nb_records::switch::{PortAddress, PortKind, SecurityEntry, SwitchPort};
+use nb_records::switch::{PortAddress, SecurityEntry, SwitchPort};
 use ovn_base::address::{Ip4, Mac};
 use ovn_base::limits::MAX_PORTS;
 
@@ -102,16 +102,6 @@ fn is_router_entry(address: &PortAddress) -> bool
     }
 }
 
-// Whether a virtual machine or a container is behind the port.
-fn is_virtual(port: &SwitchPort) -> bool
-    ensures { result ≡ is_virtual port.now }
-{
-    match port.kind {
-        PortKind::Virtual => true,
-        PortKind::Router => false,
-    }
-}
-
 // Some entry is the word `router`.
 fn has_router_entry(addresses: &[PortAddress]) -> bool
     ensures { result ≡ list_any is_router_entry addresses.now }
@@ -133,7 +123,7 @@ fn has_security(entries: &[SecurityEntry]) -> bool
 fn is_plain_port(port: &SwitchPort) -> bool
     ensures { result ≡ is_plain_port port.now }
 {
-    is_virtual(port)
+    port.kind.is_virtual()
         && port.router_port.is_none()
         && port.enabled
         && !has_security(port.port_security.as_slice())

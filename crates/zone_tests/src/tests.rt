@@ -1,5 +1,6 @@
 use crate::register::Register;
 use conn_zones::change::HomeChange;
+use conn_zones::numbers::MAX_ZONE;
 use ovn_base::list::List;
 use ovn_base::memory::NoMemory;
 use ovn_base::name::Name;
@@ -142,5 +143,12 @@ fn a_router_of_another_birth_comes(rt: HostRuntime) -> Result<(), Fail> {
     )?;
     assert_eq!(rt; first, [Some(3), Some(4)]);
     assert_eq!(rt; nat(&register, &hv1, &g0), [Some(1), Some(3)]);
+    Ok(())
+}
+
+// Zones have 16 bits, as Linux numbers them.
+#[test]
+fn zones_have_sixteen_bits(rt: HostRuntime) -> Result<(), Fail> {
+    assert_eq!(rt; MAX_ZONE, 65535);
     Ok(())
 }
