@@ -13,13 +13,21 @@ use Rattle.tunnel_keys.specs.Owners.{is_listed}
 use Rattle.tunnel_keys.specs.declared.owner.KeyOwner.{KeyOwner}
 use Rattle.tunnel_keys.specs.declared.owner.KeyOwner.TheVariants.{Datapath, Port}
 
--- each switch, router and port
+abbrev pub switch_owner : Name × Switch → KeyOwner
+switch_owner e = Datapath e.0 e.1.birth
+
+abbrev pub router_owner : Name × Router → KeyOwner
+router_owner e = Datapath e.0 e.1.birth
+
+abbrev pub router_port_owner : Name × RouterPort → KeyOwner
+router_port_owner e = Port e.1.router e.0 e.1.birth
+
+abbrev pub switch_port_owner : Name × SwitchPort → KeyOwner
+switch_port_owner e = Port e.1.switch e.0 e.1.birth
+
+-- the datapaths and ports of the records, by identity, in the order of the kinds and then of names
 abbrev pub owners_of : Network → List KeyOwner
-owners_of net =
-    map (λ (e : Name × Switch). Datapath e.0 e.1.birth) net.switches
-    ++ map (λ (e : Name × Router). Datapath e.0 e.1.birth) net.routers
-    ++ map (λ (e : Name × SwitchPort). Port e.1.switch e.0 e.1.birth) net.switch_ports
-    ++ map (λ (e : Name × RouterPort). Port e.1.router e.0 e.1.birth) net.router_ports
+owners_of net = map switch_owner net.switches ++ map router_owner net.routers ++ map router_port_owner net.router_ports ++ map switch_port_owner net.switch_ports
 
 -- those by the first records that are none by the second
 abbrev pub owners_only_in : Network → Network → List KeyOwner
