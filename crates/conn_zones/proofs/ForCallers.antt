@@ -16,7 +16,7 @@ use Rattle.conn_zones.specs.declared.numbers.TheConstants.{MAX_ZONE}
 use Rattle.conn_zones.specs.declared.numbers.ZoneUse.{ZoneUse}
 use Rattle.conn_zones.specs.Zoning.{KnownHomes}
 use Rattle.conn_zones.specs.Rezoning.{AreHomesAfter, IsHomeChange, zones_in, of_chassis}
-use Rattle.conn_zones.proofs.Lists.{once_few, once_named}
+use Rattle.ovn_base.proofs.OnceLaws.{once_few, once_named}
 use Rattle.conn_zones.proofs.ZoneLists.{port_zone, router_zones}
 
 few_pass : {X : Type 0} (test : X → Bool) (xs : List X) → length (filter test xs) ≤ length xs

@@ -19,7 +19,8 @@ use Rattle.conn_zones.specs.declared.numbers.ZoneUse.TheVariants.{Port, Dnat, Sn
 use Rattle.conn_zones.specs.Zoning.{KnownHomes, GivenNumbers, Zoned, home_for, place_for, number_on, IsZoned}
 use Rattle.conn_zones.specs.Rezoning.{IsRehomed, IsHomeChange, zones_in, of_chassis, is_home_on, remains, stays_on, coming, IsKeptNumber, IsRezoned}
 use Rattle.conn_zones.specs.Giving.{keep_places, AreKeptNumbers, AreGiven, HaveNumbers}
-use Rattle.conn_zones.proofs.Lists.{once_filter, once_few, found_kept, kept_found}
+use Rattle.conn_zones.proofs.Lists.{found_kept, kept_found}
+use Rattle.ovn_base.proofs.OnceLaws.{once_filter, once_few}
 use Rattle.conn_zones.proofs.PlaceLaws.{own_name, one_name, some_value, has_value, placed, number_placed, placed_number, number_used, used_number}
 use Rattle.conn_zones.proofs.ZoneLists.{zone_of, zone_home, home_zone, zones_once, used_on, as_many, used_has, used_once, both_ways}
 use Rattle.conn_zones.proofs.GivingLaws.{Midway, midway_end, place_end, takes}

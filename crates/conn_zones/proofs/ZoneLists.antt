@@ -18,7 +18,7 @@ use Rattle.conn_zones.specs.declared.numbers.ZoneUse.TheVariants.{Port, Dnat, Sn
 use Rattle.conn_zones.specs.Zoning.{KnownHomes, GivenNumbers, home_for, number_on, AreInNameOrder}
 use Rattle.conn_zones.specs.Rezoning.{zones_in}
 use Rattle.conn_zones.specs.Giving.{numbers_in, numbers_of}
-use Rattle.conn_zones.proofs.Lists.{once_append, once_filter, once_named}
+use Rattle.ovn_base.proofs.OnceLaws.{once_append, once_filter, once_named}
 use Rattle.ovn_base.proofs.SameEntries.{rest_sorted, first_below}
 use Rattle.conn_zones.proofs.PlaceLaws.{name_in, placed, one_name, number_placed, one_if, size_more}
 

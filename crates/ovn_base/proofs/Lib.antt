@@ -2,6 +2,7 @@
 pub mod AmongLaws
 pub mod ByNameLaws
 pub mod SameEntries
+pub mod OnceLaws
 pub mod AddressLemmas
 pub mod DecimalLemmas
 pub mod JoinedLemmas
