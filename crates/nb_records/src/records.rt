@@ -4,6 +4,7 @@ ghost use Rattle.std.specs.Option.{option_copied};
 ghost use Rattle.std.specs.List.Sorted.{IsStrictlySortedBy};
 ghost use Rattle.ovn_base.specs.names.ByName.{at, IsByName};
 ghost use Rattle.nb_records.specs.Network as net;
+ghost use Rattle.nb_records.specs.Network.{AreInOrder};
 
 use crate::balancer::{LoadBalancer, OfflineMark};
 use crate::kinds::Kind;
@@ -145,6 +146,13 @@ impl Records {
         ensures { option_copied result ≡ at self.now.static_macs name.now }
     {
         self.static_macs.get(name)
+    }
+
+    /// Each kind is in order of name, and the marks in theirs: a fact of the call, which does nothing.
+    pub fn hold(&self)
+        ensures { AreInOrder self.now }
+    {
+        let _many = self.switches.len();
     }
 
     /// All switches, in order of name.
