@@ -43,6 +43,7 @@ module _ (entry : Entry) (now : ℕ) where
   effects_whole (Frame chassis ∷ ops) copy w = (w, effects_whole ops copy w)
   effects_whole (Copies members ∷ ops) copy w = effects_whole ops copy w
   effects_whole (Output port ∷ ops) copy w = (tt, effects_whole ops copy w)
+  effects_whole (_ ∷ ops) copy w = tt
 
   itself_whole : (ops : List FlowOp) (copy : Carried) → CarriesWhole copy → AllByRecursion CarriesWhole (outcome entry now ops copy).itself
   itself_whole [] copy w = tt
@@ -53,6 +54,7 @@ module _ (entry : Entry) (now : ℕ) where
   itself_whole (Frame chassis ∷ ops) copy w = itself_whole ops copy w
   itself_whole (Copies members ∷ ops) copy w = itself_whole ops copy w
   itself_whole (Output port ∷ ops) copy w = itself_whole ops copy w
+  itself_whole (_ ∷ ops) copy w = tt
 
   made_whole : (ops : List FlowOp) (copy : Carried) → CarriesWhole copy → AllByRecursion CarriesWhole (outcome entry now ops copy).made
   made_whole [] copy w = tt
@@ -64,6 +66,7 @@ module _ (entry : Entry) (now : ℕ) where
   made_whole (Copies members ∷ ops) copy w =
       all_append CarriesWhole (copies_for copy members) (outcome entry now ops copy).made (all_map CarriesWhole (copy_for copy) (λ member. w) _) (made_whole ops copy w)
   made_whole (Output port ∷ ops) copy w = made_whole ops copy w
+  made_whole (_ ∷ ops) copy w = tt
 
 stray_is : (entry : Entry) (copy : Carried) → SendsWhole (stray entry copy)
 stray_is (Vif port) copy = tt

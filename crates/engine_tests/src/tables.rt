@@ -83,7 +83,8 @@ fn rises(table: u8, op: &FlowOp) -> bool
         },
         FlowOp::Go(next) => *next > table,
         FlowOp::Copies(_) => table < 34,
-        _ => true,
+        FlowOp::Drop(_) | FlowOp::Header | FlowOp::Frame(_) | FlowOp::Output(_) => true,
+        _ => false,
     }
 }
 

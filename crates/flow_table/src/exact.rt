@@ -5,11 +5,14 @@ ghost use Rattle.flow_table.specs.declared.flow.Cause.{Cause};
 ghost use Rattle.flow_table.specs.declared.flow.Flow.{Flow};
 ghost use Rattle.flow_table.specs.declared.flow.FlowOp.{FlowOp};
 ghost use Rattle.flow_table.specs.declared.flow.Member.{Member};
+ghost use Rattle.flow_table.specs.declared.flow.ZoneOf.{ZoneOf};
 
-use crate::flow::{Cause, Flow, FlowOp, Member};
-use inet_packet::exact::exact_cube;
-use ovn_base::equality::{equal_where_same, exact_list, exact_list_clone};
+use crate::flow::{Cause, Flow, FlowOp, Member, ZoneOf};
+use inet_packet::exact::{exact_cube, exact_reg};
+use ovn_base::address::{Backend, exact_backend, exact_ip4, exact_mac};
+use ovn_base::equality::{equal_where_same, exact_list_clone};
 use ovn_base::memory::NoMemory;
+use ovn_base::name::exact_name;
 
 /// Causes are equal exactly where they are the same.
 pub fn exact_cause()
@@ -19,6 +22,11 @@ pub fn exact_cause()
 /// A clone of a cause is that cause.
 pub fn exact_cause_clone()
     ensures { (a b : Cause) → ⟦<Cause as Clone>⟧.is_clone a b → b ≡ a }
+{}
+
+/// Zones are equal exactly where they are the same.
+pub fn exact_zone_of()
+    ensures { (a b : ZoneOf) → (⟦<ZoneOf as PartialEq>⟧.eq a b ≡ true) ↔ (a ≡ b) }
 {}
 
 /// Members are equal exactly where they are the same.
@@ -35,8 +43,14 @@ pub fn exact_member_clone()
 pub fn exact_op()
     ensures { (a b : FlowOp) → (⟦<FlowOp as PartialEq>⟧.eq a b ≡ true) ↔ (a ≡ b) }
 {
+    exact_cause();
+    exact_mac();
+    exact_ip4();
+    exact_name();
+    exact_reg();
+    exact_zone_of();
+    exact_backend();
     exact_member();
-    exact_list::<Member>();
     equal_where_same::<FlowOp>();
 }
 
@@ -44,6 +58,8 @@ pub fn exact_op()
 pub fn exact_op_clone()
     ensures { (a b : FlowOp) → ⟦<FlowOp as Clone>⟧.is_clone a b → b ≡ a }
 {
+    exact_backend();
+    exact_list_clone::<Backend>();
     exact_member_clone();
     exact_list_clone::<Member>();
 }
@@ -71,7 +87,8 @@ impl FlowOp {
         ensures { IfOk result (λ op. op ≡ self.now) }
     {
         exact_op_clone();
-        Ok(self.clone()?)
+        let op = self.clone()?;
+        Ok(op)
     }
 }
 

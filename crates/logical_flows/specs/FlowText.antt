@@ -11,8 +11,8 @@ use Rattle.match_language.specs.declared.expr.Expr.{Expr, Expr-F, fold-Expr}
 use Rattle.match_language.specs.Spelling.{spelling, joined_text}
 use Rattle.logical_flows.specs.declared.action.Action.{Action}
 use Rattle.logical_flows.specs.declared.action.Action.TheVariants as a
-use Rattle.logical_flows.specs.declared.action.ZoneOf.{ZoneOf}
-use Rattle.logical_flows.specs.declared.action.ZoneOf.TheVariants as zone
+use Rattle.flow_table.specs.declared.flow.ZoneOf.{ZoneOf}
+use Rattle.flow_table.specs.declared.flow.ZoneOf.TheVariants as zone
 use Rattle.logical_flows.specs.declared.flow.LFlow.{LFlow}
 use Rattle.logical_flows.specs.declared.flow.RegIs.{RegIs}
 use Rattle.logical_flows.specs.Stages.{pipeline_name, stage_name}

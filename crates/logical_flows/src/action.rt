@@ -1,21 +1,9 @@
 use flow_table::flow::Cause;
+pub use flow_table::flow::ZoneOf;
 use inet_packet::regs::Reg;
 use ovn_base::address::{Backend, Ip4, Mac};
 use ovn_base::list::List;
 use ovn_base::name::Name;
-
-/// The register in which the zone of a list of connections stands.
-#[derive(Clone, Copy, PartialEq, Eq, Hash, Debug)]
-pub enum ZoneOf {
-    /// That of the port of entry.
-    In,
-    /// That of the port by which the packet leaves.
-    Out,
-    /// The gateway router's for destination NAT.
-    Dnat,
-    /// The gateway router's for source NAT.
-    Snat,
-}
 
 /// What a logical flow does with a packet that it matches. Ports stand by their names.
 #[derive(PartialEq, Eq, Hash, Clone, Debug, Drop)]

@@ -3,12 +3,12 @@
 ghost use Rattle.std.specs.Prelude.{◌≡◌, ◌↔◌, true};
 ghost use Rattle.std.specs.declared.cmp.Ordering.TheVariants.{Equal};
 
-use crate::action::{Action, ZoneOf};
+use crate::action::Action;
 use crate::fact::{Fact, FactSet};
 use crate::flow::{LFlow, RegIs};
 use crate::stage::{Pipeline, Stage};
 use crate::unit::UnitId;
-use flow_table::exact::{exact_cause, exact_cause_clone};
+use flow_table::exact::{exact_cause, exact_cause_clone, exact_zone_of};
 use inet_packet::exact::exact_reg;
 use match_language::exact::exact_expr;
 use ovn_base::address::{Backend, exact_backend, exact_mac};
@@ -23,11 +23,6 @@ pub fn exact_pipeline()
 /// Stages are equal exactly where they are the same.
 pub fn exact_stage()
     ensures { (a b : Stage) → (⟦<Stage as PartialEq>⟧.eq a b ≡ true) ↔ (a ≡ b) }
-{}
-
-/// Zones are equal exactly where they are the same.
-pub fn exact_zone_of()
-    ensures { (a b : ZoneOf) → (⟦<ZoneOf as PartialEq>⟧.eq a b ≡ true) ↔ (a ≡ b) }
 {}
 
 /// Registers with their numbers are equal exactly where they are the same.

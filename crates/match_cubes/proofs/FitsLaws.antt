@@ -81,10 +81,10 @@ module _ (regs : Regs) (packet : Packet) (b : Field → Bits) where
 
 -- ---- the cubes of a match ask for fields alone
 
-abbrev IsMade : Cube → Type 0
+abbrev pub IsMade : Cube → Type 0
 IsMade c = c ≡ cube_of (λ g. asked_of_field g c)
 
-abbrev AreMade : List Cube → Type 0
+abbrev pub AreMade : List Cube → Type 0
 AreMade [] = Unit {0}
 AreMade (c ∷ cs) = IsMade c × AreMade cs
 
@@ -136,7 +136,7 @@ made_constant : (b : Bool) → AreMade (constant_cubes b)
 made_constant true = (refl, tt)
 made_constant false = tt
 
-cubes_made : (s : Setting) (e : Expr) (positive : Bool) → AreMade (cubes_in s e positive)
+pub cubes_made : (s : Setting) (e : Expr) (positive : Bool) → AreMade (cubes_in s e positive)
 unfolding cubes_in
 cubes_made s e positive =
     related (as_cubes s) (as_cubes s) (λ g rel xs. true) (λ cs ds. AreMade cs) made_constant (λ g rel xs h. made_compared g (alternatives s g rel xs)) (λ xs ys z. made_with (all_packets ∷ []) xs ys (refl, tt) z) made_either e positive (always e positive)

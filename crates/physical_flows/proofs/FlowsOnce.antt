@@ -17,7 +17,7 @@ use Rattle.ovn_base.specs.names.ByName.{at}
 use Rattle.flow_table.proofs.OnceLaws.{once_append, once_map}
 use Rattle.flow_table.specs.declared.flow.Flow.{Flow}
 use Rattle.flow_table.specs.declared.flow.FlowOp.{FlowOp}
-use Rattle.flow_table.specs.declared.flow.FlowOp.TheVariants.{Set, Go, Drop, Header, Frame, Copies, Output}
+use Rattle.flow_table.specs.declared.flow.FlowOp.TheVariants.{Set, Header}
 use Rattle.ovn_base.proofs.ByNameLaws.{among_at}
 use Rattle.nb_records.specs.declared.switch.PortAddress.{PortAddress}
 use Rattle.nb_records.specs.declared.switch.Switch.{Switch}
@@ -40,12 +40,7 @@ use Rattle.physical_flows.proofs.OnceLaws.{once_by, once_parts, once_rising, onc
 abbrev first_value : List FlowOp → ℕ
 first_value [] = 0
 first_value (Set reg n ∷ ops) = n
-first_value (Go table ∷ ops) = 0
-first_value (Drop cause ∷ ops) = 0
-first_value (Header ∷ ops) = 0
-first_value (Frame chassis ∷ ops) = 0
-first_value (Copies members ∷ ops) = 0
-first_value (Output port ∷ ops) = 0
+first_value (_ ∷ ops) = 0
 
 abbrev second_value : List FlowOp → ℕ
 second_value [] = 0

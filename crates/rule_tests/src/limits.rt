@@ -1,14 +1,14 @@
 //! Widths of matches, and how many records there may be, each at its edge.
 
 use crate::lines::{answer, edit, name};
-use nb_rules::addresses::{LOOPBACK, NO_UNICAST, THIS_NETWORK};
 use nb_records::record::Record;
 use nb_records::records::Records;
 use nb_records::switch::{PortKind, Switch, SwitchPort};
+use nb_rules::addresses::{LOOPBACK, NO_UNICAST, THIS_NETWORK};
 use ovn_base::address::{Birth, Cidr, Ip4};
 use ovn_base::limits::{
-    MAX_ACLS, MAX_ARRIVALS, MAX_CHASSIS, MAX_CONNECTIONS, MAX_DATAPATHS, MAX_DEPTH, MAX_FRAME, MAX_HOPS, MAX_INPUT, MAX_LINE,
-    MAX_OPERATIONS, MAX_PORTS, MAX_WAITING, MAX_WIDTH, MIN_FRAME,
+    MAX_ACLS, MAX_ARRIVALS, MAX_CHASSIS, MAX_CONNECTIONS, MAX_DATAPATHS, MAX_DEPTH, MAX_FRAME,
+    MAX_HOPS, MAX_INPUT, MAX_LINE, MAX_OPERATIONS, MAX_PORTS, MAX_WAITING, MAX_WIDTH, MIN_FRAME,
 };
 use ovn_base::list::List;
 use ovn_base::memory::NoMemory;
@@ -147,8 +147,14 @@ fn ports_have_a_limit(rt: HostRuntime) -> Result<(), Fail> {
 // The limits are those of the description.
 #[test]
 fn limits_are_as_described(rt: HostRuntime) -> Result<(), Fail> {
-    assert_eq!(rt; (MAX_DATAPATHS, MAX_PORTS, MAX_CHASSIS, MAX_ACLS), (1024, 10000, 64, 16384));
-    assert_eq!(rt; (MAX_OPERATIONS, MAX_WAITING, MAX_ARRIVALS, MAX_CONNECTIONS), (64, 65536, 65536, 65536));
+    assert_eq!(rt;
+        (MAX_DATAPATHS, MAX_PORTS, MAX_CHASSIS, MAX_ACLS),
+        (1024, 10000, 64, 16384)
+    );
+    assert_eq!(rt;
+        (MAX_OPERATIONS, MAX_WAITING, MAX_ARRIVALS, MAX_CONNECTIONS),
+        (64, 65536, 65536, 65536)
+    );
     assert_eq!(rt; (MAX_HOPS, MAX_DEPTH, MAX_WIDTH), (64, 64, 65536));
     assert_eq!(rt; (MAX_LINE, MAX_INPUT), (1048576, 1099511627776));
     assert_eq!(rt; (MIN_FRAME, MAX_FRAME), (14, 9216));
@@ -158,8 +164,26 @@ fn limits_are_as_described(rt: HostRuntime) -> Result<(), Fail> {
 // No address of a router or a neighbour lies in 0.0.0.0/8, 127.0.0.0/8 or 224.0.0.0/3.
 #[test]
 fn special_ranges_are_as_described(rt: HostRuntime) -> Result<(), Fail> {
-    assert!(rt; THIS_NETWORK == Cidr { addr: Ip4(0), len: 8 });
-    assert!(rt; LOOPBACK == Cidr { addr: Ip4(2130706432), len: 8 });
-    assert!(rt; NO_UNICAST == Cidr { addr: Ip4(3758096384), len: 3 });
+    assert!(rt;
+        THIS_NETWORK
+            == Cidr {
+                addr: Ip4(0),
+                len: 8
+            }
+    );
+    assert!(rt;
+        LOOPBACK
+            == Cidr {
+                addr: Ip4(2130706432),
+                len: 8
+            }
+    );
+    assert!(rt;
+        NO_UNICAST
+            == Cidr {
+                addr: Ip4(3758096384),
+                len: 3
+            }
+    );
     Ok(())
 }

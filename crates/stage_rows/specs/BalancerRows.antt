@@ -12,8 +12,8 @@ use Rattle.nb_records.specs.declared.balancer.Vip.{Vip}
 use Rattle.ovn_base.specs.declared.address.Backend.{Backend}
 use Rattle.logical_flows.specs.declared.action.Action.{Action}
 use Rattle.logical_flows.specs.declared.action.Action.TheVariants as a
-use Rattle.logical_flows.specs.declared.action.ZoneOf.{ZoneOf}
-use Rattle.logical_flows.specs.declared.action.ZoneOf.TheVariants as zone
+use Rattle.flow_table.specs.declared.flow.ZoneOf.{ZoneOf}
+use Rattle.flow_table.specs.declared.flow.ZoneOf.TheVariants as zone
 use Rattle.logical_flows.specs.declared.flow.LFlow.{LFlow}
 use Rattle.logical_flows.specs.declared.stage.Stage.TheVariants as stage
 use Rattle.stage_rows.specs.Rows.{reg_is, is_new, field_is, ip_is, tracked_row, go_on}

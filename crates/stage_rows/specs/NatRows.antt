@@ -4,7 +4,7 @@ use Rattle.flow_table.specs.declared.flow.Cause.TheVariants as cause
 use Rattle.match_language.specs.declared.field.Field.TheVariants as f
 use Rattle.nb_records.specs.declared.router.Nat.{Nat}
 use Rattle.logical_flows.specs.declared.action.Action.TheVariants as a
-use Rattle.logical_flows.specs.declared.action.ZoneOf.TheVariants as zone
+use Rattle.flow_table.specs.declared.flow.ZoneOf.TheVariants as zone
 use Rattle.logical_flows.specs.declared.flow.LFlow.{LFlow}
 use Rattle.logical_flows.specs.declared.stage.Stage.TheVariants as stage
 use Rattle.stage_rows.specs.Rows.{ip_is, ip_in, is_new, is_invalid, tracked_row, go_on}

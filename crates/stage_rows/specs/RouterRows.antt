@@ -16,7 +16,7 @@ use Rattle.nb_records.specs.declared.router.Route.{Route}
 use Rattle.nb_records.specs.declared.router.RouterPort.{RouterPort}
 use Rattle.logical_flows.specs.declared.action.Action.{Action}
 use Rattle.logical_flows.specs.declared.action.Action.TheVariants as a
-use Rattle.logical_flows.specs.declared.action.ZoneOf.TheVariants as zone
+use Rattle.flow_table.specs.declared.flow.ZoneOf.TheVariants as zone
 use Rattle.logical_flows.specs.declared.flow.LFlow.{LFlow}
 use Rattle.logical_flows.specs.declared.stage.Stage.TheVariants as stage
 use Rattle.stage_rows.specs.Facts.{own_ips, answered_ips}

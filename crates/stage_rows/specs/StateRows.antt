@@ -4,7 +4,7 @@ use Rattle.flow_table.specs.declared.flow.Cause.TheVariants as cause
 use Rattle.inet_packet.specs.declared.regs.Reg.TheVariants as reg
 use Rattle.logical_flows.specs.declared.action.Action.{Action}
 use Rattle.logical_flows.specs.declared.action.Action.TheVariants as a
-use Rattle.logical_flows.specs.declared.action.ZoneOf.{ZoneOf}
+use Rattle.flow_table.specs.declared.flow.ZoneOf.{ZoneOf}
 use Rattle.logical_flows.specs.declared.flow.LFlow.{LFlow}
 use Rattle.logical_flows.specs.declared.flow.RegIs.{RegIs}
 use Rattle.logical_flows.specs.declared.stage.Stage.{Stage}

@@ -18,7 +18,7 @@ use Rattle.nb_records.specs.declared.switch.SecurityEntry.{SecurityEntry}
 use Rattle.nb_records.specs.declared.switch.SwitchPort.{SwitchPort}
 use Rattle.logical_flows.specs.declared.action.Action.{Action}
 use Rattle.logical_flows.specs.declared.action.Action.TheVariants as a
-use Rattle.logical_flows.specs.declared.action.ZoneOf.TheVariants as zone
+use Rattle.flow_table.specs.declared.flow.ZoneOf.TheVariants as zone
 use Rattle.logical_flows.specs.declared.flow.LFlow.{LFlow}
 use Rattle.logical_flows.specs.declared.stage.Stage.TheVariants as stage
 use Rattle.std.specs.List.{list_any}

@@ -22,7 +22,7 @@ use Rattle.nb_records.specs.declared.router.RouterPort.{RouterPort}
 use Rattle.nb_records.specs.declared.rule.Acl.{Acl}
 use Rattle.nb_records.specs.declared.switch.Switch.{Switch}
 use Rattle.nb_records.specs.declared.switch.SwitchPort.{SwitchPort}
-use Rattle.logical_flows.specs.declared.action.ZoneOf.TheVariants as zone
+use Rattle.flow_table.specs.declared.flow.ZoneOf.TheVariants as zone
 use Rattle.logical_flows.specs.declared.flow.LFlow.{LFlow}
 use Rattle.logical_flows.specs.declared.stage.Stage.{Stage}
 use Rattle.logical_flows.specs.declared.stage.Stage.TheVariants as stage

@@ -31,6 +31,7 @@ rises_sets table Header h = tt
 rises_sets table (Frame chassis) h = tt
 rises_sets table (Copies members) h = tt
 rises_sets table (Output port) h = tt
+rises_sets table _ h = absurd h
 
 -- nor does a proper flow
 pub proper_sets : (flow : Flow) → IsProperFlow flow → AllByRecursion Sets flow.ops
@@ -75,6 +76,7 @@ module _ (entry : Entry) (now : ℕ) (e : IsEntry entry) where
   effects_framed (Frame chassis ∷ ops) copy h k = ((k.vni, k.in_key), effects_framed ops copy h.1 k)
   effects_framed (Copies members ∷ ops) copy h k = effects_framed ops copy h.1 k
   effects_framed (Output port ∷ ops) copy h k = (tt, effects_framed ops copy h.1 k)
+  effects_framed (_ ∷ ops) copy h k = tt
 
   itself_keyed : (ops : List FlowOp) (copy : Carried) → AllByRecursion Sets ops → IsKeyed copy → AllByRecursion IsKeyed (outcome entry now ops copy).itself
   itself_keyed [] copy h k = tt
@@ -85,6 +87,7 @@ module _ (entry : Entry) (now : ℕ) (e : IsEntry entry) where
   itself_keyed (Frame chassis ∷ ops) copy h k = itself_keyed ops copy h.1 k
   itself_keyed (Copies members ∷ ops) copy h k = itself_keyed ops copy h.1 k
   itself_keyed (Output port ∷ ops) copy h k = itself_keyed ops copy h.1 k
+  itself_keyed (_ ∷ ops) copy h k = tt
 
   made_keyed : (ops : List FlowOp) (copy : Carried) → AllByRecursion Sets ops → IsKeyed copy → AllByRecursion IsKeyed (outcome entry now ops copy).made
   made_keyed [] copy h k = tt
@@ -96,6 +99,7 @@ module _ (entry : Entry) (now : ℕ) (e : IsEntry entry) where
   made_keyed (Copies members ∷ ops) copy h k =
       all_append IsKeyed (copies_for copy members) (outcome entry now ops copy).made (all_map IsKeyed (copy_for copy) (λ member. record { vni = k.vni; in_key = k.in_key }) _) (made_keyed ops copy h.1 k)
   made_keyed (Output port ∷ ops) copy h k = made_keyed ops copy h.1 k
+  made_keyed (_ ∷ ops) copy h k = tt
 
 stray_is : (entry : Entry) (copy : Carried) → IsFramed (stray entry copy)
 stray_is (Vif port) copy = tt

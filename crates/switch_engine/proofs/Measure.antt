@@ -44,6 +44,7 @@ itself_later entry now table (Header ∷ ops) copy h = itself_later entry now ta
 itself_later entry now table (Frame chassis ∷ ops) copy h = itself_later entry now table ops copy h.1
 itself_later entry now table (Copies members ∷ ops) copy h = itself_later entry now table ops copy h.1
 itself_later entry now table (Output port ∷ ops) copy h = itself_later entry now table ops copy h.1
+itself_later entry now table (_ ∷ ops) copy h = tt
 
 made_later : (entry : Entry) (now : ℕ) (table : ℕ) (ops : List FlowOp) (copy : Carried) → AllByRecursion (Rises table) ops → AllByRecursion (Later table) (outcome entry now ops copy).made
 made_later entry now table [] copy h = tt
@@ -55,6 +56,7 @@ made_later entry now table (Frame chassis ∷ ops) copy h = made_later entry now
 made_later entry now table (Copies members ∷ ops) copy h =
     all_append (Later table) (copies_for copy members) (outcome entry now ops copy).made (all_map (Later table) (copy_for copy) (λ member. h.0) _) (made_later entry now table ops copy h.1)
 made_later entry now table (Output port ∷ ops) copy h = made_later entry now table ops copy h.1
+made_later entry now table (_ ∷ ops) copy h = tt
 
 -- what a proper flow brings on has less left than the copy
 abbrev Less : Carried → Carried → Type 0
@@ -87,6 +89,7 @@ brings (Header ∷ ops) = brings ops
 brings (Frame chassis ∷ ops) = brings ops
 brings (Copies members ∷ ops) = length members + brings ops
 brings (Output port ∷ ops) = brings ops
+brings (_ ∷ ops) = 1
 
 itself_few : (entry : Entry) (now : ℕ) (ops : List FlowOp) (copy : Carried) → length (outcome entry now ops copy).itself ≤ 1
 itself_few entry now [] copy = omega arith
@@ -97,6 +100,7 @@ itself_few entry now (Header ∷ ops) copy = itself_few entry now ops (record co
 itself_few entry now (Frame chassis ∷ ops) copy = itself_few entry now ops copy
 itself_few entry now (Copies members ∷ ops) copy = itself_few entry now ops copy
 itself_few entry now (Output port ∷ ops) copy = itself_few entry now ops copy
+itself_few entry now (_ ∷ ops) copy = omega arith
 
 no_more : {X : Type 0} (test : X → Bool) (xs : List X) → length (filter test xs) ≤ length xs
 no_more test xs = omega (arith, length-filter test xs, count_by-le-length test xs)
@@ -117,6 +121,7 @@ made_few entry now (Copies members ∷ ops) copy =
     let ih : length others + 1 ≤ brings ops = made_few entry now ops copy in
     omega arith
 made_few entry now (Output port ∷ ops) copy = made_few entry now ops copy
+made_few entry now (_ ∷ ops) copy = omega arith
 
 -- at most as many go on as actions may bring on
 pub brings_few : (entry : Entry) (now : ℕ) (ops : List FlowOp) (copy : Carried) → length (going_on (outcome entry now ops copy)) ≤ brings ops

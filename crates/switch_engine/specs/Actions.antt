@@ -84,7 +84,7 @@ abbrev pub with_made : List Carried → FlowOutcome → FlowOutcome
 with_made copies outcome = record outcome { made = copies ++ outcome.made }
 
 -- what the actions bring on for a copy at a time: they are done in order, up to one that drops it or goes on at a table. No action reads
--- the time yet.
+-- the time yet. Those on connections, addresses and headers stand in no proper flow yet, and none is done.
 abbrev pub outcome : Entry → ℕ → List FlowOp → Carried → FlowOutcome
 outcome entry now [] copy = record { effects = []; itself = []; made = [] }
 outcome entry now (Set reg n ∷ ops) copy = outcome entry now ops (record copy { regs = set_reg reg n copy.regs })
@@ -94,3 +94,4 @@ outcome entry now (Header ∷ ops) copy = outcome entry now ops (record copy { r
 outcome entry now (Frame chassis ∷ ops) copy = with_effect (frame_to chassis copy) (outcome entry now ops copy)
 outcome entry now (Copies members ∷ ops) copy = with_made (copies_for copy members) (outcome entry now ops copy)
 outcome entry now (Output port ∷ ops) copy = with_effect (effect.Out port copy.packet) (outcome entry now ops copy)
+outcome entry now (_ ∷ ops) copy = record { effects = []; itself = []; made = [] }

@@ -81,7 +81,7 @@ pub record CanBeSet (reg : Reg) (n : ℕ) : Type 0 where
   pub of_port : reg ≡ InPort → n < FLOOD_KEY
 
 -- an action that may stand in a flow of the table: it sets what can be set, and goes on at later tables alone; copies, which
--- go on at table 34, are made before it
+-- go on at table 34, are made before it. No action on connections, addresses or headers may stand in a flow yet.
 abbrev pub Rises : ℕ → FlowOp → Type 0
 Rises table (Set reg n) = CanBeSet reg n
 Rises table (Go next) = table < next
@@ -90,6 +90,7 @@ Rises table Header = Unit {0}
 Rises table (Frame chassis) = Unit {0}
 Rises table (Copies members) = table < LOOPBACK_TABLE
 Rises table (Output port) = Unit {0}
+Rises table _ = ⊥
 
 -- an action that sets no register beyond what can be set in it
 abbrev pub Sets : FlowOp → Type 0
@@ -100,6 +101,7 @@ Sets Header = Unit {0}
 Sets (Frame chassis) = Unit {0}
 Sets (Copies members) = Unit {0}
 Sets (Output port) = Unit {0}
+Sets _ = ⊥
 
 -- a flow that matches the register whole, sets it to a greater number, goes on at its own table and does nothing else
 pub record Raises (flow : Flow) (reg : Reg) (n : ℕ) : Type 0 where

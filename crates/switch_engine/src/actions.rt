@@ -165,6 +165,7 @@ pub(crate) fn run_ops(
                 port: *port,
                 packet: copy.packet.copy()?,
             })?,
+            _ => return Ok(None),
         }
     }
     Ok(None)
