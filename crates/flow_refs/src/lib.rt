@@ -7,7 +7,5 @@ pub mod patch;
 mod placing;
 mod putting;
 pub mod shared;
-#[cfg(test)]
-mod tests;
 
 pub use ovn_base::delta::Delta;

@@ -11,7 +11,5 @@ pub mod print_flow;
 pub mod print_match;
 pub mod stage;
 pub mod stage_unit;
-#[cfg(test)]
-mod tests;
 pub mod unit;
 mod words;

@@ -5,5 +5,3 @@ pub mod crossing;
 pub mod hops;
 pub mod laws;
 pub mod neighbours;
-#[cfg(test)]
-mod tests;

@@ -1,8 +1,9 @@
+//! What is held, and what comes and goes.
 ghost use Rattle.std.specs.Prelude.{◌≡◌, false, IfOk};
 ghost use Rattle.std.specs.Ordering.{eq_by_cmp, nat_cmp};
 ghost use Rattle.flow_refs.specs.Origins.{IsEachOnce};
 
-use crate::shared::Shared;
+use flow_refs::shared::Shared;
 use ovn_base::delta::Delta;
 use ovn_base::list::List;
 use ovn_base::memory::NoMemory;

@@ -1,9 +1,10 @@
-use crate::hops::{Hop, route};
-use crate::neighbours::neighbour;
+//! Next hops and neighbours of a router's port.
 use nb_records::record::Record;
 use nb_records::records::Records;
 use nb_records::router::{Route, RouterPort, StaticMac};
 use nb_records::switch::{PortAddress, PortKind, SwitchPort};
+use net_model::hops::{Hop, route};
+use net_model::neighbours::neighbour;
 use ovn_base::address::{Birth, Cidr, Ip4, Mac};
 use ovn_base::list::List;
 use ovn_base::memory::NoMemory;

@@ -2,7 +2,7 @@ use Rattle.std.proofs.Common.{◌≡◌, ◌∙◌, ℕ, sym, ap, subst, List, [
 use Rattle.std.specs.Ordering.{nat_cmp}
 use Rattle.flow_refs.specs.Origins.{IsEachOnce}
 use Rattle.flow_refs.proofs.ForCallers.{two_once}
-use Rattle.flow_refs.proofs.tests.two.Goals as goal
+use Rattle.store_tests.proofs.tests.two.Goals as goal
 
 pub returns : goal.returns
 returns c =

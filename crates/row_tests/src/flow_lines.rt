@@ -1,10 +1,10 @@
 //! Lines of flows are as the formats of the tables write them.
-use crate::action::{Action, ZoneOf};
-use crate::flow::{LFlow, RegIs};
-use crate::print_flow::print_flow;
-use crate::stage::Stage;
 use flow_table::flow::Cause;
 use inet_packet::regs::Reg;
+use logical_flows::action::{Action, ZoneOf};
+use logical_flows::flow::{LFlow, RegIs};
+use logical_flows::print_flow::print_flow;
+use logical_flows::stage::Stage;
 use match_language::field::Direction;
 use match_language::reader::parse;
 use ovn_base::address::{Backend, Ip4, Mac};
