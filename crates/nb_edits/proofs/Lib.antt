@@ -1,4 +1,9 @@
 -- Lemmas.
 pub mod Outports
+pub mod DirectionLaws
+pub mod OwnerLaws
 pub mod OwnerLists
 pub mod MarkLists
+pub mod KindLists
+pub mod KeyEdits
+pub mod EditValidity

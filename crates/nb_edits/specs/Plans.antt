@@ -4,7 +4,7 @@ use Rattle.nb_records.specs.Editing.{accepted}
 use Rattle.nb_records.specs.Network.{Network}
 use Rattle.nb_records.specs.declared.change.Op.{Op}
 use Rattle.nb_rules.specs.declared.fault.SchemaFault.{SchemaFault}
-use Rattle.nb_edits.specs.Comings.{new_owners}
+use Rattle.net_model.specs.Owners.{owners_only_in}
 use Rattle.nb_edits.specs.OpFaults.{fault_of}
 use Rattle.nb_edits.specs.declared.plan.EditFault.{EditFault}
 use Rattle.nb_edits.specs.declared.plan.EditFault.TheVariants as failed
@@ -18,8 +18,8 @@ Refuses (failed.Schema f) fault = fault ≡ Some f
 -- the plan stands for the records after: with the datapaths and ports that come and go by it
 pub record StandsFor (net next : Network) (plan : EditPlan) : Type 0 where
   pub after : plan.after ≡ next
-  pub added : plan.added ≡ new_owners net next
-  pub removed : plan.removed ≡ new_owners next net
+  pub added : plan.added ≡ owners_only_in next net
+  pub removed : plan.removed ≡ owners_only_in net next
 
 -- an edit is planned where it has no fault, and else its first fault is told
 abbrev pub Plans : Result EditPlan EditFault → Network → List Op → ℕ → Type 0

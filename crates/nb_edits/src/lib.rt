@@ -5,6 +5,7 @@ mod born;
 mod change;
 mod direction;
 pub mod edit;
+pub mod laws;
 mod marks;
 mod operate;
 mod owners;

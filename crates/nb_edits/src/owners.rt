@@ -2,7 +2,8 @@
 ghost use Rattle.std.specs.Prelude.{◌≡◌, ◌==◌, ◌&&◌, ◌++◌, [], ◌∷◌, map, IfOk, OnOk};
 ghost use Rattle.ovn_base.specs.names.ByName.{at};
 ghost use Rattle.ovn_base.specs.names.SameName.{same_name};
-ghost use Rattle.nb_edits.specs.Comings as spec;
+ghost use Rattle.net_model.specs.Owners.{owners_only_in, switch_owner, router_owner, router_port_owner, switch_port_owner};
+ghost use Rattle.nb_edits.specs.Owners as spec;
 
 use nb_records::records::Records;
 use ovn_base::list::List;
@@ -81,7 +82,7 @@ fn push_switches(
     other: &Records,
     owners: &mut List<KeyOwner>,
 ) -> Result<(), NoMemory>
-    ensures { OnOk result (owners.new ≡ owners.old ++ spec.only_in records.now (map spec.switch_owner other.now.switches)) }
+    ensures { OnOk result (owners.new ≡ owners.old ++ spec.only_in records.now (map switch_owner other.now.switches)) }
 {
     'switches: for (name, switch) in other.switches() {
         let owner = KeyOwner::Datapath {
@@ -98,7 +99,7 @@ fn push_routers(
     other: &Records,
     owners: &mut List<KeyOwner>,
 ) -> Result<(), NoMemory>
-    ensures { OnOk result (owners.new ≡ owners.old ++ spec.only_in records.now (map spec.router_owner other.now.routers)) }
+    ensures { OnOk result (owners.new ≡ owners.old ++ spec.only_in records.now (map router_owner other.now.routers)) }
 {
     'routers: for (name, router) in other.routers() {
         let owner = KeyOwner::Datapath {
@@ -115,7 +116,7 @@ fn push_router_ports(
     other: &Records,
     owners: &mut List<KeyOwner>,
 ) -> Result<(), NoMemory>
-    ensures { OnOk result (owners.new ≡ owners.old ++ spec.only_in records.now (map spec.router_port_owner other.now.router_ports)) }
+    ensures { OnOk result (owners.new ≡ owners.old ++ spec.only_in records.now (map router_port_owner other.now.router_ports)) }
 {
     'ports: for (name, port) in other.router_ports() {
         let owner = KeyOwner::Port {
@@ -133,7 +134,7 @@ fn push_switch_ports(
     other: &Records,
     owners: &mut List<KeyOwner>,
 ) -> Result<(), NoMemory>
-    ensures { OnOk result (owners.new ≡ owners.old ++ spec.only_in records.now (map spec.switch_port_owner other.now.switch_ports)) }
+    ensures { OnOk result (owners.new ≡ owners.old ++ spec.only_in records.now (map switch_port_owner other.now.switch_ports)) }
 {
     'ports: for (name, port) in other.switch_ports() {
         let owner = KeyOwner::Port {
@@ -147,14 +148,15 @@ fn push_switch_ports(
 }
 
 /// The datapaths and ports of the other records that these don't have.
-#[tactic(auto, using(crate::proofs::OwnerLists::only_in_all))]
+#[tactic(auto, using(crate::proofs::OwnerLists::only_in_each, crate::proofs::OwnerLists::only_in_is))]
 pub(crate) fn new_owners(
     alloc: Global,
     records: &Records,
     other: &Records,
 ) -> Result<List<KeyOwner>, NoMemory>
-    ensures { IfOk result (λ l. l ≡ spec.new_owners records.now other.now) }
+    ensures { IfOk result (λ l. l ≡ owners_only_in other.now records.now) }
 {
+    records.hold();
     let mut owners = List::new(alloc);
     push_switches(records, other, &mut owners)?;
     push_routers(records, other, &mut owners)?;
