@@ -1,8 +1,11 @@
 //! Widths of matches, and how many records there may be, each at its edge.
 
 use crate::lines::{answer, edit, name};
+use match_language::expr::Expr;
+use match_language::field::Direction;
 use nb_records::record::Record;
 use nb_records::records::Records;
+use nb_records::rule::{Acl, RuleAction};
 use nb_records::switch::{PortKind, Switch, SwitchPort};
 use nb_rules::addresses::{LOOPBACK, NO_UNICAST, THIS_NETWORK};
 use ovn_base::address::{Birth, Cidr, Ip4};
@@ -141,6 +144,45 @@ fn ports_have_a_limit(rt: HostRuntime) -> Result<(), Fail> {
     )?;
     assert_eq!(rt; last.as_str(), "ok");
     assert_eq!(rt; more.as_str(), "Limit port");
+    Ok(())
+}
+
+// So many rules of one switch, each for all packets.
+fn rules(alloc: Global, count: u32) -> Result<Records, NoMemory> {
+    let mut records = switches(alloc, 1)?;
+    for number in 0..count {
+        records.put(Record::Acl(Acl {
+            name: numbered(alloc, "a", number)?,
+            birth: Birth(1),
+            switch: Some(name("s0")?),
+            port_group: None,
+            direction: Direction::ToLport,
+            priority: 1,
+            matching: Expr::Const(true),
+            action: RuleAction::Drop,
+        }))?;
+    }
+    Ok(records)
+}
+
+#[test]
+fn rules_have_a_limit(rt: HostRuntime) -> Result<(), Fail> {
+    let alloc = rt.alloc();
+    let mut records = rules(alloc, 16383)?;
+    let last = edit(
+        alloc,
+        &mut records,
+        r#"{"add":"acl","name":"one","switch":"s0","direction":"from-lport","priority":1,"match":"1","action":"allow"}"#,
+        2,
+    )?;
+    let more = edit(
+        alloc,
+        &mut records,
+        r#"{"add":"acl","name":"two","switch":"s0","direction":"from-lport","priority":1,"match":"1","action":"allow"}"#,
+        3,
+    )?;
+    assert_eq!(rt; last.as_str(), "ok");
+    assert_eq!(rt; more.as_str(), "Limit acl");
     Ok(())
 }
 
