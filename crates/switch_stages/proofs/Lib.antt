@@ -1,0 +1,7 @@
+-- Lemmas.
+pub mod InOrder
+pub mod Lists
+pub mod SwitchTests
+pub mod PortUnits
+pub mod Pushes
+pub mod SwitchUnits

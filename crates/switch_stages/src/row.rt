@@ -1,0 +1,119 @@
+//! Rows, and the actions of which they are made.
+ghost use Rattle.std.specs.Prelude.{◌≡◌, ◌++◌, ◌∷◌, [], IfOk, OnOk};
+ghost use Rattle.stage_rows.specs.Rows as spec;
+ghost use Rattle.stage_rows.specs.StateRows as states;
+
+use crate::terms::only;
+use flow_table::flow::Cause;
+use logical_flows::action::Action;
+use logical_flows::flow::{LFlow, RegIs};
+use logical_flows::stage::Stage;
+use match_language::expr::Expr;
+use ovn_base::list::List;
+use ovn_base::memory::NoMemory;
+use ovn_base::stages::REMOTE_TABLE;
+use stage_rows::rows::go_on;
+use std::alloc::Global;
+
+/// The action that goes on where the port or group has been found to which the packet goes.
+pub(crate) fn deliver() -> Action
+    ensures { result ≡ spec.deliver }
+{
+    Action::Go(REMOTE_TABLE)
+}
+
+// All of the terms hold.
+fn all_of(terms: List<Expr>) -> Expr
+    ensures { result ≡ spec.all_of terms }
+{
+    let mut terms = terms;
+    if terms.len() > 1 {
+        return Expr::All(terms);
+    }
+    match terms.pop() {
+        Some(term) => term,
+        None => Expr::Const(true),
+    }
+}
+
+/// A row of rank 0 that asks for registers and for all of the terms.
+pub(crate) fn tracked_row(
+    stage: Stage,
+    priority: u16,
+    regs: List<RegIs>,
+    terms: List<Expr>,
+    actions: List<Action>,
+) -> LFlow
+    ensures { result ≡ spec.tracked_row stage priority regs terms actions }
+{
+    LFlow {
+        pipeline: stage.pipeline(),
+        stage,
+        priority,
+        rank: 0,
+        regs,
+        matching: all_of(terms),
+        actions,
+    }
+}
+
+/// A row that asks for no register.
+pub(crate) fn match_row(
+    alloc: Global,
+    stage: Stage,
+    priority: u16,
+    terms: List<Expr>,
+    actions: List<Action>,
+) -> LFlow
+    ensures { result ≡ spec.match_row stage priority terms actions }
+{
+    tracked_row(stage, priority, List::new(alloc), terms, actions)
+}
+
+/// A row that asks for registers alone.
+pub(crate) fn state_row(
+    alloc: Global,
+    stage: Stage,
+    priority: u16,
+    regs: &[RegIs],
+    actions: List<Action>,
+) -> Result<LFlow, NoMemory>
+    ensures { IfOk result (λ r. r ≡ states.state_row stage priority regs.now actions) }
+{
+    let regs = List::from_slice(alloc, regs)?;
+    Ok(tracked_row(stage, priority, regs, List::new(alloc), actions))
+}
+
+/// A row that drops.
+pub(crate) fn drop_row(
+    alloc: Global,
+    stage: Stage,
+    priority: u16,
+    terms: List<Expr>,
+    cause: Cause,
+) -> Result<LFlow, NoMemory>
+    ensures { IfOk result (λ r. r ≡ spec.drop_row stage priority terms cause) }
+{
+    let actions = only(alloc, Action::Drop(cause))?;
+    Ok(match_row(alloc, stage, priority, terms, actions))
+}
+
+/// A row that goes on behind the stage.
+pub(crate) fn pass_row(
+    alloc: Global,
+    stage: Stage,
+    priority: u16,
+    terms: List<Expr>,
+) -> Result<LFlow, NoMemory>
+    ensures { IfOk result (λ r. r ≡ spec.pass_row stage priority terms) }
+{
+    let actions = only(alloc, go_on(stage))?;
+    Ok(match_row(alloc, stage, priority, terms, actions))
+}
+
+/// Adds the row of the stage that all packets pass where no other row matches.
+pub(crate) fn push_base(alloc: Global, stage: Stage, out: &mut List<LFlow>) -> Result<(), NoMemory>
+    ensures { OnOk result (out.new ≡ out.old ++ spec.base_row stage ∷ []) }
+{
+    out.push(pass_row(alloc, stage, 0, List::new(alloc))?)
+}
