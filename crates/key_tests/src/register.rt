@@ -13,8 +13,9 @@ use tunnel_keys::fault::KeyFault;
 use tunnel_keys::owner::KeyOwner;
 use tunnel_keys::store::KeyStore;
 
+/// A key store of which each owner is younger than those that came before.
 #[derive(Drop)]
-pub(crate) struct Register {
+pub struct Register {
     keys: KeyStore,
     last_birth: u64,
     last_port: Option<KeyOwner>,
@@ -32,12 +33,8 @@ impl Model for Register {
 }
 
 impl Register {
-    // No key, live or retired.
-    pub(crate) fn with_ranges(
-        alloc: Global,
-        datapaths: u32,
-        ports: u16,
-    ) -> Result<Register, NoMemory>
+    /// No key, live or retired.
+    pub fn with_ranges(alloc: Global, datapaths: u32, ports: u16) -> Result<Register, NoMemory>
         requires some_datapaths { 1 ≤ datapaths }
         requires few_datapaths { datapaths ≤ MAX_DATAPATH_KEY }
         requires some_ports { 1 ≤ ports }
@@ -50,13 +47,13 @@ impl Register {
         })
     }
 
-    // The keys.
-    pub(crate) fn keys(&self) -> &KeyStore {
+    /// The keys.
+    pub fn keys(&self) -> &KeyStore {
         &self.keys
     }
 
-    // A datapath comes. Where one of its name is there, that is answered as want of memory.
-    pub(crate) fn add_datapath(&mut self, name: Name) -> Result<(), KeyFault> {
+    /// A datapath comes. Where one of its name is there, that is answered as want of memory.
+    pub fn add_datapath(&mut self, name: Name) -> Result<(), KeyFault> {
         if self.keys.datapath(&name).is_some() || self.last_birth == u64::MAX {
             return Err(KeyFault::Memory);
         }
@@ -67,8 +64,8 @@ impl Register {
         Ok(())
     }
 
-    // A port comes. Where one of its name is there, or its datapath is not, that is answered as want of memory.
-    pub(crate) fn add_port(&mut self, datapath: Name, name: Name) -> Result<(), KeyFault> {
+    /// A port comes. Where one of its name is there, or its datapath is not, that is answered as want of memory.
+    pub fn add_port(&mut self, datapath: Name, name: Name) -> Result<(), KeyFault> {
         if self.keys.port(&name).is_some() || self.keys.datapath(&datapath).is_none() {
             return Err(KeyFault::Memory);
         }
@@ -88,8 +85,8 @@ impl Register {
         Ok(())
     }
 
-    // The port that came last goes. Where it did, that is answered as want of memory.
-    pub(crate) fn remove_last_port(&mut self) -> Result<(), KeyFault> {
+    /// The port that came last goes. Where it did, that is answered as want of memory.
+    pub fn remove_last_port(&mut self) -> Result<(), KeyFault> {
         let Some(owner) = self.last_port else {
             return Err(KeyFault::Memory);
         };
@@ -99,8 +96,8 @@ impl Register {
         Ok(())
     }
 
-    // Frees every retired key.
-    pub(crate) fn settle(&mut self) {
+    /// Frees every retired key.
+    pub fn settle(&mut self) {
         self.keys.settle();
     }
 }

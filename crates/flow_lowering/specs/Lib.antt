@@ -1,0 +1,4 @@
+-- Definitions that contracts cite.
+pub mod Registers
+pub mod LoweredFlows
+pub mod LoweringLaw
