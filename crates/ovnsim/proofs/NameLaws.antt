@@ -25,6 +25,7 @@ use Rattle.ovn_base.proofs.AmongLaws.{among_all, filter_among, flat_map_among, m
 use Rattle.ovn_base.proofs.ByNameLaws.{at_among}
 use Rattle.ovn_base.proofs.ByNameLaws as puts
 use Rattle.chassis_sim.proofs.UnderlayLaws.{all_found, all_left}
+use Rattle.conn_zones.specs.Zoning.{Zoned}
 use Rattle.inet_packet.specs.declared.packet.Packet as inet
 use Rattle.flow_table.specs.declared.flow.Cause.TheVariants.{Loopback}
 use Rattle.nb_records.specs.Network.{Network, with_record}
@@ -378,7 +379,7 @@ found : {X : Type 0} (o : Option X) (x y : Option Refusal) (cause : Refusal) →
 found None x y cause is h = absurd (none-some cause (sym h ∙ is))
 found (Some w) x y cause is h = (w, refl)
 
-does_named : (m : State) (zones : List (Name × ℕ)) → IsConsistent m zones → (event : Event) → IsAdmitted event → refusal m event ≡ None → (effects : List NetEffect) (after : State) → IsNamedState m → IsNamedEvent event → Does m event effects after
+does_named : (m : State) (zones : Zoned) → IsConsistent m zones → (event : Event) → IsAdmitted event → refusal m event ≡ None → (effects : List NetEffect) (after : State) → IsNamedState m → IsNamedEvent event → Does m event effects after
     → AreStepNamed effects after
 does_named m zones old (Edit ops) admitted allowed effects after named fine h =
     let owners = owners_of ops (event_count m + 1) in
@@ -435,7 +436,7 @@ finished_named : (m : State) → IsNamedState m → IsNamedState (finished m)
 finished_named m named = record { ports = named.ports; chassis = named.chassis; bindings = named.bindings; waiting = named.waiting; keys = settled_ranged m.waiting m.keys named.keys }
 
 -- the effects of a step are in names, and the state after it too
-pub step_named : (m : State) (zones : List (Name × ℕ)) → IsConsistent m zones → (event : Event) → IsAdmitted event → refusal m event ≡ None → (effects : List NetEffect) (after : State) → IsNamedState m → IsNamedEvent event
+pub step_named : (m : State) (zones : Zoned) → IsConsistent m zones → (event : Event) → IsAdmitted event → refusal m event ≡ None → (effects : List NetEffect) (after : State) → IsNamedState m → IsNamedEvent event
     → NetworkStep m event effects after → AreNamed effects × IsNamedState after
 step_named m zones old event admitted allowed effects after named fine h =
     let does = does_named m zones old event admitted allowed effects h.mid named fine h.does in

@@ -12,9 +12,10 @@ use Rattle.world_core.specs.Refusing.{refusal}
 use Rattle.world_core.specs.WorldView.{WorldView, IsSound}
 use Rattle.net_model.specs.State.{State, event_count}
 use Rattle.world_core.specs.Step as net
-use Rattle.world_core.specs.Zones.{zones_after}
+use Rattle.world_core.specs.Zones.{Rezones}
 use Rattle.world_core.proofs.OneStep.{step_with}
 use Rattle.world_core.proofs.OnePass.{same_walks}
+use Rattle.world_core.proofs.SameZones.{same_zones}
 use Rattle.world_core.proofs.EmptyWorld.{new_sound}
 use Rattle.ovnsim.specs.Runs.{Runs, RunsLines, Takes, accepts, refuses, IsTextOf, AreTexts}
 use Rattle.ovnsim.proofs.OneReading.{same_events}
@@ -41,7 +42,7 @@ takes_same one two event own their left more first other mid after sound also li
     let number : event_count one.state + 1 ≡ event_count two.state + 1 = ap (λ (s : State). event_count s + 1) like.state in
     record {
       texts = h.text ∙ (λ i. accepted_lines (number i) (step.effects_are i) (matched (walks i))) ∙ sym k.text;
-      like = record { state = step.state; zones = h.zones ∙ (λ i. zones_after (like.state i).config.bindings (like.zones i) event) ∙ sym k.zones };
+      like = record { state = step.state; zones = same_zones event two.zones mid.zones after.zones (subst (λ z. Rezones event z mid.zones) like.zones h.zones) k.zones };
       rest = step.rest;
     }
 takes_same one two event own their left more first other mid after sound also like (accepts h p) (refuses why k q) e =
@@ -71,7 +72,7 @@ runs_same one two (event ∷ events) picks others text other last end sound also
     let rest = runs_same h.mid k.mid events h.left k.left h.rest k.rest last end h.sound k.sound first.like first.rest h.others k.others in
     (h.whole ∙ ap (λ t. t ++ h.rest) first.texts ∙ ap (λ t. k.first ++ t) rest.0 ∙ sym k.whole, rest.1)
 
--- events and picks have one text, one last state, and one list of zones
+-- events and picks have one text, one last state, and the same zones at the end
 pub one_run : (events : List Event) (picks : List Pick) (text other : List ℕ) (last end : WorldView) → Runs new_world events picks text last → Runs new_world events picks other end
     → (text ≡ other) × (last.state ≡ end.state) × (last.zones ≡ end.zones)
 one_run events picks text other last end h k =

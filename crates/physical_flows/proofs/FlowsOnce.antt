@@ -8,7 +8,6 @@ use Rattle.std.proofs.lemmas.Bool.{false≢true, lt-ltb}
 use Rattle.std.proofs.lemmas.Option.{same_Some}
 use Rattle.ovn_base.specs.lists.Among.{Among}
 use Rattle.ovn_base.specs.addresses.EtherAddress.{same_ether}
-use Rattle.ovn_base.specs.declared.address.Mac.{Mac}
 use Rattle.ovn_base.specs.declared.name.Name.{Name}
 use Rattle.ovn_base.specs.names.SameName.{same_name}
 use Rattle.ovn_base.proofs.AmongLaws.{among_append, among_cases, among_none, among_all, map_among, flat_map_among}
@@ -29,10 +28,9 @@ use Rattle.physical_flows.specs.Numbers.{datapath_number, port_number}
 use Rattle.physical_flows.specs.Rows.{arrival_row, pass_row, address_row, remote_row, stay_row, return_row, leave_row, output_row}
 use Rattle.physical_flows.specs.Valid.{IsValid}
 use Rattle.physical_flows.specs.RecordKeys.{HaveKeys}
-use Rattle.physical_flows.specs.Stages.{Basis}
+use Rattle.physical_flows.specs.Stages.{Basis, zone_of}
 use Rattle.physical_flows.specs.TableList.{switch_rows, address_rows, port_rows, local_rows, local_part, bound_rows, switch_part, port_part, table_flows}
 use Rattle.physical_flows.proofs.KeyLaws.{of_number, datapaths_apart, ports_apart, port_fits}
-use Rattle.physical_flows.proofs.Macs.{listed_mac}
 use Rattle.physical_flows.proofs.OnceLaws.{once_by, once_parts, once_rising, once_keys, AreRising}
 
 -- ---- what a row tells
@@ -188,13 +186,13 @@ module _ (b : Basis) where
       → (dp : ℕ) × (key : ℕ) × (datapath ≡ Some dp) × (of ≡ Some key) × IsPortRow dp key f
   port_part_row q port None of small f m = absurd (among_none f m)
   port_part_row q port (Some dp) None small f m = absurd (among_none f m)
-  port_part_row q port (Some dp) (Some key) small f m = (dp, key, refl, refl, port_row dp key (small key refl) b.chassis (at b.bindings q) (at b.zones q) q port f m)
+  port_part_row q port (Some dp) (Some key) small f m = (dp, key, refl, refl, port_row dp key (small key refl) b.chassis (at b.bindings q) (zone_of b q) q port f m)
 
   once_port_part : (q : Name) (port : SwitchPort) (datapath of : Option ℕ) → ((key : ℕ) → of ≡ Some key → key < 2 ^ 15)
       → EachOnce (macs_in port.addresses) → EachOnce (port_part b q port datapath of)
   once_port_part q port None of small once = tt
   once_port_part q port (Some dp) None small once = tt
-  once_port_part q port (Some dp) (Some key) small once = once_port dp key (small key refl) b.chassis (at b.bindings q) (at b.zones q) q port once
+  once_port_part q port (Some dp) (Some key) small once = once_port dp key (small key refl) b.chassis (at b.bindings q) (zone_of b q) q port once
 
 module _ (b : Basis) (valid : IsValid b.net) (keys : HaveKeys b.net b.keys) where
   abbrev of_switch : Name × Switch → List Flow

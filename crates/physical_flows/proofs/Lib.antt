@@ -1,4 +1,5 @@
 -- Lemmas.
+pub mod BoundZones
 pub mod FlowsOnce
 pub mod FlowSearch
 pub mod KeyLaws

@@ -31,7 +31,7 @@ use Rattle.physical_flows.specs.Homes.{is_home, is_at, is_group_member, members}
 use Rattle.physical_flows.specs.Numbers.{port_number}
 use Rattle.physical_flows.specs.Valid.{IsValid}
 use Rattle.physical_flows.specs.RecordKeys.{HaveKeys}
-use Rattle.physical_flows.specs.Stages.{Basis, member_of, members_here, homes_of, has_unknown}
+use Rattle.physical_flows.specs.Stages.{Basis, zone_of, member_of, members_here, homes_of, has_unknown}
 use Rattle.physical_flows.specs.TableList.{ingress_rows, egress_rows, group_rows, switch_rows, is_record_in, group_among, here_among, bound_among, others_among}
 
 -- ---- names in order
@@ -170,12 +170,12 @@ module _ (b : Basis) (valid : IsValid b.net) (keys : HaveKeys b.net b.keys) (a :
     here_same [] numbers = refl
     here_same (e ∷ es) numbers = by (is_at b.bindings e.0 b.chassis) (here_same es (λ f m. numbers f (there m)))
       where
-        number : member_of b e.0 ≡ record { key = e.1; zone = unwrap_or (at b.zones e.0) 0 }
-        number = ap (λ o. record { key = unwrap_or o 0; zone = unwrap_or (at b.zones e.0) 0 }) (numbers e here)
+        number : member_of b e.0 ≡ record { key = e.1; zone = unwrap_or (zone_of b e.0) 0 }
+        number = ap (λ o. record { key = unwrap_or o 0; zone = unwrap_or (zone_of b e.0) 0 }) (numbers e here)
 
         by : (at_home : Bool) → map (λ q. member_of b q) (filter (λ q. is_at b.bindings q b.chassis) (keys_of es)) ≡ here_among b es
             → map (λ q. member_of b q) (cond at_home (e.0 ∷ filter (λ q. is_at b.bindings q b.chassis) (keys_of es)) (filter (λ q. is_at b.bindings q b.chassis) (keys_of es)))
-            ≡ map (λ f. record { key = f.1; zone = unwrap_or (at b.zones f.0) 0 }) (cond at_home (e ∷ filter (λ f. is_at b.bindings f.0 b.chassis) es) (filter (λ f. is_at b.bindings f.0 b.chassis) es))
+            ≡ map (λ f. record { key = f.1; zone = unwrap_or (zone_of b f.0) 0 }) (cond at_home (e ∷ filter (λ f. is_at b.bindings f.0 b.chassis) es) (filter (λ f. is_at b.bindings f.0 b.chassis) es))
         by true rest = λ i. number i ∷ rest i
         by false rest = rest
 

@@ -9,6 +9,7 @@ use Rattle.inet_packet.specs.declared.regs.Reg.TheVariants.{Dp, InPort, OutPort,
 use Rattle.flow_table.specs.declared.flow.Flow.{Flow}
 use Rattle.flow_table.specs.declared.flow.FlowOp.TheVariants.{Frame, Go}
 use Rattle.switch_engine.specs.Proper.{width, CanBeSet, Rises, IsProperFlow, IsProper}
+use Rattle.conn_zones.specs.Zoning.{Zoned}
 use Rattle.nb_records.specs.declared.switch.SwitchPort.{SwitchPort}
 use Rattle.physical_flows.specs.Rows.{entry_row, arrival_row, pass_row, bad_source_row, vlan_row, flood_row, address_row, unknown_ops, unknown_row, remote_row, spread_row, stay_row, home_row, copies_row, return_row, leave_row, output_row}
 use Rattle.net_model.specs.State as state
@@ -17,19 +18,20 @@ use Rattle.physical_flows.specs.Bindings.{AreBound}
 use Rattle.physical_flows.specs.ChassisFlows.{AreExactly, basis_at}
 use Rattle.physical_flows.specs.Stages.{Basis, IsDatapath, IsPort, IsHere, members_here, homes_of, has_unknown, EntryRow, AdmitRow, PortSecRow, TrackRow, AclInRow, StateInRow, ArpRow, LookupRow, RemoteRow, HomeRow, ReturnRow, TrackOutRow, AclOutRow, StateOutRow, SecOutRow, OutputRow}
 use Rattle.physical_flows.specs.Tables.{TableFlow}
+use Rattle.physical_flows.proofs.BoundZones.{zone_fits}
 use Rattle.physical_flows.proofs.KeyLaws.{datapath_fits, port_fits}
 
 -- ---- numbers in range
 
-module _ (m : state.State) (zones : List (Name × ℕ)) (c : Name) where
-  pub datapath_in_range : HaveKeys m.config.net m.keys → (a : Name) (dp : ℕ) → IsDatapath (basis_at m zones c) a dp → dp < 2 ^ 24
+module _ (m : state.State) (zones : Zoned) (c : Name) where
+  pub datapath_in_range : HaveKeys m.config.net m.keys → (a : Name) (dp : ℕ) → IsDatapath (basis_at m zones.numbers c) a dp → dp < 2 ^ 24
   datapath_in_range keys a dp on = subst (λ n. n < 2 ^ 24) on.number (datapath_fits m.config.net m.keys keys a on.live on.has).1
 
-  pub port_in_range : HaveKeys m.config.net m.keys → (q : Name) (port : SwitchPort) (dp key : ℕ) → IsPort (basis_at m zones c) q port dp key → key < 2 ^ 15
+  pub port_in_range : HaveKeys m.config.net m.keys → (q : Name) (port : SwitchPort) (dp key : ℕ) → IsPort (basis_at m zones.numbers c) q port dp key → key < 2 ^ 15
   port_in_range keys q port dp key of = subst (λ n. n < 2 ^ 15) of.number (port_fits m.config.net m.keys keys q of.live of.has).1
 
-  pub zone_in_range : AreBound m zones → (q : Name) (zone : ℕ) → IsHere (basis_at m zones c) q zone → zone < 2 ^ 16
-  zone_in_range bound q zone home = (bound.zone_fits q zone home.zoned).1
+  pub zone_in_range : AreBound m.config zones → (q : Name) (zone : ℕ) → IsHere (basis_at m zones.numbers c) q zone → zone < 2 ^ 16
+  zone_in_range bound q zone home = zone_fits m.config zones bound c q zone home.zoned
 
 -- ---- registers that can be set
 
@@ -59,9 +61,9 @@ spread_rises : (homes : List Name) → AllByRecursion (Rises 32) (map (λ home. 
 spread_rises [] = (omega arith, tt)
 spread_rises (home ∷ homes) = (tt, spread_rises homes)
 
-module _ (m : state.State) (zones : List (Name × ℕ)) (c : Name) (keys : HaveKeys m.config.net m.keys) (bound : AreBound m zones) (f : Flow) where
+module _ (m : state.State) (zones : Zoned) (c : Name) (keys : HaveKeys m.config.net m.keys) (bound : AreBound m.config zones) (f : Flow) where
   abbrev b : Basis
-  b = basis_at m zones c
+  b = basis_at m zones.numbers c
 
   pass_proper : (dp table next : ℕ) → table < next → f ≡ pass_row dp table next → IsProperFlow f
   pass_proper dp table next later e = row_proper f (pass_row dp table next) e (later, tt)
@@ -119,5 +121,5 @@ module _ (m : state.State) (zones : List (Name × ℕ)) (c : Name) (keys : HaveK
   flow_proper (TableFlow.in_output (OutputRow.output q port dp key of e)) = row_proper f (output_row dp q key) e (tt, tt)
 
 -- each number lies within its register, and each flow goes on at later tables
-pub proper : (m : state.State) (zones : List (Name × ℕ)) (flows : List Flow) (c : Name) → HaveKeys m.config.net m.keys → AreBound m zones → AreExactly (TableFlow (basis_at m zones c)) flows → IsProper flows
+pub proper : (m : state.State) (zones : Zoned) (flows : List Flow) (c : Name) → HaveKeys m.config.net m.keys → AreBound m.config zones → AreExactly (TableFlow (basis_at m zones.numbers c)) flows → IsProper flows
 proper m zones flows c keys bound exact f among = flow_proper m zones c keys bound f ((exact.same f).0 among)

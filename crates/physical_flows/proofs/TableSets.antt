@@ -23,7 +23,7 @@ use Rattle.physical_flows.specs.Rows.{entry_row, arrival_row, pass_row, bad_sour
 use Rattle.physical_flows.specs.Valid.{IsValid}
 use Rattle.physical_flows.specs.RecordKeys.{HaveKeys}
 use Rattle.physical_flows.specs.ChassisFlows.{AreExactly}
-use Rattle.physical_flows.specs.Stages.{Basis, IsDatapath, IsPort, IsHere, members_here, homes_of, has_unknown, EntryRow, AdmitRow, PortSecRow, TrackRow, AclInRow, StateInRow, ArpRow, LookupRow, RemoteRow, HomeRow, ReturnRow, TrackOutRow, AclOutRow, StateOutRow, SecOutRow, OutputRow}
+use Rattle.physical_flows.specs.Stages.{Basis, zone_of, IsDatapath, IsPort, IsHere, members_here, homes_of, has_unknown, EntryRow, AdmitRow, PortSecRow, TrackRow, AclInRow, StateInRow, ArpRow, LookupRow, RemoteRow, HomeRow, ReturnRow, TrackOutRow, AclOutRow, StateOutRow, SecOutRow, OutputRow}
 use Rattle.physical_flows.specs.TableList.{ingress_rows, egress_rows, group_rows, switch_rows, switch_part, port_rows, local_rows, local_part, bound_rows, port_part, table_flows}
 use Rattle.physical_flows.specs.Tables.{TableFlow}
 use Rattle.physical_flows.proofs.FlowSearch.{some_of}
@@ -51,7 +51,7 @@ module _ (b : Basis) (q : Name) (port : SwitchPort) (dp key : ℕ) (on : IsPort 
     ]
   ]
 
-  in_local : (number : Option ℕ) → at b.zones q ≡ number → at b.bindings q ≡ Some b.chassis → Among f (local_part number dp q key) → TableFlow b f
+  in_local : (number : Option ℕ) → zone_of b q ≡ number → at b.bindings q ≡ Some b.chassis → Among f (local_part number dp q key) → TableFlow b f
   in_local None zoned bound m = absurd (among_none f m)
   in_local (Some zone) zoned bound m =
       let home : IsHere b q zone = record { bound = bound; zoned = zoned } in
@@ -64,12 +64,12 @@ module _ (b : Basis) (q : Name) (port : SwitchPort) (dp key : ℕ) (on : IsPort 
     | inr n ↦ absurd (among_none f n)
   ]
 
-  in_bound : (home : Option Name) → at b.bindings q ≡ home → Among f (bound_rows b.chassis home (at b.zones q) dp q key) → TableFlow b f
+  in_bound : (home : Option Name) → at b.bindings q ≡ home → Among f (bound_rows b.chassis home (zone_of b q) dp q key) → TableFlow b f
   in_bound None bound m = absurd (among_none f m)
   in_bound (Some home) bound m = by (same_name home b.chassis) refl m
     where
-      by : (same : Bool) → same_name home b.chassis ≡ same → Among f (cond same (local_part (at b.zones q) dp q key) (remote_row dp key home ∷ [])) → TableFlow b f
-      by true same m = in_local (at b.zones q) refl (bound ∙ ap (λ n. Some n) ((bytes_decides home b.chassis).0 same)) m
+      by : (same : Bool) → same_name home b.chassis ≡ same → Among f (cond same (local_part (zone_of b q) dp q key) (remote_row dp key home ∷ [])) → TableFlow b f
+      by true same m = in_local (zone_of b q) refl (bound ∙ ap (λ n. Some n) ((bytes_decides home b.chassis).0 same)) m
       by false other m = in_remote home bound (λ e. false≢true (sym other ∙ (bytes_decides home b.chassis).1 e)) m
 
 in_switch_part : (b : Basis) (a : Name) (switch : Switch) → at b.net.switches a ≡ Some switch → (datapath : Option DatapathKey) → at b.keys.datapaths a ≡ datapath → (f : Flow)
@@ -91,7 +91,7 @@ in_port_part b q port switch found beside (Some d) dp_is (Some live) key_is f m 
       has = key_is;
       number = refl;
     } in
-    elim (among_append f (port_rows d.key q port live.key) (bound_rows b.chassis (at b.bindings q) (at b.zones q) d.key q live.key) m) [
+    elim (among_append f (port_rows d.key q port live.key) (bound_rows b.chassis (at b.bindings q) (zone_of b q) d.key q live.key) m) [
       | inl a ↦ in_port b q port d.key live.key on f a
       | inr l ↦ in_bound b q port d.key live.key on f (at b.bindings q) refl l
     ]
@@ -126,7 +126,7 @@ module _ (b : Basis) (a : Name) (dp : ℕ) (on : IsDatapath b a dp) (f : Flow) w
 
 module _ (b : Basis) (q : Name) (port : SwitchPort) (dp key : ℕ) (on : IsPort b q port dp key) (f : Flow) where
   abbrev bound_of : ℕ → ℕ → List Flow
-  bound_of d k = bound_rows b.chassis (at b.bindings q) (at b.zones q) d q k
+  bound_of d k = bound_rows b.chassis (at b.bindings q) (zone_of b q) d q k
 
   unit_among : Among f (port_rows dp q port key ++ bound_of dp key) → Among f (table_flows b)
   unit_among m =
@@ -145,8 +145,8 @@ module _ (b : Basis) (q : Name) (port : SwitchPort) (dp key : ℕ) (on : IsPort 
   -- the rows of a port that is at home here
   local_bound : (zone : ℕ) → IsHere b q zone → bound_of dp key ≡ local_rows dp q key zone
   local_bound zone home =
-      ap (λ o. bound_rows b.chassis o (at b.zones q) dp q key) home.bound
-      ∙ ap (λ t. cond t (local_part (at b.zones q) dp q key) (remote_row dp key b.chassis ∷ [])) ((bytes_decides b.chassis b.chassis).1 refl)
+      ap (λ o. bound_rows b.chassis o (zone_of b q) dp q key) home.bound
+      ∙ ap (λ t. cond t (local_part (zone_of b q) dp q key) (remote_row dp key b.chassis ∷ [])) ((bytes_decides b.chassis b.chassis).1 refl)
       ∙ ap (λ o. local_part o dp q key) home.zoned
 
   local_among : (zone : ℕ) → IsHere b q zone → Among f (local_rows dp q key zone) → Among f (table_flows b)
@@ -156,7 +156,7 @@ module _ (b : Basis) (q : Name) (port : SwitchPort) (dp key : ℕ) (on : IsPort 
   remote_bound : (home : Name) → at b.bindings q ≡ Some home → home ≢ b.chassis → bound_of dp key ≡ remote_row dp key home ∷ []
   remote_bound home bound other =
       let apart : same_name home b.chassis ≡ false = elim (cases_Bool (same_name home b.chassis)) [ inl same ↦ absurd (other ((bytes_decides home b.chassis).0 same)) | inr two ↦ two ] in
-      ap (λ o. bound_rows b.chassis o (at b.zones q) dp q key) bound ∙ ap (λ t. cond t (local_part (at b.zones q) dp q key) (remote_row dp key home ∷ [])) apart
+      ap (λ o. bound_rows b.chassis o (zone_of b q) dp q key) bound ∙ ap (λ t. cond t (local_part (zone_of b q) dp q key) (remote_row dp key home ∷ [])) apart
 
   remote_among : (home : Name) → at b.bindings q ≡ Some home → home ≢ b.chassis → Among f (remote_row dp key home ∷ []) → Among f (table_flows b)
   remote_among home bound other m = unit_among (among_right f (port_rows dp q port key) _ (subst (λ fs. Among f fs) (sym (remote_bound home bound other)) m))

@@ -1,6 +1,6 @@
 -- The addresses of a port.
-use Rattle.std.specs.Prelude.{◌≡◌, ◌≢◌, Bool, true, false, List, [], ◌∷◌, Option, Some, None, flat_map}
-use Rattle.std.specs.List.{list_any, filter_map}
+use Rattle.std.specs.Prelude.{◌≡◌, ◌≢◌, false, List, [], Option, Some, None, flat_map}
+use Rattle.std.specs.List.{filter_map}
 use Rattle.ovn_base.specs.addresses.EtherAddress.{is_multicast_mac}
 use Rattle.ovn_base.specs.lists.Among.{Among}
 use Rattle.ovn_base.specs.declared.address.Ip4.{Ip4}

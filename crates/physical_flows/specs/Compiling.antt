@@ -10,5 +10,5 @@ basis_of m = record {
   net = m.records.now;
   bindings = m.bindings.now.entries;
   keys = m.keys.now;
-  zones = m.zones.now.entries;
+  zones = m.zones.now;
 }

@@ -1,10 +1,10 @@
 -- The flows that a chassis holds, row by row. A row without a word on its entry is of rank 0 and cookie 0.
-use Rattle.std.specs.Prelude.{ℕ, ◌-◌, ◌^◌, Bool, true, false, cond, List, [], ◌∷◌, ◌++◌, map, Some, None}
+use Rattle.std.specs.Prelude.{ℕ, ◌^◌, Bool, true, false, cond, List, [], ◌∷◌, ◌++◌, map, Some}
 use Rattle.ovn_base.specs.declared.name.Name.{Name}
 use Rattle.ovn_base.specs.declared.address.Mac.{Mac}
 use Rattle.ovn_base.specs.addresses.EtherAddress.{mac_number}
 use Rattle.ovn_base.specs.declared.stages.TheConstants.{ADMIT_TABLE, EGRESS_TRACK_TABLE, ENTRY_TABLE, LOCAL_TABLE, LOOKUP_TABLE, LOOPBACK_TABLE, OUTPUT_TABLE, REMOTE_TABLE}
-use Rattle.inet_packet.specs.Cubes.{any, exactly, everything}
+use Rattle.inet_packet.specs.Cubes.{exactly, everything}
 use Rattle.inet_packet.specs.declared.cube.Bits.{Bits}
 use Rattle.inet_packet.specs.declared.cube.Cube.{Cube}
 use Rattle.inet_packet.specs.declared.regs.At.TheVariants.{Local, Tunnel}

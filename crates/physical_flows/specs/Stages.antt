@@ -1,9 +1,11 @@
 -- The rows of each stage, as sets: a constructor for each kind of row.
-use Rattle.std.specs.Prelude.{◌≡◌, ◌≢◌, ℕ, Bool, List, length, map, nat_lt, Some, unwrap_or}
+use Rattle.std.specs.Prelude.{◌≡◌, ◌≢◌, ℕ, Bool, List, length, map, nat_lt, Option, Some, unwrap_or}
 use Rattle.ovn_base.specs.declared.name.Name.{Name}
 use Rattle.ovn_base.specs.declared.stages.TheConstants.{ACL_TABLE, ADMIT_TABLE, ARP_TABLE, EGRESS_ACL_TABLE, EGRESS_SECURITY_TABLE, EGRESS_STATE_TABLE, EGRESS_TRACK_TABLE, LOOKUP_TABLE, OUTPUT_TABLE, PORT_SECURITY_TABLE, STATE_TABLE, TRACK_TABLE}
 use Rattle.flow_table.specs.declared.flow.Flow.{Flow}
 use Rattle.ovn_base.specs.names.ByName.{at}
+use Rattle.conn_zones.specs.Zoning.{GivenNumbers, number_on}
+use Rattle.conn_zones.specs.declared.numbers.ZoneUse.TheVariants.{Port}
 use Rattle.nb_records.specs.Network.{Network}
 use Rattle.ovn_base.specs.declared.address.Mac.{Mac}
 use Rattle.flow_table.specs.declared.flow.Member.{Member}
@@ -27,7 +29,7 @@ pub record Basis : Type 0 where
   pub net : Network
   pub bindings : List (Name × Name)
   pub keys : Keys
-  pub zones : List (Name × ℕ)
+  pub zones : GivenNumbers
 
 -- a is a switch, and dp its key
 pub record IsDatapath (b : Basis) (a : Name) (dp : ℕ) : Type 0 where
@@ -45,14 +47,18 @@ pub record IsPort (b : Basis) (q : Name) (port : SwitchPort) (dp key : ℕ) : Ty
   pub has : at b.keys.ports q ≡ Some live
   pub number : live.key ≡ key
 
+-- the number of the port's zone on this chassis
+abbrev pub zone_of : Basis → Name → Option ℕ
+zone_of b q = number_on b.zones b.chassis (Port q)
+
 -- the port is bound to this chassis, where it has the zone
 pub record IsHere (b : Basis) (q : Name) (zone : ℕ) : Type 0 where
   pub bound : at b.bindings q ≡ Some b.chassis
-  pub zoned : at b.zones q ≡ Some zone
+  pub zoned : zone_of b q ≡ Some zone
 
 -- the members of a group that are at home on this chassis, each with its key and its zone, in order of name
 abbrev pub member_of : Basis → Name → Member
-member_of b q = record { key = unwrap_or (port_number b.keys q) 0; zone = unwrap_or (at b.zones q) 0 }
+member_of b q = record { key = unwrap_or (port_number b.keys q) 0; zone = unwrap_or (zone_of b q) 0 }
 
 abbrev pub members_here : Basis → Name → Group → List Member
 members_here b a group = map (λ q. member_of b q) (members_at b.net b.bindings a group b.chassis)

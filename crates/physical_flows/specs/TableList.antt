@@ -15,7 +15,7 @@ use Rattle.net_model.specs.declared.crossing.Group.TheVariants.{Flood, Unknown}
 use Rattle.physical_flows.specs.Homes.{is_at, is_group_member}
 use Rattle.physical_flows.specs.Numbers.{datapath_number, port_number}
 use Rattle.physical_flows.specs.Rows.{entry_row, arrival_row, pass_row, bad_source_row, vlan_row, flood_row, address_row, unknown_row, remote_row, spread_row, stay_row, home_row, copies_row, return_row, leave_row, output_row}
-use Rattle.physical_flows.specs.Stages.{Basis, members_here, homes_of, has_unknown}
+use Rattle.physical_flows.specs.Stages.{Basis, zone_of, members_here, homes_of, has_unknown}
 
 -- ---- switches
 
@@ -76,7 +76,7 @@ bound_rows chassis None number dp q key = []
 bound_rows chassis (Some home) number dp q key = cond (same_name home chassis) (local_part number dp q key) (remote_row dp key home ∷ [])
 
 abbrev pub port_part : Basis → Name → SwitchPort → Option ℕ → Option ℕ → List Flow
-port_part b q port (Some dp) (Some key) = port_rows dp q port key ++ bound_rows b.chassis (at b.bindings q) (at b.zones q) dp q key
+port_part b q port (Some dp) (Some key) = port_rows dp q port key ++ bound_rows b.chassis (at b.bindings q) (zone_of b q) dp q key
 port_part b q port (Some dp) None = []
 port_part b q port None key = []
 
@@ -104,7 +104,7 @@ group_among b group ports = filter (λ e. is_record_in group (at b.net.switch_po
 
 -- those that are at home on this chassis, as its flows know them
 abbrev pub here_among : Basis → List (Name × ℕ) → List Member
-here_among b ports = map (λ e. record { key = e.1; zone = unwrap_or (at b.zones e.0) 0 }) (filter (λ e. is_at b.bindings e.0 b.chassis) ports)
+here_among b ports = map (λ e. record { key = e.1; zone = unwrap_or (zone_of b e.0) 0 }) (filter (λ e. is_at b.bindings e.0 b.chassis) ports)
 
 -- where they are at home
 abbrev pub bound_among : Basis → List (Name × ℕ) → List Name

@@ -6,6 +6,7 @@ ghost use Rattle.ovn_base.specs.names.SameName.{same_name};
 ghost use Rattle.nb_records.specs.Switches.{takes_unknown, is_unknown};
 ghost use Rattle.net_model.specs.declared.crossing.Group.TheVariants.{Unknown};
 ghost use Rattle.physical_flows.specs.Homes.{is_at};
+ghost use Rattle.physical_flows.specs.Stages.{zone_of};
 ghost use Rattle.physical_flows.specs.TableList.{table_flows, group_rows, switch_part, bound_rows, port_part, is_record_in, group_among, here_among, bound_among, is_other_among, others_among};
 ghost use Rattle.physical_flows.specs.Tables.{TableFlow};
 ghost use Rattle.physical_flows.specs.Compiling.{basis_of};
@@ -17,6 +18,7 @@ ghost use Rattle.physical_flows.specs.ChassisFlows.{AreExactly};
 use crate::rows::{
     push_common, push_egress, push_group, push_ingress, push_local, push_port, push_remote,
 };
+use conn_zones::numbers::ZoneNumbers;
 use flow_table::flow::{Flow, Member};
 use nb_records::records::Records;
 use nb_records::switch::{PortAddress, SwitchPort};
@@ -37,7 +39,7 @@ pub struct Maps<'a> {
     pub records: &'a Records,
     pub bindings: &'a BTreeMap<Name, Name>,
     pub keys: &'a KeyStore,
-    pub zones: &'a BTreeMap<Name, u16>,
+    pub zones: &'a ZoneNumbers,
 }
 
 impl Maps<'_> {
@@ -75,7 +77,7 @@ impl Maps<'_> {
         let mut members = List::new(alloc);
         'ports: for (name, key) in ports {
             if self.is_here(name) {
-                let zone = self.zones.get(name).copied().unwrap_or(0);
+                let zone = self.zones.port(&self.chassis, name).unwrap_or(0);
                 members.push(Member { key: *key, zone })?;
             }
         }
@@ -180,7 +182,7 @@ impl Maps<'_> {
         flows: &mut List<Flow>,
     ) -> Result<(), NoMemory>
         ensures { OnOk result (flows.new ≡ flows.old ++ bound_rows (basis_of self.now).chassis
-            (at (basis_of self.now).bindings name.now) (at (basis_of self.now).zones name.now) dp name.now key) }
+            (at (basis_of self.now).bindings name.now) (zone_of (basis_of self.now) name.now) dp name.now key) }
     {
         let Some(home) = self.bindings.get(name) else {
             return Ok(());
@@ -188,8 +190,8 @@ impl Maps<'_> {
         if *home != self.chassis {
             return push_remote(alloc, dp, key, *home, flows);
         }
-        match self.zones.get(name) {
-            Some(zone) => push_local(alloc, dp, *name, key, *zone, flows),
+        match self.zones.port(&self.chassis, name) {
+            Some(zone) => push_local(alloc, dp, *name, key, zone, flows),
             None => Ok(()),
         }
     }

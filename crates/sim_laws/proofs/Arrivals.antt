@@ -13,13 +13,13 @@ use Rattle.chassis_sim.specs.Frames.{Carries}
 use Rattle.chassis_sim.specs.Passing as passing
 use Rattle.chassis_sim.specs.Passing.{IsTold, arrived}
 use Rattle.chassis_sim.specs.State as sim
+use Rattle.conn_zones.specs.Zoning.{Zoned}
 use Rattle.chassis_sim.specs.State.{numbered}
 use Rattle.chassis_sim.specs.declared.out.SimOut.{SimOut}
 use Rattle.chassis_sim.specs.declared.underlay.WaitingFrame.{WaitingFrame}
 use Rattle.geneve_frames.proofs.Canon.{canon_spells}
 use Rattle.geneve_frames.proofs.Faults.{one_spelled}
 use Rattle.inet_packet.specs.Frame.{frame_of}
-use Rattle.inet_packet.specs.Whole.{IsWhole}
 use Rattle.inet_packet.specs.declared.packet.Packet.{Packet}
 use Rattle.switch_engine.specs.declared.effect.Effect.{Effect}
 use Rattle.switch_engine.specs.declared.effect.Effect.TheVariants as effect
@@ -105,7 +105,7 @@ gone_chassis m x absent = ap (λ b. not (is_switch m.config.net x.datapath) || n
 
 -- ---- keys in range
 
-module _ (m : State) (zones : List (Name × ℕ)) (more : ℕ) (a : IsAmidst m zones more) (x : Crossing) (w : MayWait m x) where
+module _ (m : State) (zones : Zoned) (more : ℕ) (a : IsAmidst m zones more) (x : Crossing) (w : MayWait m x) where
   datapath_small : datapath_key m.keys x.datapath < 16777216
   datapath_small =
       let is = datapath_key_is m.keys a.keys.hold w.datapath_key.0 x.datapath w.datapath_key.1 w.datapath_key.2 in
@@ -138,7 +138,7 @@ module _ (m : State) (zones : List (Name × ℕ)) (more : ℕ) (a : IsAmidst m z
 
 -- ---- what is told of an arrival
 
-module _ (zones : List (Name × ℕ)) (more : ℕ) (k : State) (z new : sim.SimState) (a : IsAmidst k zones more) (h : AreHeld k zones z) (n : ℕ) (home : Name) (steps : List engine.Step) (ends : List End) (effects : List Effect)
+module _ (zones : Zoned) (more : ℕ) (k : State) (z new : sim.SimState) (a : IsAmidst k zones more) (h : AreHeld k zones.numbers z) (n : ℕ) (home : Name) (steps : List engine.Step) (ends : List End) (effects : List Effect)
     (numbers : AllZip (IsNumbered k.keys) ends effects) (lost : AreEndsOn home n ends) (none : crossings_in ends ≡ []) (before after : SimOut) (told : IsTold z home (start.Frame n) steps effects before after new) where
   may_none : (x : Crossing) → Among x (crossings_in ends) → MayWait k x
   may_none x m = absurd (among_none x (subst (λ xs. Among x xs) none m))
@@ -162,7 +162,7 @@ record IsCrossing (m : State) (n : ℕ) (frame : WaitingFrame) : Type 0 where
   waits : numbered m.waiting n ≡ Some crossing
   is : frame ≡ (frame_of_crossing m.keys (n, crossing)).1
 
-module _ (law : ArrivalLaw) (m : State) (zones : List (Name × ℕ)) (more : ℕ) (s new : sim.SimState) (n : ℕ) (before after : SimOut) (a : IsAmidst m zones more) (h : AreHeld m zones s) where
+module _ (law : ArrivalLaw) (m : State) (zones : Zoned) (more : ℕ) (s new : sim.SimState) (n : ℕ) (before after : SimOut) (a : IsAmidst m zones more) (h : AreHeld m zones.numbers s) where
   crossing_of : (frame : WaitingFrame) → numbered s.waiting n ≡ Some frame → IsCrossing m n frame
   crossing_of frame e =
       by (numbered m.waiting n) refl (sym (numbered_map (λ x. (frame_of_crossing m.keys (0, x)).1) m.waiting n) ∙ ap (λ ws. numbered ws n) (sym h.waiting) ∙ e)

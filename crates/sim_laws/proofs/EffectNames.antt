@@ -11,7 +11,7 @@ use Rattle.switch_engine.specs.declared.effect.NetEffect.TheVariants as net
 use Rattle.switch_engine.specs.declared.walk.Start.{Start}
 use Rattle.tunnel_keys.specs.Keys.{Keys}
 use Rattle.net_model.specs.Journey.{numbered_from}
-use Rattle.sim_laws.specs.Effects.{effects_of, spelled, datapath_key, port_key, aim_key}
+use Rattle.sim_laws.specs.Effects.{effects_of, spelled}
 use Rattle.net_model.specs.Trail.{crossings_in, picks_backend, picks_port}
 use Rattle.sim_laws.specs.Naming.{HasDatapathKey, HasPortKey, IsNumbered}
 use Rattle.sim_laws.specs.Naming.IsNumbered.{out, drop, frame, lost}

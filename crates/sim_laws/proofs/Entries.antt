@@ -7,6 +7,7 @@ use Rattle.ovn_base.specs.declared.name.Name.{Name}
 use Rattle.chassis_sim.specs.Passing as passing
 use Rattle.chassis_sim.specs.Passing.{IsTold}
 use Rattle.chassis_sim.specs.State as sim
+use Rattle.conn_zones.specs.Zoning.{Zoned}
 use Rattle.chassis_sim.specs.declared.out.SimOut.{SimOut}
 use Rattle.inet_packet.specs.Frame.{frame_of}
 use Rattle.inet_packet.specs.Whole.{IsWhole}
@@ -28,7 +29,7 @@ use Rattle.sim_laws.proofs.Crossings.{visit_ends}
 use Rattle.physical_flows.proofs.FlowSearch.{some_of}
 use Rattle.sim_laws.proofs.Refinements.{told_effects, told_held, amidst_with, crossings_behind}
 
-module _ (law : EntryLaw) (m : State) (zones : List (Name × ℕ)) (more : ℕ) (s new : sim.SimState) (p : Name) (frame : List ℕ) (before after : SimOut) (a : IsAmidst m zones more) (h : AreHeld m zones s) where
+module _ (law : EntryLaw) (m : State) (zones : Zoned) (more : ℕ) (s new : sim.SimState) (p : Name) (frame : List ℕ) (before after : SimOut) (a : IsAmidst m zones more) (h : AreHeld m zones.numbers s) where
   entered : (packet : Packet) → IsWhole packet → frame_of packet ≡ frame → (chassis : Name) (steps : List engine.Step) (effects : List Effect) → AreVisit m p packet chassis effects
       → IsTold s chassis (start.Port p) steps effects before after new → IsRefined zones (more + 64) before after new (λ es mid. Enters m p frame es mid)
   entered packet whole frame_is chassis steps effects v told =

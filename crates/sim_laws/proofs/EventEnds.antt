@@ -2,9 +2,9 @@
 use Rattle.std.specs.Prelude.{◌≡◌, ◌≤◌, ◌<◌, ◌+◌, ◌*◌, ◌^◌, ℕ, List, [], ◌∷◌, map, refl}
 use Rattle.std.proofs.Common.{sym, ap, ◌∙◌, subst, arith}
 use Rattle.ovn_base.specs.lists.Among.{Among}
-use Rattle.ovn_base.specs.declared.name.Name.{Name}
 use Rattle.ovn_base.proofs.AmongLaws.{among_none}
 use Rattle.chassis_sim.specs.State as sim
+use Rattle.conn_zones.specs.Zoning.{Zoned}
 use Rattle.tunnel_keys.proofs.Births.{born_later, settled_born}
 use Rattle.tunnel_keys.specs.Keys.{Keys, settled}
 use Rattle.tunnel_keys.proofs.Invariant.{settled_hold}
@@ -13,7 +13,6 @@ use Rattle.sim_laws.specs.Consistent.{IsConsistent}
 use Rattle.sim_laws.specs.Refinement.{IsAmidst, Finishes}
 use Rattle.sim_laws.specs.Held.{AreHeld, frame_of_crossing}
 use Rattle.physical_flows.specs.RecordKeys.{HaveKeys}
-use Rattle.physical_flows.specs.Bindings.{AreBound}
 use Rattle.sim_laws.specs.Sound.{AreBorn, MayWait}
 use Rattle.physical_flows.specs.ChassisFlows.{basis_at}
 use Rattle.net_model.specs.State.{State, event_count, settled_where_none_waits}
@@ -31,23 +30,9 @@ counted_births m b = record {
   none = λ z. absurd (omega (arith, z));
 }
 
-module _ (m : State) (zones : List (Name × ℕ)) (more : ℕ) (s : sim.SimState) (a : IsAmidst m zones more) (few : more ≤ 2 ^ 64) (events : event_count m < 2 ^ 42) (h : AreHeld m zones s) where
+module _ (m : State) (zones : Zoned) (more : ℕ) (s : sim.SimState) (a : IsAmidst m zones more) (few : more ≤ 2 ^ 64) (events : event_count m < 2 ^ 42) (h : AreHeld m zones.numbers s) where
   few_sent : m.next ≤ 1 + 2 ^ 64 * event_count (with m m.keys)
   few_sent = let sent = a.few_sent in omega (arith, sent, few)
-
-  bound_then : (keys : Keys) → AreBound (with m keys) zones
-  bound_then keys = record {
-    bindings_sorted = a.bound.bindings_sorted;
-    port_there = a.bound.port_there;
-    chassis_there = a.bound.chassis_there;
-    chassis_sorted = a.bound.chassis_sorted;
-    few_chassis = a.bound.few_chassis;
-    zones_sorted = a.bound.zones_sorted;
-    has_zone = a.bound.has_zone;
-    zone_of = a.bound.zone_of;
-    zone_fits = a.bound.zone_fits;
-    zones_apart = a.bound.zones_apart;
-  }
 
   may_then : (x : Crossing) → MayWait m x → MayWait (with m m.keys) x
   may_then x w = record {
@@ -61,13 +46,13 @@ module _ (m : State) (zones : List (Name × ℕ)) (more : ℕ) (s : sim.SimState
   }
 
   -- where something waits, the keys stay
-  pub kept_keys : ((m.waiting ≡ []) → ⊥) → IsConsistent (with m m.keys) zones × AreHeld (with m m.keys) zones s
+  pub kept_keys : ((m.waiting ≡ []) → ⊥) → IsConsistent (with m m.keys) zones × AreHeld (with m m.keys) zones.numbers s
   kept_keys some = (
     record {
       valid = a.valid;
       within = a.within;
       keys = a.keys;
-      bound = bound_then m.keys;
+      bound = a.bound;
       born = counted_births m a.born;
       on_the_way = record {
         crossings = record { in_order = a.crossings.in_order; below = a.crossings.below; may = λ n x w. may_then x (a.crossings.may n x w) };
@@ -104,13 +89,13 @@ module _ (m : State) (zones : List (Name × ℕ)) (more : ℕ) (s : sim.SimState
   none_waits e n x w = among_none (n, x) (subst (λ ws. Among (n, x) ws) e w)
 
   -- where nothing waits, none is retired
-  pub settled_keys : m.waiting ≡ [] → IsConsistent (with m (settled m.keys)) zones × AreHeld (with m (settled m.keys)) zones s
+  pub settled_keys : m.waiting ≡ [] → IsConsistent (with m (settled m.keys)) zones × AreHeld (with m (settled m.keys)) zones.numbers s
   settled_keys e = (
     record {
       valid = a.valid;
       within = a.within;
       keys = keys_settled;
-      bound = bound_then (settled m.keys);
+      bound = a.bound;
       born = born_settled;
       on_the_way = record {
         crossings = record { in_order = a.crossings.in_order; below = a.crossings.below; may = λ n x w. absurd (none_waits e n x w) };
@@ -124,7 +109,7 @@ module _ (m : State) (zones : List (Name × ℕ)) (more : ℕ) (s : sim.SimState
       names = record { datapaths = h.names.datapaths; ports = h.names.ports };
       held = h.held;
       flows = λ c flows is. let old = h.flows c flows is in record {
-        same = λ f. (λ w. settle_table (basis_at m zones c) f ((old.same f).0 w), λ r. (old.same f).1 (unsettle_table (basis_at m zones c) f r));
+        same = λ f. (λ w. settle_table (basis_at m zones.numbers c) f ((old.same f).0 w), λ r. (old.same f).1 (unsettle_table (basis_at m zones.numbers c) f r));
         once = old.once;
       };
       waiting = h.waiting ∙ ap (λ ws. map (frame_of_crossing m.keys) ws) e ∙ sym (ap (λ ws. map (frame_of_crossing (settled m.keys)) ws) e);
@@ -133,7 +118,7 @@ module _ (m : State) (zones : List (Name × ℕ)) (more : ℕ) (s : sim.SimState
   )
 
   by : (waiting : List (ℕ × Crossing)) → m.waiting ≡ waiting
-      → IsConsistent (with m (settled_where_none_waits waiting m.keys)) zones × AreHeld (with m (settled_where_none_waits waiting m.keys)) zones s
+      → IsConsistent (with m (settled_where_none_waits waiting m.keys)) zones × AreHeld (with m (settled_where_none_waits waiting m.keys)) zones.numbers s
   by [] e = settled_keys e
   by (w ∷ ws) e = kept_keys (λ z. none_is_some w ws (sym z ∙ e))
     where

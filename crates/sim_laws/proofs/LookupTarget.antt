@@ -27,10 +27,11 @@ use Rattle.net_model.specs.declared.crossing.Aim.TheVariants.{ToPort, ToGroup}
 use Rattle.net_model.specs.declared.crossing.Group.{Group}
 use Rattle.physical_flows.specs.Homes.{members_at}
 use Rattle.sim_laws.specs.Naming.{IsNumbered, HasPortKey}
-use Rattle.physical_flows.specs.Stages.{Basis, IsDatapath, IsPort, IsHere, homes_of}
+use Rattle.physical_flows.specs.Stages.{Basis, zone_of, IsDatapath, IsPort, IsHere, homes_of}
 use Rattle.net_model.specs.Trail.{End, leaves, is_dropped, crosses}
 use Rattle.sim_laws.specs.Visit.{SentFrom, crossing_to, sent_home, sent_to, group}
 use Rattle.sim_laws.proofs.WalkForms.{Setting, basis_of, copy_at, Comes, comes_by}
+use Rattle.physical_flows.proofs.BoundZones.{has_zone}
 use Rattle.physical_flows.proofs.FlowSearch.{some_of}
 use Rattle.sim_laws.proofs.Groups.{IsMember, of_group, copies_leave}
 use Rattle.sim_laws.proofs.Table33.{home_33, away_33, group_33}
@@ -47,7 +48,7 @@ same_tests false false f g = refl
 
 -- a bound port has a zone on its chassis
 pub zone_here : (s : Setting) (q : Name) → at s.m.config.bindings q ≡ Some s.chassis → (zone : ℕ) × IsHere (basis_of s) q zone
-zone_here s q bound = let zone = some_of (at s.zones q) (s.now.bound.has_zone q s.chassis bound) in (zone.0, record { bound = bound; zoned = zone.1 })
+zone_here s q bound = let zone = some_of (zone_of (basis_of s) q) (has_zone s.m.config s.zones s.now.bound s.chassis q bound) in (zone.0, record { bound = bound; zoned = zone.1 })
 
 module _ (s : Setting) (p : Name) (ours : SwitchPort) (dp entered : ℕ) (from : IsPort (basis_of s) p ours dp entered) (packet : Packet) where
   abbrev b : Basis

@@ -13,7 +13,7 @@ use Rattle.nb_records.specs.declared.switch.SwitchPort.{SwitchPort}
 use Rattle.physical_flows.specs.Addresses.{HasMac}
 use Rattle.physical_flows.specs.GroupKeys.{group_key}
 use Rattle.physical_flows.specs.Rows.{entry_row, arrival_row, pass_row, bad_source_row, vlan_row, flood_row, address_row, unknown_row, remote_row, spread_row, stay_row, home_row, copies_row, return_row, leave_row, output_row}
-use Rattle.physical_flows.specs.Stages.{Basis, IsPort, IsHere, EntryRow, AdmitRow, LookupRow, RemoteRow, HomeRow, ReturnRow, OutputRow, has_unknown, homes_of, members_here}
+use Rattle.physical_flows.specs.Stages.{Basis, zone_of, IsPort, IsHere, EntryRow, AdmitRow, LookupRow, RemoteRow, HomeRow, ReturnRow, OutputRow, has_unknown, homes_of, members_here}
 use Rattle.physical_flows.specs.Tables.{TableFlow}
 use Rattle.physical_flows.proofs.Tables.{at_0, at_8, at_9, at_10, at_11, at_12, at_13, at_14, at_32, at_33, at_34, at_40, at_41, at_42, at_43, at_64, table_of_entry, table_of_admit, table_of_port_sec, table_of_track, table_of_acl_in, table_of_state_in, table_of_arp, table_of_lookup, table_of_remote, table_of_home, table_of_return, table_of_track_out, table_of_acl_out, table_of_state_out, table_of_sec_out, table_of_output}
 use Rattle.sim_laws.proofs.WalkForms.{Setting, basis_of, Matched}
@@ -38,7 +38,7 @@ module _ (s : Setting) where
 
   -- a bound port has one zone, and one home
   one_zone : (q r : Name) (z y : ℕ) → IsHere b q z → IsHere b r y → q ≡ r → z ≡ y
-  one_zone q r z y here there same = same_Some z y (sym here.zoned ∙ ap (λ n. at s.zones n) same ∙ there.zoned)
+  one_zone q r z y here there same = same_Some z y (sym here.zoned ∙ ap (λ n. zone_of b n) same ∙ there.zoned)
 
   one_home : (q r home other : Name) → at s.m.config.bindings q ≡ Some home → at s.m.config.bindings r ≡ Some other → q ≡ r → home ≡ other
   one_home q r home other is also same = same_Some home other (sym is ∙ ap (λ n. at s.m.config.bindings n) same ∙ also)

@@ -16,7 +16,7 @@ use Rattle.sim_laws.specs.WalkLaw.{OneWalkLaw}
 use Rattle.sim_laws.proofs.WalkForms.{Setting, Matched, matched}
 use Rattle.sim_laws.proofs.OneRow.{one_row}
 
-module _ (s : Setting) (more : List Flow) (also : AreFlowsOf s.m s.zones s.chassis more) (entry : Entry) where
+module _ (s : Setting) (more : List Flow) (also : AreFlowsOf s.m s.zones.numbers s.chassis more) (entry : Entry) where
   held_too : (f : Flow) → Among f s.flows → Among f more
   held_too f m = (also.same f).1 ((s.exact.same f).0 m)
 

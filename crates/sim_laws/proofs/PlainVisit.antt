@@ -1,6 +1,6 @@
 -- What becomes of a packet that goes in, and of a crossing that arrives, is what the logical network says.
 use Rattle.tunnel_keys.specs.declared.owner.Identity.{Identity}
-use Rattle.std.specs.Prelude.{◌≡◌, ◌≢◌, ℕ, Bool, true, false, ◌||◌, ◌&&◌, ◌==◌, not, cond, List, [], ◌∷◌, ◌++◌, map, filter, Option, Some, None, option_map, refl}
+use Rattle.std.specs.Prelude.{◌≡◌, ℕ, Bool, true, false, ◌||◌, ◌&&◌, not, cond, List, [], ◌∷◌, ◌++◌, map, filter, Option, Some, None, option_map, refl}
 use Rattle.std.specs.List.{list_any}
 use Rattle.std.specs.Map.{keys_of}
 use Rattle.std.proofs.Common.{sym, ap, ◌∙◌, subst}
@@ -43,7 +43,7 @@ use Rattle.sim_laws.proofs.PlainPorts.{members_plain}
 use Rattle.physical_flows.specs.Addresses.{HasMac, mac_in}
 use Rattle.physical_flows.specs.Homes.{is_at, is_group_member, is_home, members, members_at, other_homes}
 use Rattle.physical_flows.specs.Valid.{IsValid}
-use Rattle.sim_laws.specs.Visit.{Goes, HasTarget, SentFrom, Target, group, none, one, arrival, crossing_to, has_birth, is_gone, is_port, is_switch, misses, reached, sent_home, sent_to}
+use Rattle.sim_laws.specs.Visit.{Goes, HasTarget, SentFrom, Target, group, none, one, arrival, crossing_to, has_birth, is_port, is_switch, misses, reached, sent_home, sent_to}
 
 pub plain : (net : Network) → IsValid net → IsPlain net
 plain net valid = record { built = valid.built; in_order = valid.ports_sorted }

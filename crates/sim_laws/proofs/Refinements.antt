@@ -15,6 +15,7 @@ use Rattle.chassis_sim.specs.State as sim
 use Rattle.chassis_sim.specs.State.{numbered}
 use Rattle.chassis_sim.specs.declared.out.SimOut.{SimOut}
 use Rattle.chassis_sim.specs.declared.underlay.WaitingFrame.{WaitingFrame}
+use Rattle.conn_zones.specs.Zoning.{Zoned}
 use Rattle.flow_table.specs.declared.flow.Flow.{Flow}
 use Rattle.switch_engine.specs.declared.effect.Effect.{Effect}
 use Rattle.switch_engine.specs.declared.walk.Start.{Start}
@@ -68,10 +69,10 @@ from_sorted n (x ∷ xs) = behind_sorted ((n, x) ∷ []) (numbered_from (n + 1) 
 
 -- ---- what is told
 
-module _ (k : State) (zones : List (Name × ℕ)) (z new : sim.SimState) (h : AreHeld k zones z) (chassis : Name) (from : Start) (steps : List engine.Step) (ends : List End) (effects : List Effect)
-    (numbers : AllZip (IsNumbered k.keys) ends effects) (lost : AreEndsOn chassis (arrived_as from) ends) (before after : SimOut) (told : IsTold z chassis from steps effects before after new) where
+module _ (k : State) (zones : Zoned) (z new : sim.SimState) (h : AreHeld k zones.numbers z) (chassis : Name) (from : Start) (steps : List engine.Step) (ends : List End) (effects : List Effect)
+    (keyed : AllZip (IsNumbered k.keys) ends effects) (lost : AreEndsOn chassis (arrived_as from) ends) (before after : SimOut) (told : IsTold z chassis from steps effects before after new) where
   names_are : all_in_names z.names chassis from z.next effects ≡ effects_of k.keys k.next ends
-  names_are = all_named k.keys z h.names chassis from z.next ends effects numbers lost ∙ ap (λ n. effects_of k.keys n ends) h.next
+  names_are = all_named k.keys z h.names chassis from z.next ends effects keyed lost ∙ ap (λ n. effects_of k.keys n ends) h.next
 
   pub told_effects : after.effects ≡ before.effects ++ effects_of k.keys k.next ends
   told_effects = told.told.all_effects ∙ ap (λ es. before.effects ++ es) names_are
@@ -83,12 +84,12 @@ module _ (k : State) (zones : List (Name × ℕ)) (z new : sim.SimState) (h : Ar
       ∙ sym (map_both (frame_of_crossing k.keys) k.waiting (numbered_from k.next (crossings_in ends)))
 
   new_next : new.next ≡ (sent_on k ends).next
-  new_next = ap (λ (s : sim.SimState). s.next) told.state ∙ next_named k.keys z h.names chassis from z.next ends effects numbers ∙ ap (λ n. n + length (crossings_in ends)) h.next
+  new_next = ap (λ (s : sim.SimState). s.next) told.state ∙ next_named k.keys z h.names chassis from z.next ends effects keyed ∙ ap (λ n. n + length (crossings_in ends)) h.next
 
-  flows_then : (c : Name) (flows : List Flow) → sim.at_name z.chassis c ≡ Some flows → AreFlowsOf (sent_on k ends) zones c flows
+  flows_then : (c : Name) (flows : List Flow) → sim.at_name z.chassis c ≡ Some flows → AreFlowsOf (sent_on k ends) zones.numbers c flows
   flows_then c flows is = h.flows c flows is
 
-  pub told_held : AreHeld (sent_on k ends) zones new
+  pub told_held : AreHeld (sent_on k ends) zones.numbers new
   told_held = record {
     bindings = λ q. ap (λ (s : sim.SimState). sim.at_name s.bindings q) told.state ∙ h.bindings q;
     names = subst (λ (s : sim.SimState). HaveOwnersNames k.keys s) (sym told.state) (record { datapaths = h.names.datapaths; ports = h.names.ports });
@@ -115,24 +116,13 @@ may_still m waiting next x w = record {
   no_return = w.no_return;
 }
 
-pub amidst_with : (m : State) (zones : List (Name × ℕ)) (more most : ℕ) (waiting : List (ℕ × Crossing)) (next : ℕ) → IsAmidst m zones more → AreCrossings (with_waiting m waiting next)
+pub amidst_with : (m : State) (zones : Zoned) (more most : ℕ) (waiting : List (ℕ × Crossing)) (next : ℕ) → IsAmidst m zones more → AreCrossings (with_waiting m waiting next)
     → next ≤ 1 + 2 ^ 64 * event_count m + most → IsAmidst (with_waiting m waiting next) zones most
 amidst_with m zones more most waiting next a crossings few = record {
   valid = a.valid;
   within = a.within;
   keys = a.keys;
-  bound = record {
-    bindings_sorted = a.bound.bindings_sorted;
-    port_there = a.bound.port_there;
-    chassis_there = a.bound.chassis_there;
-    chassis_sorted = a.bound.chassis_sorted;
-    few_chassis = a.bound.few_chassis;
-    zones_sorted = a.bound.zones_sorted;
-    has_zone = a.bound.has_zone;
-    zone_of = a.bound.zone_of;
-    zone_fits = a.bound.zone_fits;
-    zones_apart = a.bound.zones_apart;
-  };
+  bound = a.bound;
   born = record { switches = a.born.switches; ports = a.born.ports; keys = a.born.keys; none = a.born.none };
   crossings = crossings;
   few = a.few;
@@ -168,11 +158,11 @@ crossings_kept false m n c = record {
   may = λ k x w. may_still m (remove_entry (is_at (nat_cmp n)) m.waiting) m.next x (c.may k x (removed_among m.waiting n (k, x) w));
 }
 
-pub amidst_kept : (keep : Bool) (m : State) (zones : List (Name × ℕ)) (more n : ℕ) → IsAmidst m zones more → IsAmidst (with_kept keep m n) zones more
+pub amidst_kept : (keep : Bool) (m : State) (zones : Zoned) (more n : ℕ) → IsAmidst m zones more → IsAmidst (with_kept keep m n) zones more
 amidst_kept true m zones more n a = a
 amidst_kept false m zones more n a = amidst_with m zones more more (remove_entry (is_at (nat_cmp n)) m.waiting) m.next a (crossings_kept false m n a.crossings) a.few_sent
 
-pub held_kept : (keep : Bool) (m : State) (zones : List (Name × ℕ)) (s : sim.SimState) (n : ℕ) → AreHeld m zones s → AreHeld (with_kept keep m n) zones (arrived s n keep)
+pub held_kept : (keep : Bool) (m : State) (zones : Zoned) (s : sim.SimState) (n : ℕ) → AreHeld m zones.numbers s → AreHeld (with_kept keep m n) zones.numbers (arrived s n keep)
 held_kept true m zones s n h = h
 held_kept false m zones s n h = record {
   bindings = h.bindings;

@@ -5,6 +5,7 @@ use Rattle.ovn_base.specs.declared.name.Name.{Name}
 use Rattle.inet_packet.specs.declared.packet.Packet.{Packet}
 use Rattle.inet_packet.specs.declared.regs.Regs.{Regs}
 use Rattle.inet_packet.specs.Fits.{CubeFits}
+use Rattle.conn_zones.specs.Zoning.{Zoned}
 use Rattle.flow_table.specs.Matching.{IsBest}
 use Rattle.flow_table.specs.declared.flow.Flow.{Flow}
 use Rattle.switch_engine.specs.Actions.{outcome, going_on}
@@ -56,24 +57,24 @@ module _ (flows : List Flow) (entry : Entry) (now : ℕ) where
 -- ---- one table
 
 -- what the laws need of a state
-pub record IsReady (m : State) (zones : List (Name × ℕ)) : Type 0 where
+pub record IsReady (m : State) (zones : Zoned) : Type 0 where
   pub valid : IsValid m.config.net
   pub keys : HaveKeys m.config.net m.keys
-  pub bound : AreBound m zones
+  pub bound : AreBound m.config zones
 
 -- a chassis with its flows, in a state, at a time
 pub record Setting : Type 0 where
   pub m : State
   pub time : ℕ
-  pub zones : List (Name × ℕ)
+  pub zones : Zoned
   pub chassis : Name
   pub flows : List Flow
   pub now : IsReady m zones
-  pub exact : AreFlowsOf m zones chassis flows
+  pub exact : AreFlowsOf m zones.numbers chassis flows
 
 -- what its flows follow from
 abbrev pub basis_of : Setting → Basis
-basis_of s = basis_at s.m s.zones s.chassis
+basis_of s = basis_at s.m s.zones.numbers s.chassis
 
 -- the flow is one of the chassis, matches the copy, and no other that does is of a greater priority
 pub record Matched (s : Setting) (copy : Carried) (f : Flow) : Type 0 where

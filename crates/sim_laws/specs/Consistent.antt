@@ -1,6 +1,6 @@
 -- When a state is one that events can leave.
-use Rattle.std.specs.Prelude.{◌≤◌, ◌^◌, ℕ, List}
-use Rattle.ovn_base.specs.declared.name.Name.{Name}
+use Rattle.std.specs.Prelude.{◌≤◌, ◌^◌}
+use Rattle.conn_zones.specs.Zoning.{Zoned}
 use Rattle.physical_flows.specs.Valid.{IsValid, IsWithin}
 use Rattle.physical_flows.specs.RecordKeys.{HaveKeys}
 use Rattle.physical_flows.specs.Bindings.{AreBound}
@@ -8,11 +8,11 @@ use Rattle.sim_laws.specs.Sound.{AreBorn, AreOnTheWay}
 use Rattle.net_model.specs.State.{State, event_count}
 
 -- the state is one that events can leave
-pub record IsConsistent (m : State) (zones : List (Name × ℕ)) : Type 0 where
+pub record IsConsistent (m : State) (zones : Zoned) : Type 0 where
   pub valid : IsValid m.config.net
   pub within : IsWithin m.config.net
   pub keys : HaveKeys m.config.net m.keys
-  pub bound : AreBound m zones
+  pub bound : AreBound m.config zones
   pub born : AreBorn m
   pub on_the_way : AreOnTheWay m
   pub few : event_count m ≤ 2 ^ 42

@@ -7,6 +7,7 @@ use Rattle.chassis_sim.specs.InNames.{name_of}
 use Rattle.chassis_sim.specs.State as sim
 use Rattle.chassis_sim.specs.State.{at_name}
 use Rattle.chassis_sim.specs.declared.underlay.WaitingFrame.{WaitingFrame}
+use Rattle.conn_zones.specs.Zoning.{GivenNumbers}
 use Rattle.flow_table.specs.declared.flow.Flow.{Flow}
 use Rattle.tunnel_keys.specs.Keys.{Keys}
 use Rattle.tunnel_keys.specs.declared.owner.DatapathKey.{DatapathKey}
@@ -26,7 +27,7 @@ abbrev pub frame_of_crossing : Keys → ℕ × Crossing → ℕ × WaitingFrame
 frame_of_crossing keys w = (w.0, record { to = w.1.home; bytes = spelled keys w.1 })
 
 -- The simulated chassis are those of the state: each holds exactly its flows, and the frames that wait are those of the crossings.
-pub record AreHeld (m : State) (zones : List (Name × ℕ)) (s : sim.SimState) : Type 0 where
+pub record AreHeld (m : State) (zones : GivenNumbers) (s : sim.SimState) : Type 0 where
   pub bindings : (q : Name) → at_name s.bindings q ≡ at m.config.bindings q
   pub names : HaveOwnersNames m.keys s
   pub held : (c : Name) → IsSome (at_name s.chassis c) ↔ Among c m.config.chassis

@@ -9,7 +9,6 @@ use Rattle.ovn_base.specs.declared.address.Mac.{Mac}
 use Rattle.ovn_base.specs.declared.name.Name.{Name}
 use Rattle.inet_packet.specs.Fields.{ether_type}
 use Rattle.inet_packet.specs.declared.packet.Packet.{Packet}
-use Rattle.flow_table.specs.declared.flow.Cause.{Cause}
 use Rattle.flow_table.specs.declared.flow.Cause.TheVariants.{UnknownAddress, Loopback, Unbound, BadSource, Vlan}
 use Rattle.nb_records.specs.Network.{Network}
 use Rattle.nb_records.specs.declared.switch.Switch.{Switch}

@@ -6,6 +6,7 @@ use Rattle.ovn_base.specs.names.ByName.{at}
 use Rattle.ovn_base.specs.declared.name.Name.{Name}
 use Rattle.inet_packet.specs.Whole.{IsWhole}
 use Rattle.inet_packet.specs.declared.packet.Packet.{Packet}
+use Rattle.conn_zones.specs.Zoning.{Zoned}
 use Rattle.flow_table.specs.declared.flow.Flow.{Flow}
 use Rattle.switch_engine.specs.Walk.{IsWalkOf}
 use Rattle.switch_engine.specs.declared.effect.Effect.{Effect}
@@ -34,11 +35,11 @@ pub record AreVisit (m : State) (p : Name) (packet : Packet) (chassis : Name) (e
 -- whatever walk a packet takes from a port that is at home on a chassis, through exactly the flows of that chassis, its effects are a visit
 abbrev pub EntryLaw : Type 0
 EntryLaw =
-    (m : State) (zones : List (Name × ℕ)) (c : Name) (flows : List Flow)
+    (m : State) (zones : Zoned) (c : Name) (flows : List Flow)
     → IsValid m.config.net
     → HaveKeys m.config.net m.keys
-    → AreBound m zones
-    → AreFlowsOf m zones c flows
+    → AreBound m.config zones
+    → AreFlowsOf m zones.numbers c flows
     → (p : Name)
     → at m.config.bindings p ≡ Some c
     → (now : ℕ) (packet : Packet)
@@ -55,13 +56,13 @@ tunnel_entry_of keys x = Tunnel (datapath_key keys x.datapath) (port_key keys x.
 -- are those of the crossing's arrival
 abbrev pub ArrivalLaw : Type 0
 ArrivalLaw =
-    (m : State) (zones : List (Name × ℕ)) (n : ℕ) (x : Crossing) (flows : List Flow)
+    (m : State) (zones : Zoned) (n : ℕ) (x : Crossing) (flows : List Flow)
     → IsValid m.config.net
     → HaveKeys m.config.net m.keys
-    → AreBound m zones
+    → AreBound m.config zones
     → MayWait m x
     → Among x.home m.config.chassis
-    → AreFlowsOf m zones x.home flows
+    → AreFlowsOf m zones.numbers x.home flows
     → (now : ℕ) (steps : List Step) (effects : List Effect)
     → IsWalkOf flows (tunnel_entry_of m.keys x) now x.packet steps effects
     → AllZip (IsNumbered m.keys) (arrival m n x) effects
@@ -69,12 +70,12 @@ ArrivalLaw =
 -- through whatever lists of exactly the flows of one chassis, a packet takes one walk
 abbrev pub OneWalkLaw : Type 0
 OneWalkLaw =
-    (m : State) (zones : List (Name × ℕ)) (c : Name) (flows more : List Flow)
+    (m : State) (zones : Zoned) (c : Name) (flows more : List Flow)
     → IsValid m.config.net
     → HaveKeys m.config.net m.keys
-    → AreBound m zones
-    → AreFlowsOf m zones c flows
-    → AreFlowsOf m zones c more
+    → AreBound m.config zones
+    → AreFlowsOf m zones.numbers c flows
+    → AreFlowsOf m zones.numbers c more
     → (entry : Entry) (now : ℕ) (packet : Packet)
     → (steps others : List Step) (effects last : List Effect)
     → IsWalkOf flows entry now packet steps effects

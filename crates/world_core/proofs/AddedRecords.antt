@@ -1,7 +1,7 @@
 -- An added switch, and an added port: edits of the network, which leave a consistent state.
 use Rattle.world_core.specs.Untracked.{untracked}
 use Rattle.world_core.proofs.Turns.{with_records, edited_is, bindings_stay_beside, bindings_stay_with}
-use Rattle.std.specs.Prelude.{◌≡◌, ◌≢◌, ◌<◌, ◌+◌, ◌^◌, ◌++◌, ℕ, List, [], ◌∷◌, Option, Some, None, IsSome, cond, flat_map, length, map, refl}
+use Rattle.std.specs.Prelude.{◌≡◌, ◌≢◌, ◌<◌, ◌+◌, ◌^◌, ◌++◌, List, [], ◌∷◌, Option, Some, None, IsSome, cond, flat_map, length, map, refl}
 use Rattle.std.specs.List.{cons_option}
 use Rattle.std.specs.List.Sorted.{IsStrictlySortedBy}
 use Rattle.std.proofs.Common.{sym, ap, subst, ◌∙◌, inl, inr}
@@ -13,6 +13,7 @@ use Rattle.ovn_base.specs.declared.address.Birth.{Birth}
 use Rattle.ovn_base.specs.declared.name.Name.{Name}
 use Rattle.ovn_base.specs.names.ByName.{at, put, in_order, IsByName}
 use Rattle.ovn_base.proofs.ByNameLaws.{above_among, at_tail, below_apart, one_or_two}
+use Rattle.conn_zones.specs.Zoning.{Zoned}
 use Rattle.nb_records.specs.declared.change.Op.TheVariants.{Add}
 use Rattle.nb_records.specs.declared.record.Record.TheVariants as record_of
 use Rattle.nb_records.specs.declared.switch.Switch.{Switch}
@@ -75,7 +76,7 @@ module _ (m n : State) (after : Keys) (hold : IsKeys after) where
 
   module _ (s : Switch) (gives : GivesKeys m.keys (Datapath s.name (record { 0 = event_count m + 1 }) ∷ []) [] after)
       (is : n ≡ with_records m (record m.config.net { switches = put m.config.net.switches s.name (record s { birth = record { 0 = event_count m + 1 } }) }) after) where
-    pub edits_switch : (zones : List (Name × ℕ)) → IsConsistent m zones → m.lists ≡ untracked m.config → (effects : List NetEffect) → effects ≡ datapath_effect after (s.name, record { 0 = event_count m + 1 }) ∷ [] → Edits m (Add (record_of.Switch s) ∷ []) effects n
+    pub edits_switch : (zones : Zoned) → IsConsistent m zones → m.lists ≡ untracked m.config → (effects : List NetEffect) → effects ≡ datapath_effect after (s.name, record { 0 = event_count m + 1 }) ∷ [] → Edits m (Add (record_of.Switch s) ∷ []) effects n
     edits_switch zones old lists effects named = record {
       keys = after;
       hold = hold;
@@ -84,7 +85,7 @@ module _ (m n : State) (after : Keys) (hold : IsKeys after) where
       state = is ∙ edited_is m (record m.config.net { switches = put m.config.net.switches s.name (record s { birth = record { 0 = event_count m + 1 } }) }) after lists (bindings_stay_beside m zones old s);
     }
 
-    pub consistent_switch : (zones : List (Name × ℕ)) → IsConsistent m zones → at m.config.net.switches s.name ≡ None → length m.config.net.switches < 1024 → event_count m < 2 ^ 42 → IsConsistent (finished n) zones
+    pub consistent_switch : (zones : Zoned) → IsConsistent m zones → at m.config.net.switches s.name ≡ None → length m.config.net.switches < 1024 → event_count m < 2 ^ 42 → IsConsistent (finished n) zones
     consistent_switch zones old absent few room =
         subst (λ w. IsConsistent (finished w) zones) (sym is) (switch_comes m zones old room after hold (record s { birth = record { 0 = event_count m + 1 } }) absent few refl gives)
 
@@ -92,7 +93,7 @@ module _ (m n : State) (after : Keys) (hold : IsKeys after) where
 
   module _ (p : SwitchPort) (gives : GivesKeys m.keys (Port p.switch p.name (record { 0 = event_count m + 1 }) ∷ []) [] after)
       (is : n ≡ with_records m (record m.config.net { switch_ports = put m.config.net.switch_ports p.name (record p { birth = record { 0 = event_count m + 1 } }) }) after) where
-    pub edits_port : (zones : List (Name × ℕ)) → IsConsistent m zones → at m.config.net.switch_ports p.name ≡ None → m.lists ≡ untracked m.config → (effects : List NetEffect) → effects ≡ port_effect after (p.name, record { 0 = event_count m + 1 }) ∷ [] → Edits m (Add (record_of.SwitchPort p) ∷ []) effects n
+    pub edits_port : (zones : Zoned) → IsConsistent m zones → at m.config.net.switch_ports p.name ≡ None → m.lists ≡ untracked m.config → (effects : List NetEffect) → effects ≡ port_effect after (p.name, record { 0 = event_count m + 1 }) ∷ [] → Edits m (Add (record_of.SwitchPort p) ∷ []) effects n
     edits_port zones old absent lists effects named =
         let given = gives.port_given p.switch p.name (record { 0 = event_count m + 1 }) here in
         record {
@@ -103,7 +104,7 @@ module _ (m n : State) (after : Keys) (hold : IsKeys after) where
           state = is ∙ edited_is m (record m.config.net { switch_ports = put m.config.net.switch_ports p.name (record p { birth = record { 0 = event_count m + 1 } }) }) after lists (bindings_stay_with m zones old (record p { birth = record { 0 = event_count m + 1 } }) absent);
         }
 
-    pub consistent_port : (zones : List (Name × ℕ)) → IsConsistent m zones → at m.config.net.switch_ports p.name ≡ None → length m.config.net.switch_ports < 10000 → IsSome (at m.config.net.switches p.switch) → AreNew m.config.net p → event_count m < 2 ^ 42
+    pub consistent_port : (zones : Zoned) → IsConsistent m zones → at m.config.net.switch_ports p.name ≡ None → length m.config.net.switch_ports < 10000 → IsSome (at m.config.net.switches p.switch) → AreNew m.config.net p → event_count m < 2 ^ 42
         → IsConsistent (finished n) zones
     consistent_port zones old absent few on new room =
         subst (λ w. IsConsistent (finished w) zones) (sym is)

@@ -1,7 +1,7 @@
 -- A consistent state stays so where a record, a chassis or a binding comes.
 use Rattle.world_core.proofs.Turns.{with_records}
 use Rattle.net_model.specs.Transition.{turned_by, add_chassis, bind}
-use Rattle.std.specs.Prelude.{◌≡◌, ◌≤◌, ◌<◌, ◌+◌, ◌^◌, ℕ, List, [], ◌∷◌, None, IsSome, length, refl}
+use Rattle.std.specs.Prelude.{◌≡◌, ◌≤◌, ◌<◌, ◌+◌, ◌^◌, List, [], ◌∷◌, None, IsSome, length, refl}
 use Rattle.std.proofs.Common.{arith, ap}
 use Rattle.std.specs.Cmp.Lexicographic.{slice_cmp}
 use Rattle.std.specs.Ordering.{nat_cmp, match_ordering}
@@ -9,6 +9,8 @@ use Rattle.std.specs.declared.cmp.Ordering.TheVariants.{Less, Equal, Greater}
 use Rattle.ovn_base.specs.lists.Among.{Among}
 use Rattle.ovn_base.specs.declared.name.Name.{Name}
 use Rattle.ovn_base.specs.names.ByName.{at, put}
+use Rattle.conn_zones.specs.Rezoning.{IsRezoned}
+use Rattle.conn_zones.specs.Zoning.{Zoned}
 use Rattle.nb_records.specs.declared.switch.Switch.{Switch}
 use Rattle.nb_records.specs.declared.switch.SwitchPort.{SwitchPort}
 use Rattle.tunnel_keys.specs.Edits.{GivesKeys}
@@ -18,7 +20,7 @@ use Rattle.tunnel_keys.specs.declared.owner.KeyOwner.TheVariants.{Datapath, Port
 use Rattle.sim_laws.specs.Consistent.{IsConsistent}
 use Rattle.world_core.specs.NewPort.{AreNew}
 use Rattle.net_model.specs.State.{State, event_count, finished}
-use Rattle.world_core.specs.Zones.{zone_for}
+use Rattle.world_core.specs.Zones.{home_change}
 use Rattle.tunnel_keys.proofs.Births.{born_later, keys_born}
 use Rattle.world_core.proofs.NewKeys.{given_beside, switch_keys, port_keys}
 use Rattle.world_core.proofs.NamesInOrder.{name_kept, names_few, names_sorted}
@@ -27,7 +29,6 @@ use Rattle.world_core.proofs.WaitingFrames.{port_kept, same_kept, switch_kept, w
 use Rattle.tunnel_keys.specs.Owners.{birth_in}
 use Rattle.tunnel_keys.proofs.OwnerLaws.{the_one}
 use Rattle.world_core.proofs.FreedKeys.{counted, finished_consistent}
-use Rattle.world_core.proofs.ZoneNumbers.{zone_is}
 
 -- one entry more at the most
 pub few_put : {X : Type 0} (entries : List (Name × X)) (name : Name) (value : X) → length (put entries name value) ≤ length entries + 1
@@ -40,7 +41,7 @@ few_put (e ∷ entries) name value =
       | Greater ↦ omega (arith, ih)
     ]
 
-module _ (m : State) (zones : List (Name × ℕ)) (old : IsConsistent m zones) (room : event_count m < 2 ^ 42) where
+module _ (m : State) (zones : Zoned) (old : IsConsistent m zones) (room : event_count m < 2 ^ 42) where
   -- ---- a record
 
   module _ (after : Keys) (hold : IsKeys after) where
@@ -101,17 +102,15 @@ module _ (m : State) (zones : List (Name × ℕ)) (old : IsConsistent m zones) (
 
   -- ---- a binding
 
-  pub port_bound : (p c : Name) → IsSome (at m.config.net.switch_ports p) → Among c m.config.chassis → IsConsistent (finished (turned_by (bind m.config p c) m)) (put zones p (zone_for m.config.bindings zones p c))
-  port_bound p c there known =
-      let zone = zone_for m.config.bindings zones p c in
-      let is = zone_is m zones old.bound c p old.within.ports in
+  pub port_bound : (p c : Name) (after : Zoned) → IsSome (at m.config.net.switch_ports p) → Among c m.config.chassis → IsRezoned zones (home_change p c) after → IsConsistent (finished (turned_by (bind m.config p c) m)) after
+  port_bound p c after there known rezoned =
       let mid = turned_by (bind m.config p c) m in
       let n = counted mid in
-      finished_consistent mid (put zones p zone) (record {
+      finished_consistent mid after (record {
         valid = old.valid;
         within = old.within;
         keys = old.keys;
-        bound = bound_fresh m n zones p c zone old.bound refl refl refl there known is.low is.high is.apart;
+        bound = bound_fresh m n zones after p c old.bound refl refl refl there known rezoned;
         born = born_kept m n old.born (omega arith) (λ h. absurd (omega arith)) refl refl;
         on_the_way = way_on m n old.born (same_kept m n refl refl old.keys.hold) old.on_the_way refl refl (omega arith) (λ h. omega arith);
         few = omega (arith, room);

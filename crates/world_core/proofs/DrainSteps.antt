@@ -5,10 +5,10 @@ use Rattle.std.proofs.lemmas.Cmp.{nat_cmp_total, tied_itself}
 use Rattle.std.proofs.lemmas.Option.{same_Some, none-some}
 use Rattle.std.specs.BTreeMap.{is_at}
 use Rattle.std.specs.Ordering.{is_eq, nat_cmp}
-use Rattle.ovn_base.specs.declared.name.Name.{Name}
 use Rattle.chassis_sim.specs.State as sim
 use Rattle.chassis_sim.specs.State.{numbered}
 use Rattle.chassis_sim.specs.declared.out.SimOut.{SimOut}
+use Rattle.conn_zones.specs.Zoning.{Zoned}
 use Rattle.switch_engine.specs.declared.effect.NetEffect.{NetEffect}
 use Rattle.net_model.specs.declared.crossing.Crossing.{Crossing}
 use Rattle.world_core.specs.Packets.{AreGone, HasArrived, most_sent}
@@ -27,10 +27,10 @@ pub record AreDraining (old : WorldView) (before : SimOut) (left : ℕ) (now : W
   pub drained : (after : SimOut) (s : sim.SimState) → AreDrained left now.sim told after s → AreDrained most_arrivals old.sim before after s
   pub drains : (effects : List NetEffect) (m : State) → Drains left now.state effects m → Drains most_arrivals old.state (own ++ effects) m
   pub amidst : IsAmidst now.state now.zones most_sent
-  pub held : AreHeld now.state now.zones now.sim
+  pub held : AreHeld now.state now.zones.numbers now.sim
   pub rest : now ≡ record old { state = now.state; sim = now.sim }
 
-pub drain_begins : (old : WorldView) (before : SimOut) → IsAmidst old.state old.zones most_sent → AreHeld old.state old.zones old.sim → AreDraining old before most_arrivals old before
+pub drain_begins : (old : WorldView) (before : SimOut) → IsAmidst old.state old.zones most_sent → AreHeld old.state old.zones.numbers old.sim → AreDraining old before most_arrivals old before
 drain_begins old before a h = record { own = []; all = sym (append-nil before.effects); drained = λ after s d. d; drains = λ effects m d. d; amidst = a; held = h; rest = refl }
 
 -- the first of some entries
@@ -90,7 +90,7 @@ over_net zero m e = (refl, refl)
 over_net (suc left) m (inl z) = absurd (omega (arith, z))
 over_net (suc left) m (inr none) = inl (none, refl, refl)
 
-none_held : (m : State) (zones : List (Name × ℕ)) (s : sim.SimState) → AreHeld m zones s → m.waiting ≡ [] → s.waiting ≡ []
+none_held : (m : State) (zones : Zoned) (s : sim.SimState) → AreHeld m zones.numbers s → m.waiting ≡ [] → s.waiting ≡ []
 none_held m zones s h none = h.waiting ∙ ap (λ ws. map (frame_of_crossing m.keys) ws) none
 
 -- none is left, or enough arrived

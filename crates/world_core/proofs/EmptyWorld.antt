@@ -1,10 +1,13 @@
 -- The empty world is sound.
 use Rattle.world_core.specs.Untracked.{untracked}
-use Rattle.std.proofs.Common.{◌≡◌, ℕ, true, List, [], refl, arith}
+use Rattle.std.proofs.Common.{◌≡◌, ◌∙◌, ℕ, true, List, [], None, refl, sym, arith}
 use Rattle.std.specs.List.Sorted.{IsStrictlySortedBy}
 use Rattle.std.proofs.lemmas.Option.{none-some}
 use Rattle.ovn_base.proofs.AmongLaws.{among_none}
 use Rattle.ovn_base.specs.declared.name.Name.{Name}
+use Rattle.conn_zones.specs.Zoning.{Zoned, home_for, number_on, IsZoned}
+use Rattle.conn_zones.specs.declared.numbers.ZoneUse.{ZoneUse}
+use Rattle.conn_zones.specs.declared.numbers.ZoneUse.TheVariants.{Port, Dnat, Snat}
 use Rattle.chassis_sim.specs.State as sim
 use Rattle.chassis_sim.specs.State.{at_name, nothing_held}
 use Rattle.nb_records.specs.Network.{Network, empty_network}
@@ -13,6 +16,7 @@ use Rattle.net_model.specs.declared.crossing.Crossing.{Crossing}
 use Rattle.tunnel_keys.specs.Keys.{Keys, IsKeys, no_keys}
 use Rattle.sim_laws.specs.Consistent.{IsConsistent}
 use Rattle.world_core.specs.StepParts.{new_world}
+use Rattle.world_core.specs.Zones.{no_zones}
 use Rattle.tunnel_keys.proofs.Invariant.{none_hold}
 use Rattle.world_core.specs.WorldView.{IsSound}
 use Rattle.sim_laws.specs.Held.{AreHeld}
@@ -57,7 +61,31 @@ new_have = record {
   no_retired_ports = refl;
 }
 
-new_bound : AreBound empty []
+no_home : (zone : ZoneUse) → home_for no_zones.homes zone ≡ None
+no_home (Port q) = refl
+no_home (Dnat r) = refl
+no_home (Snat r) = refl
+
+no_number : (c : Name) (zone : ZoneUse) → number_on no_zones.numbers c zone ≡ None
+no_number c (Port q) = refl
+no_number c (Dnat r) = refl
+no_number c (Snat r) = refl
+
+new_zoned : IsZoned no_zones
+unfolding IsStrictlySortedBy
+new_zoned = record {
+  ports_in_order = tt;
+  routers_in_order = tt;
+  numbers_in_order = record { ports = tt; dnat = tt; snat = tt };
+  at_home = λ c zone. (
+    λ h. absurd (none-some c (sym (no_home zone) ∙ h)),
+    λ h. let n = some_of {X = ℕ} (number_on no_zones.numbers c zone) h in absurd (none-some n.0 (sym (no_number c zone) ∙ n.1)),
+  );
+  in_range = λ c zone n h. absurd (none-some n (sym (no_number c zone) ∙ h));
+  apart = λ c one other n h k. absurd (none-some n (sym (no_number c one) ∙ h));
+}
+
+new_bound : AreBound empty.config no_zones
 unfolding IsStrictlySortedBy
 new_bound = record {
   bindings_sorted = tt;
@@ -65,11 +93,8 @@ new_bound = record {
   chassis_there = λ q c e. absurd (none-some c e);
   chassis_sorted = tt;
   few_chassis = omega arith;
-  zones_sorted = tt;
-  has_zone = λ q c e. absurd (none-some c e);
-  zone_of = λ q z e. absurd (none-some z e);
-  zone_fits = λ q z e. absurd (none-some z e);
-  zones_apart = λ p q c z e f. absurd (none-some c e);
+  homes = refl;
+  zoned = new_zoned;
 }
 
 new_born : AreBorn empty
@@ -88,7 +113,7 @@ new_crossings = record {
   may = λ n x among. absurd (among_none (n, x) among);
 }
 
-new_consistent : IsConsistent empty []
+new_consistent : IsConsistent empty no_zones
 new_consistent = record {
   valid = new_valid;
   within = record { switches = omega arith; ports = omega arith };
@@ -99,7 +124,7 @@ new_consistent = record {
   few = omega arith;
 }
 
-new_held : AreHeld empty [] new_world.sim
+new_held : AreHeld empty no_zones.numbers new_world.sim
 new_held = record {
   bindings = λ q. refl;
   names = record { datapaths = λ a k e. absurd (none-some k e); ports = λ q p k e f. absurd (none-some p e) };
@@ -112,9 +137,12 @@ new_held = record {
 pub new_sound : IsSound new_world
 new_sound = record { whole = refl; consistent = new_consistent; held = new_held }
 
+pub are_no_zones : (zones : Zoned) → zones.homes ≡ no_zones.homes → zones.numbers ≡ no_zones.numbers → zones ≡ no_zones
+are_no_zones zones homes numbers = λ i. record { homes = homes i; numbers = numbers i }
+
 -- and so is one that is made of empty parts
-pub starts_sound : (net : Network) (chassis : List Name) (bindings : List (Name × Name)) (keys : Keys) (zones : List (Name × ℕ)) (s : sim.SimState) (crossings : List (ℕ × Crossing)) (walks : List Walk)
-    → net ≡ empty_network → chassis ≡ [] → bindings ≡ [] → keys ≡ first_keys → zones ≡ [] → s ≡ nothing_held → crossings ≡ [] → walks ≡ []
+pub starts_sound : (net : Network) (chassis : List Name) (bindings : List (Name × Name)) (keys : Keys) (zones : Zoned) (s : sim.SimState) (crossings : List (ℕ × Crossing)) (walks : List Walk)
+    → net ≡ empty_network → chassis ≡ [] → bindings ≡ [] → keys ≡ first_keys → zones ≡ no_zones → s ≡ nothing_held → crossings ≡ [] → walks ≡ []
     → IsSound (record {
       state = record {
         config = record { net = net; chassis = chassis; bindings = bindings };

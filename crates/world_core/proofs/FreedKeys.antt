@@ -2,8 +2,8 @@
 use Rattle.std.specs.Prelude.{◌≡◌, ◌+◌, ℕ, List, [], ◌∷◌, refl}
 use Rattle.std.proofs.Common.{subst}
 use Rattle.ovn_base.specs.lists.Among.{Among}
-use Rattle.ovn_base.specs.declared.name.Name.{Name}
 use Rattle.ovn_base.proofs.AmongLaws.{among_none}
+use Rattle.conn_zones.specs.Zoning.{Zoned}
 use Rattle.tunnel_keys.proofs.Births.{settled_born}
 use Rattle.tunnel_keys.specs.Keys.{Keys, settled}
 use Rattle.tunnel_keys.proofs.Invariant.{settled_hold}
@@ -15,7 +15,7 @@ use Rattle.net_model.specs.State.{State, event_count, finished, settled_where_no
 abbrev pub counted : State → State
 counted m = record m { accepted = m.accepted + 1 }
 
-module _ (c : State) (zones : List (Name × ℕ)) (old : IsConsistent c zones) where
+module _ (c : State) (zones : Zoned) (old : IsConsistent c zones) where
   abbrev under : Keys → State
   under keys = record c { keys = keys }
 
@@ -37,18 +37,7 @@ module _ (c : State) (zones : List (Name × ℕ)) (old : IsConsistent c zones) w
       no_retired_datapaths = refl;
       no_retired_ports = refl;
     };
-    bound = record {
-      bindings_sorted = old.bound.bindings_sorted;
-      port_there = old.bound.port_there;
-      chassis_there = old.bound.chassis_there;
-      chassis_sorted = old.bound.chassis_sorted;
-      few_chassis = old.bound.few_chassis;
-      zones_sorted = old.bound.zones_sorted;
-      has_zone = old.bound.has_zone;
-      zone_of = old.bound.zone_of;
-      zone_fits = old.bound.zone_fits;
-      zones_apart = old.bound.zones_apart;
-    };
+    bound = old.bound;
     born = record {
       switches = old.born.switches;
       ports = old.born.ports;
@@ -74,5 +63,5 @@ module _ (c : State) (zones : List (Name × ℕ)) (old : IsConsistent c zones) w
   settles : IsConsistent (under (settled_where_none_waits c.waiting c.keys)) zones
   settles = by_waiting c.waiting refl
 
-pub finished_consistent : (m : State) (zones : List (Name × ℕ)) → IsConsistent (counted m) zones → IsConsistent (finished m) zones
+pub finished_consistent : (m : State) (zones : Zoned) → IsConsistent (counted m) zones → IsConsistent (finished m) zones
 finished_consistent m zones now = settles (counted m) zones now

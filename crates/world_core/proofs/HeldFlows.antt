@@ -1,6 +1,5 @@
 -- The flows of what holds those of a chassis.
 use Rattle.std.specs.Prelude.{List}
-use Rattle.std.proofs.Common.{◌≡◌}
 use Rattle.flow_table.specs.declared.flow.Flow.{Flow}
 use Rattle.tuple_space.specs.Bunches.{flows_in}
 use Rattle.tuple_space.specs.declared.space.TupleSpace.{TupleSpace}

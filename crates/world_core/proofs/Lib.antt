@@ -21,11 +21,12 @@ pub mod OneStep
 pub mod PacketEvents
 pub mod PacketState
 pub mod PlainSteps
+pub mod PortHomes
 pub mod RecordChanges
 pub mod Refusal
 pub mod Refusals
+pub mod SameZones
 pub mod StepByStep
 pub mod TurnEvents
 pub mod Turns
 pub mod WaitingFrames
-pub mod ZoneNumbers

@@ -10,6 +10,7 @@ use Rattle.chassis_sim.specs.Settings.{set_in_turn}
 use Rattle.chassis_sim.specs.State as sim
 use Rattle.chassis_sim.specs.State.{at_name, same_pair}
 use Rattle.chassis_sim.specs.declared.change.SimChange.{SimChange}
+use Rattle.conn_zones.specs.Zoning.{Zoned}
 use Rattle.flow_table.specs.declared.flow.Flow.{Flow}
 use Rattle.switch_engine.specs.Proper.{IsProper}
 use Rattle.ovn_base.specs.lists.Among.{Among, here, there}
@@ -62,8 +63,8 @@ module _ {T : Type 0} (flows_of : T → List Flow) where
         ]
   ]
 
-  module _ (m : State) (zones : List (Name × ℕ)) (old new : sim.SimState) (change : SimChange T) (added : keys_of change.added ≡ m.config.chassis)
-      (all : AllByRecursion (λ e. AreFlowsOf m zones e.0 (flows_of e.1)) change.added) (none_go : change.removed ≡ []) (none_change : change.tables ≡ []) (made : IsApplied flows_of old change new) where
+  module _ (m : State) (zones : Zoned) (old new : sim.SimState) (change : SimChange T) (added : keys_of change.added ≡ m.config.chassis)
+      (all : AllByRecursion (λ e. AreFlowsOf m zones.numbers e.0 (flows_of e.1)) change.added) (none_go : change.removed ≡ []) (none_change : change.tables ≡ []) (made : IsApplied flows_of old change new) where
     flows_then : (c : Name) → at_name new.chassis c ≡ then' change.added c (at_name old.chassis c)
     flows_then c =
         let is = made.chassis c in
@@ -82,11 +83,11 @@ module _ {T : Type 0} (flows_of : T → List Flow) where
       | inr r ↦ absurd (r.0 (subst (λ l. Among c l) (sym added) among))
     ]
 
-    pub all_flows : (c : Name) (flows : List Flow) → Among c m.config.chassis → at_name new.chassis c ≡ Some flows → AreFlowsOf m zones c flows
+    pub all_flows : (c : Name) (flows : List Flow) → Among c m.config.chassis → at_name new.chassis c ≡ Some flows → AreFlowsOf m zones.numbers c flows
     all_flows c flows among is = elim (come_or_not change.added c (at_name old.chassis c)) [
       | inl r ↦
           let same : flows_of r.entry.1 ≡ flows = same_Some (flows_of r.entry.1) flows (sym (flows_then c ∙ r.flows_are) ∙ is) in
-          subst (λ d. AreFlowsOf m zones d flows) r.own (subst (λ fs. AreFlowsOf m zones r.entry.0 fs) same (among_all (λ e. AreFlowsOf m zones e.0 (flows_of e.1)) r.entry change.added all r.among))
+          subst (λ d. AreFlowsOf m zones.numbers d flows) r.own (subst (λ fs. AreFlowsOf m zones.numbers r.entry.0 fs) same (among_all (λ e. AreFlowsOf m zones.numbers e.0 (flows_of e.1)) r.entry change.added all r.among))
       | inr r ↦ absurd (r.0 (subst (λ l. Among c l) (sym added) among))
     ]
 
@@ -100,7 +101,7 @@ module _ {T : Type 0} (flows_of : T → List Flow) where
         key_among es e among = among_map (λ (x : Name × T). x.0) e es among
 
   -- the flows of all chassis are proper
-  pub all_proper : (m : State) (zones : List (Name × ℕ)) → HaveKeys m.config.net m.keys → AreBound m zones → (added : List (Name × T)) → AllByRecursion (λ e. AreFlowsOf m zones e.0 (flows_of e.1)) added → AllByRecursion (λ e. IsProper (flows_of e.1)) added
+  pub all_proper : (m : State) (zones : Zoned) → HaveKeys m.config.net m.keys → AreBound m.config zones → (added : List (Name × T)) → AllByRecursion (λ e. AreFlowsOf m zones.numbers e.0 (flows_of e.1)) added → AllByRecursion (λ e. IsProper (flows_of e.1)) added
   all_proper m zones keys bound [] all = tt
   all_proper m zones keys bound (a ∷ added) all = (proper m zones (flows_of a.1) a.0 keys bound all.0, all_proper m zones keys bound added all.1)
 
@@ -121,14 +122,14 @@ settled_names [] keys s names = record { datapaths = names.datapaths; ports = na
 settled_names (w ∷ ws) keys s names = names
 
 -- bindings and names are those of the state, no chassis went, the frames are spelled as before, and all tables were made anew
-pub held_again : (m mid : State) (zones : List (Name × ℕ)) (bound : List (Name × Option Name)) (names : List (ℕ × ℕ × Name)) (between new : WorldView) → AreHeld m zones between.sim → between.state ≡ finished mid
+pub held_again : (m mid : State) (zones : Zoned) (bound : List (Name × Option Name)) (names : List (ℕ × ℕ × Name)) (between new : WorldView) → AreHeld m zones.numbers between.sim → between.state ≡ finished mid
     → IsRecompiled bound names between new → ((c : Name) → Among c m.config.chassis → Among c mid.config.chassis) → mid.waiting ≡ m.waiting → mid.next ≡ m.next → map (frame_of_crossing mid.keys) m.waiting ≡ map (frame_of_crossing m.keys) m.waiting
-    → ((q : Name) → at_name new.sim.bindings q ≡ at mid.config.bindings q) → HaveOwnersNames mid.keys new.sim → AreHeld (finished mid) between.zones new.sim
+    → ((q : Name) → at_name new.sim.bindings q ≡ at mid.config.bindings q) → HaveOwnersNames mid.keys new.sim → AreHeld (finished mid) between.zones.numbers new.sim
 held_again m mid zones bound names between new held is made stay waiting next frames bindings called = record {
   bindings = bindings;
   names = settled_names mid.waiting mid.keys new.sim called;
   held = λ c. (forward c, backward c);
-  flows = λ c flows has. subst (λ w. AreFlowsOf w between.zones c flows) state_is (subst (λ (v : WorldView). AreFlowsOf v.state v.zones c flows) made.kept (made.flows c flows (inside c (forward c (is_some_of (at_name new.sim.chassis c) flows has))) has));
+  flows = λ c flows has. subst (λ w. AreFlowsOf w between.zones.numbers c flows) state_is (subst (λ (v : WorldView). AreFlowsOf v.state v.zones.numbers c flows) made.kept (made.flows c flows (inside c (forward c (is_some_of (at_name new.sim.chassis c) flows has))) has));
   waiting =
       made.waiting ∙ held.waiting ∙ sym frames ∙ ap (λ ws. map (frame_of_crossing mid.keys) ws) (sym waiting)
       ∙ settled_frames mid.waiting mid.keys;

@@ -9,6 +9,7 @@ use Rattle.ovn_base.specs.declared.name.Name.{Name}
 use Rattle.inet_packet.specs.declared.packet.Packet as inet
 use Rattle.inet_packet.specs.Frame.{frame_of}
 use Rattle.inet_packet.proofs.OnePacket.{one_packet_at_most}
+use Rattle.conn_zones.specs.Zoning.{Zoned}
 use Rattle.geneve_frames.specs.Meaning.{canon}
 use Rattle.geneve_frames.proofs.Faults.{one_spelled}
 use Rattle.flow_table.specs.declared.flow.Flow.{Flow}
@@ -64,8 +65,8 @@ record AreAlike (a b : sim.SimState) : Type 0 where
 sound_alike : (one two : WorldView) → IsSound one → IsSound two → one.state ≡ two.state → one.zones ≡ two.zones → AreAlike one.sim two.sim
 sound_alike one two sound also states zones =
     let now = sound.consistent in
-    let first : AreHeld one.state one.zones one.sim = sound.held in
-    let second : AreHeld one.state one.zones two.sim = subst (λ z. AreHeld one.state z two.sim) (sym zones) (subst (λ m. AreHeld m two.zones two.sim) (sym states) also.held) in
+    let first : AreHeld one.state one.zones.numbers one.sim = sound.held in
+    let second : AreHeld one.state one.zones.numbers two.sim = subst (λ (z : Zoned). AreHeld one.state z.numbers two.sim) (sym zones) (subst (λ m. AreHeld m two.zones.numbers two.sim) (sym states) also.held) in
     record {
       bindings = λ q. first.bindings q ∙ sym (second.bindings q);
       held = λ c h. (second.held c).1 ((first.held c).0 h);

@@ -23,7 +23,7 @@ use Rattle.net_model.specs.State.{State, event_count, finished}
 use Rattle.sim_laws.specs.PacketSteps.{Arrives, Drains, Enters, most_arrivals}
 use Rattle.world_core.specs.Step.{Does}
 use Rattle.sim_laws.specs.PlainJourneys.{with_kept}
-use Rattle.world_core.specs.Zones.{zones_after}
+use Rattle.world_core.specs.Zones.{Rezones}
 use Rattle.sim_laws.proofs.EventEnds.{finishes}
 use Rattle.sim_laws.proofs.Refinements.{amidst_with, crossings_kept, held_kept}
 
@@ -47,8 +47,8 @@ drains_events (suc k) m effects after (inr h) = drains_events k h.mid h.more aft
 -- ---- the event is done
 
 pub finish_done : (old : WorldView) (event : Event) (effects : List NetEffect) (walks : List Walk) (mid new : WorldView) (count : ℕ) → IsTaken old → event_count old.state < 2 ^ 42 → event_count mid.state ≡ event_count old.state → Does old.state event effects mid.state
-    → Passes old.sim event (record { effects = effects; walks = walks }) mid.sim → IsAmidst mid.state mid.zones most_sent → AreHeld mid.state mid.zones mid.sim → mid ≡ record old { state = mid.state; sim = mid.sim }
-    → new ≡ record mid { state = finished mid.state } → zones_after old.state.config.bindings old.zones event ≡ old.zones → count ≡ matched walks → IsDone old event effects walks count new
+    → Passes old.sim event (record { effects = effects; walks = walks }) mid.sim → IsAmidst mid.state mid.zones most_sent → AreHeld mid.state mid.zones.numbers mid.sim → mid ≡ record old { state = mid.state; sim = mid.sim }
+    → new ≡ record mid { state = finished mid.state } → Rezones event old.zones old.zones → count ≡ matched walks → IsDone old event effects walks count new
 finish_done old event effects walks mid new count t room same does passes amidst held rest then zones counts =
     let end = finishes mid.state mid.zones most_sent mid.sim amidst (omega arith) (omega (arith, room, same)) held in
     let whole : mid.whole ≡ false = ap (λ (w : WorldView). w.whole) rest ∙ t.taken in
@@ -57,7 +57,7 @@ finish_done old event effects walks mid new count t room same does passes amidst
       step = record { mid = mid.state; does = does; state = ap (λ (w : WorldView). w.state) then };
       passed = subst (λ s. Passes old.sim event (record { effects = effects; walks = walks }) s) (sym (ap (λ (w : WorldView). w.sim) then)) passes;
       counts = counts;
-      zones = ap (λ (w : WorldView). w.zones) then ∙ zoned ∙ sym zones;
+      zones = subst (λ z. Rezones event old.zones z) (sym (ap (λ (w : WorldView). w.zones) then ∙ zoned)) zones;
       now = subst IsTaken (sym then) (record { consistent = end.0; held = end.1; taken = whole });
     }
 
@@ -127,5 +127,5 @@ loss_done old n mid new effects walks count t room lost then no_effects no_walks
     let held = held_kept false m old.zones old.sim n t.held in
     handed_on old new (event_of.Lose n) no_out effects walks count no_effects no_walks
     (finish_done old (event_of.Lose n) [] [] mid new count t room (ap (λ (v : WorldView). event_count v.state) lost) (loses_moves m now.valid n [] mid.state refl (ap (λ (v : WorldView). v.state) lost)) refl
-    (subst (λ (v : WorldView). IsAmidst v.state v.zones most_sent) (sym lost) amidst) (subst (λ (v : WorldView). AreHeld v.state v.zones v.sim) (sym lost) held)
+    (subst (λ (v : WorldView). IsAmidst v.state v.zones most_sent) (sym lost) amidst) (subst (λ (v : WorldView). AreHeld v.state v.zones.numbers v.sim) (sym lost) held)
     (subst (λ (v : WorldView). v ≡ record old { state = v.state; sim = v.sim }) (sym lost) refl) then refl none)

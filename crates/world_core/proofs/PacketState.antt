@@ -49,7 +49,7 @@ passed_at old waiting s before after Passed Happens passed r same = record {
   all = r.all;
   happens = subst (λ m. Happens old.state r.effects m) (sym same) r.happens;
   amidst = subst (λ m. IsAmidst m old.zones most_sent) (sym same) r.amidst;
-  held = subst (λ m. AreHeld m old.zones s) (sym same) r.held;
+  held = subst (λ m. AreHeld m old.zones.numbers s) (sym same) r.held;
   rest = refl;
 }
 
@@ -65,7 +65,7 @@ next_of false m n = refl
 none_numbered : (n : ℕ) (xs : List Crossing) → xs ≡ [] → numbered_from n xs ≡ []
 none_numbered n xs e = ap (λ l. numbered_from n l) e
 
-pub arrived_passed : (old : WorldView) (n : ℕ) (keep : Bool) (before after : SimOut) (s : sim.SimState) (waiting : List (ℕ × Crossing)) → IsAmidst old.state old.zones most_sent → AreHeld old.state old.zones old.sim
+pub arrived_passed : (old : WorldView) (n : ℕ) (keep : Bool) (before after : SimOut) (s : sim.SimState) (waiting : List (ℕ × Crossing)) → IsAmidst old.state old.zones most_sent → AreHeld old.state old.zones.numbers old.sim
     → passing.IsArrived old.sim n keep clock before after s → waiting ≡ (with_kept keep old.state n).waiting → HasArrived old n keep before after (world_with old waiting s)
 arrived_passed old n keep before after s waiting a h arrives kept =
     let r = arrival_refines law.arrival old.state old.zones most_sent old.sim s n keep before after a h arrives in
@@ -105,7 +105,7 @@ sent_also m next p to bytes x f = record {
   spelled_so = f.spelled_so;
 }
 
-pub goes_on : (old : WorldView) (p : Name) (frame : List ℕ) (before after : SimOut) (s : sim.SimState) (effects : List NetEffect) → IsAmidst old.state old.zones 0 → AreHeld old.state old.zones old.sim → IsSome (at old.state.config.bindings p)
+pub goes_on : (old : WorldView) (p : Name) (frame : List ℕ) (before after : SimOut) (s : sim.SimState) (effects : List NetEffect) → IsAmidst old.state old.zones 0 → AreHeld old.state old.zones.numbers old.sim → IsSome (at old.state.config.bindings p)
     → GoesIn old.sim p frame before after s → effects ≡ drop (length before.effects) after.effects → GoesOn old p frame before after s effects
 goes_on old p frame before after s effects a h bound g are =
     let r = entry_refines law.entry old.state old.zones 0 old.sim s p frame before after a h g in
@@ -131,7 +131,7 @@ goes_on old p frame before after s effects a h bound g are =
         all = r.all;
         happens = subst (λ m. Enters old.state p frame r.effects m) (sym same) own;
         amidst = subst (λ m. IsAmidst m old.zones most_sent) (sym same) r.amidst;
-        held = subst (λ m. AreHeld m old.zones s) (sym same) r.held;
+        held = subst (λ m. AreHeld m old.zones.numbers s) (sym same) r.held;
         rest = refl;
       };
     }

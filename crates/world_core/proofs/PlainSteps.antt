@@ -1,27 +1,21 @@
 -- The packets of an event, taken one after another, are the journeys of the logical network.
 use Rattle.world_core.proofs.DrainSteps.{own_waits}
-use Rattle.std.specs.Prelude.{◌≡◌, ◌≢◌, ◌+◌, ◌*◌, ◌⊎◌, ℕ, zero, suc, Bool, true, false, cond, List, [], ◌∷◌, ◌++◌, length, Option, Some, None, refl}
+use Rattle.std.specs.Prelude.{◌≡◌, ◌+◌, ℕ, zero, suc, Bool, true, false, List, [], ◌∷◌, ◌++◌, length, refl}
 use Rattle.std.proofs.Common.{sym, ap, ◌∙◌, subst, arith, inl, inr}
-use Rattle.std.proofs.lemmas.Option.{none-some, same_Some}
-use Rattle.std.specs.List.{list_any}
+use Rattle.std.proofs.lemmas.Option.{same_Some}
 use Rattle.ovn_base.specs.lists.Among.{Among}
-use Rattle.ovn_base.specs.names.ByName.{at}
 use Rattle.ovn_base.specs.names.SameName.{bytes_decides, same_name}
 use Rattle.ovn_base.specs.declared.name.Name.{Name}
 use Rattle.ovn_base.proofs.AmongLaws.{among_any}
 use Rattle.chassis_sim.specs.State.{numbered}
 use Rattle.edit_reader.specs.Reads.{IsPlainFrame}
-use Rattle.inet_packet.specs.Frame.{frame_of}
-use Rattle.inet_packet.specs.Whole.{IsWhole}
-use Rattle.inet_packet.specs.declared.packet.Packet.{Packet}
 use Rattle.net_model.specs.Config.{is_chassis}
-use Rattle.net_model.specs.Journey.{arrive_all, arrive_one, enter_and_arrive, enter_one, lose_one, scene_at, scenes_of, Traffic, Travels}
+use Rattle.net_model.specs.Journey.{arrive_all, arrive_one, enter_and_arrive, enter_one, lose_one, scene_at, Travels}
 use Rattle.net_model.specs.State.{State}
 use Rattle.net_model.specs.Trail.{End, leaves, is_dropped, crosses, picks_backend, picks_port, is_lost, crossings_in}
-use Rattle.net_model.specs.declared.crossing.Crossing.{Crossing}
 use Rattle.sim_laws.specs.PlainJourneys as plain_net
 use Rattle.sim_laws.specs.PlainJourneys.{sent_on, with_kept}
-use Rattle.sim_laws.specs.PlainWays.{arrival_ends, visit_ends}
+use Rattle.sim_laws.specs.PlainWays.{visit_ends}
 use Rattle.sim_laws.proofs.PlainDrains.{travels_arrive, travels_drain, travels_enter, travels_enter_and_drain, travels_lose}
 use Rattle.sim_laws.proofs.PlainFrames.{no_arp}
 use Rattle.switch_engine.specs.declared.effect.NetEffect.{NetEffect}

@@ -1,12 +1,11 @@
 -- What stays true of the records, the bindings and the births, when a record comes, a port is bound, a chassis comes.
-use Rattle.std.specs.Prelude.{◌≡◌, ◌≢◌, ◌≤◌, ◌<◌, ◌^◌, ◌⊎◌, ℕ, true, List, Some, None, Option, IsSome, is_some, length, refl}
+use Rattle.std.specs.Prelude.{◌≡◌, ◌≢◌, ◌≤◌, ◌⊎◌, true, List, [], Some, None, Option, IsSome, is_some, length}
 use mathlib.Core.Path.{sym, ap, subst, ◌∙◌}
 use mathlib.Core.Logic.{inl, inr}
 use native.Mathlib.Omega.{arith}
 use Rattle.std.specs.Cmp.Lexicographic.{slice_cmp}
 use Rattle.std.specs.List.Sorted.{IsStrictlySortedBy}
 use Rattle.std.specs.Ordering.{nat_cmp}
-use Rattle.std.proofs.lemmas.Option.{none-some}
 use Rattle.ovn_base.specs.lists.Among.{Among}
 use Rattle.ovn_base.specs.declared.name.Name.{Name}
 use Rattle.ovn_base.specs.lists.Once.{EachOnce}
@@ -15,6 +14,8 @@ use Rattle.nb_records.specs.Network.{Network}
 use Rattle.ovn_base.proofs.ByNameLaws.{put_there, put_other, put_cases, put_sorted, one_or_two}
 use Rattle.nb_records.specs.declared.switch.Switch.{Switch}
 use Rattle.nb_records.specs.declared.switch.SwitchPort.{SwitchPort}
+use Rattle.conn_zones.specs.Rezoning.{IsRezoned}
+use Rattle.conn_zones.specs.Zoning.{Zoned}
 use Rattle.tunnel_keys.specs.Births.{AreKeysBorn}
 use Rattle.tunnel_keys.proofs.Births.{born_later}
 use Rattle.net_model.specs.State.{State, event_count}
@@ -24,7 +25,9 @@ use Rattle.world_core.specs.NewPort.{AreNew}
 use Rattle.physical_flows.specs.Valid.{IsValid}
 use Rattle.physical_flows.specs.Bindings.{AreBound}
 use Rattle.sim_laws.specs.Sound.{AreBorn}
-use Rattle.physical_flows.proofs.FlowSearch.{some_of, is_some_of}
+use Rattle.physical_flows.proofs.FlowSearch.{is_some_of}
+use Rattle.world_core.specs.Zones.{home_change}
+use Rattle.world_core.proofs.PortHomes.{homes_after}
 
 -- what is there at a name stays there, whatever is put
 pub some_kept : {X : Type 0} (entries : List (Name × X)) (name : Name) (value : X) (q : Name) → IsSome (at entries q) → IsSome (at (put entries name value) q)
@@ -117,30 +120,27 @@ module _ (net : Network) (name : Name) (port : SwitchPort) where
 
 -- ---- bindings
 
-module _ (m n : State) (zones : List (Name × ℕ)) where
+module _ (m n : State) (zones : Zoned) where
   -- bindings hold on to ports that stay, and to chassis that stay
-  pub bound_kept : AreBound m zones → n.config.bindings ≡ m.config.bindings → ((q : Name) → IsSome (at m.config.net.switch_ports q) → IsSome (at n.config.net.switch_ports q)) → ((c : Name) → Among c m.config.chassis → Among c n.config.chassis)
-      → IsStrictlySortedBy (slice_cmp nat_cmp) n.config.chassis → length n.config.chassis ≤ 64 → AreBound n zones
+  pub bound_kept : AreBound m.config zones → n.config.bindings ≡ m.config.bindings → ((q : Name) → IsSome (at m.config.net.switch_ports q) → IsSome (at n.config.net.switch_ports q)) → ((c : Name) → Among c m.config.chassis → Among c n.config.chassis)
+      → IsStrictlySortedBy (slice_cmp nat_cmp) n.config.chassis → length n.config.chassis ≤ 64 → AreBound n.config zones
   bound_kept bound same ports chassis sorted few = record {
     bindings_sorted = subst (λ l. IsByName l) (sym same) bound.bindings_sorted;
     port_there = λ q c e. ports q (bound.port_there q c (before q (Some c) e));
     chassis_there = λ q c e. chassis c (bound.chassis_there q c (before q (Some c) e));
     chassis_sorted = sorted;
     few_chassis = few;
-    zones_sorted = bound.zones_sorted;
-    has_zone = λ q c e. bound.has_zone q c (before q (Some c) e);
-    zone_of = λ q z e. subst (λ l. IsSome (at l q)) (sym same) (bound.zone_of q z e);
-    zone_fits = bound.zone_fits;
-    zones_apart = λ p q c z at_p at_q. bound.zones_apart p q c z (before p (Some c) at_p) (before q (Some c) at_q);
+    homes = bound.homes ∙ (λ i. record { ports = sym same i; routers = [] });
+    zoned = bound.zoned;
   }
     where
       before : (q : Name) (o : Option Name) → at n.config.bindings q ≡ o → at m.config.bindings q ≡ o
       before q o e = ap (λ l. at l q) (sym same) ∙ e
 
--- a port is bound to a chassis, and takes a zone that no other port has there
-pub bound_fresh : (m n : State) (zones : List (Name × ℕ)) (p c : Name) (zone : ℕ) → AreBound m zones → n.config.net ≡ m.config.net → n.config.chassis ≡ m.config.chassis → n.config.bindings ≡ put m.config.bindings p c → IsSome (at m.config.net.switch_ports p) → Among c m.config.chassis
-    → 1 ≤ zone → zone < 2 ^ 16 → ((q : Name) (z : ℕ) → q ≢ p → at m.config.bindings q ≡ Some c → at zones q ≡ Some z → z ≢ zone) → AreBound n (put zones p zone)
-bound_fresh m n zones p c zone bound net chassis bindings port known low high free = record {
+-- a port is bound to a chassis
+pub bound_fresh : (m n : State) (zones after : Zoned) (p c : Name) → AreBound m.config zones → n.config.net ≡ m.config.net → n.config.chassis ≡ m.config.chassis → n.config.bindings ≡ put m.config.bindings p c → IsSome (at m.config.net.switch_ports p) → Among c m.config.chassis
+    → IsRezoned zones (home_change p c) after → AreBound n.config after
+bound_fresh m n zones after p c bound net chassis bindings port known rezoned = record {
   bindings_sorted = subst (λ l. IsByName l) (sym bindings) (put_sorted m.config.bindings p c bound.bindings_sorted);
   port_there = λ q d e. subst (λ w. IsSome (at w.switch_ports q)) (sym net) (elim (bound_cases q d e) [
     | inl is ↦ subst (λ a. IsSome (at m.config.net.switch_ports a)) (sym is.0) port
@@ -152,47 +152,12 @@ bound_fresh m n zones p c zone bound net chassis bindings port known low high fr
   ]);
   chassis_sorted = subst (λ l. IsStrictlySortedBy (slice_cmp nat_cmp) l) (sym chassis) bound.chassis_sorted;
   few_chassis = subst (λ l. length l ≤ 64) (sym chassis) bound.few_chassis;
-  zones_sorted = put_sorted zones p zone bound.zones_sorted;
-  has_zone = λ q d e. elim (bound_cases q d e) [
-    | inl is ↦ subst (λ a. IsSome (at (put zones p zone) a)) (sym is.0) (some_put zones p zone)
-    | inr old ↦ some_kept zones p zone q (bound.has_zone q d old.1)
-  ];
-  zone_of = λ q z e. subst (λ l. IsSome (at l q)) (sym bindings) (elim (put_cases zones p zone q z e) [
-    | inl is ↦ subst (λ a. IsSome (at (put m.config.bindings p c) a)) (sym is.0) (some_put m.config.bindings p c)
-    | inr old ↦ some_kept m.config.bindings p c q (bound.zone_of q z old.1)
-  ]);
-  zone_fits = λ q z e. elim (put_cases zones p zone q z e) [
-    | inl is ↦ subst (λ w. (1 ≤ w) × (w < 2 ^ 16)) (sym is.1) (low, high)
-    | inr old ↦ bound.zone_fits q z old.1
-  ];
-  zones_apart = λ a b d z at_a at_b zone_a zone_b. elim (put_cases zones p zone a z zone_a) [
-    | inl own ↦ elim (put_cases zones p zone b z zone_b) [
-      | inl too ↦ own.0 ∙ sym too.0
-      | inr old ↦ absurd (free b z old.0 (on_c b d old.0 at_b ∙ ap (λ x. Some x) (chassis_is a d own.0 at_a)) old.1 own.1)
-    ]
-    | inr old ↦ elim (put_cases zones p zone b z zone_b) [
-      | inl own ↦ absurd (free a z old.0 (on_c a d old.0 at_a ∙ ap (λ x. Some x) (chassis_is b d own.0 at_b)) old.1 own.1)
-      | inr too ↦ bound.zones_apart a b d z (on_c a d old.0 at_a) (on_c b d too.0 at_b) old.1 too.1
-    ]
-  ];
+  homes = homes_after m.config zones bound p c after rezoned ∙ (λ i. record { ports = sym bindings i; routers = [] });
+  zoned = rezoned.zoned;
 }
   where
     bound_cases : (q d : Name) → at n.config.bindings q ≡ Some d → ((q ≡ p) × (d ≡ c)) ⊎ ((q ≢ p) × (at m.config.bindings q ≡ Some d))
     bound_cases q d e = put_cases m.config.bindings p c q d (ap (λ l. at l q) (sym bindings) ∙ e)
-
-    on_c : (q d : Name) → q ≢ p → at n.config.bindings q ≡ Some d → at m.config.bindings q ≡ Some d
-    on_c q d apart e = elim (bound_cases q d e) [ inl is ↦ absurd (apart is.0) | inr old ↦ old.1 ]
-
-    chassis_is : (q d : Name) → q ≡ p → at n.config.bindings q ≡ Some d → d ≡ c
-    chassis_is q d same e = elim (bound_cases q d e) [ inl is ↦ is.1 | inr old ↦ absurd (old.0 same) ]
-
--- a port that isn't bound has no zone
-pub no_zone : (m : State) (zones : List (Name × ℕ)) (p : Name) → AreBound m zones → at m.config.bindings p ≡ None → at zones p ≡ None
-no_zone m zones p bound free = by (at zones p) refl
-  where
-    by : (o : Option ℕ) → at zones p ≡ o → at zones p ≡ None
-    by None e = e
-    by (Some z) e = let s = some_of (at m.config.bindings p) (bound.zone_of p z e) in absurd (none-some s.0 (sym free ∙ s.1))
 
 -- ---- births
 

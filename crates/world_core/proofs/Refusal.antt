@@ -1,7 +1,7 @@
 -- What stands where an event is refused, and once an event is over.
 use Rattle.std.specs.Prelude.{◌≡◌, ◌<◌, ◌+◌, ◌^◌, ℕ, true, false, List, [], length, refl}
 use Rattle.std.proofs.Common.{arith, sym, ap, ◌∙◌, ◌++◌, drop, take-append-drop}
-use Rattle.ovn_base.specs.declared.name.Name.{Name}
+use Rattle.conn_zones.specs.Zoning.{Zoned}
 use Rattle.chassis_sim.specs.State as sim
 use Rattle.edit_reader.specs.declared.event.Event.{Event}
 use Rattle.event_lines.specs.declared.refusal.Refusal.{Refusal}
@@ -31,7 +31,7 @@ may_wait m x w = record {
   no_return = w.no_return;
 }
 
-held_on : (m : State) (zones : List (Name × ℕ)) (s : sim.SimState) → AreHeld m zones s → AreHeld (one_refused m) zones s
+held_on : (m : State) (zones : Zoned) (s : sim.SimState) → AreHeld m zones.numbers s → AreHeld (one_refused m) zones.numbers s
 held_on m zones s h = record {
   bindings = h.bindings;
   names = record { datapaths = h.names.datapaths; ports = h.names.ports };
@@ -52,18 +52,7 @@ refused_taken w taken room =
         valid = now.valid;
         within = now.within;
         keys = now.keys;
-        bound = record {
-          bindings_sorted = now.bound.bindings_sorted;
-          port_there = now.bound.port_there;
-          chassis_there = now.bound.chassis_there;
-          chassis_sorted = now.bound.chassis_sorted;
-          few_chassis = now.bound.few_chassis;
-          zones_sorted = now.bound.zones_sorted;
-          has_zone = now.bound.has_zone;
-          zone_of = now.bound.zone_of;
-          zone_fits = now.bound.zone_fits;
-          zones_apart = now.bound.zones_apart;
-        };
+        bound = now.bound;
         born = record {
           switches = λ a switch is. let b = now.born.switches a switch is in omega (arith, b);
           ports = λ q port is. let b = now.born.ports q port is in omega (arith, b);

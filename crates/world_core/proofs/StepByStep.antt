@@ -1,6 +1,6 @@
 -- A journey of the logical network is one that is taken packet by packet.
 use Rattle.inet_packet.proofs.OnePacket.{one_packet_at_most}
-use Rattle.std.specs.Prelude.{◌≡◌, ◌≢◌, ◌||◌, ℕ, zero, suc, Bool, true, false, not, cond, List, [], ◌∷◌, ◌++◌, Option, Some, None, is_some, refl}
+use Rattle.std.specs.Prelude.{◌≡◌, ◌||◌, ℕ, zero, suc, Bool, true, false, not, cond, List, [], ◌∷◌, ◌++◌, Option, Some, None, is_some, refl}
 use Rattle.std.proofs.Common.{sym, ap, ◌∙◌, subst, inl, inr}
 use Rattle.std.proofs.Math.Dec.{eqb as nat_eq}
 use Rattle.std.proofs.lemmas.Bool.{cases_Bool, false≢true}
@@ -14,14 +14,12 @@ use Rattle.ovn_base.specs.declared.name.Name.{Name}
 use Rattle.ovn_base.proofs.AmongLaws.{among_cases, among_none}
 use Rattle.chassis_sim.specs.State.{numbered}
 use Rattle.edit_reader.specs.Reads.{IsPlainFrame}
+use Rattle.conn_zones.specs.Zoning.{Zoned}
 use Rattle.event_lines.specs.declared.refusal.Refusal.TheVariants as why
 use Rattle.inet_packet.specs.Fields.{ether_type}
-use Rattle.inet_packet.specs.Frame.{frame_of}
-use Rattle.inet_packet.specs.Whole.{IsWhole}
 use Rattle.inet_packet.specs.declared.packet.Packet.{Packet}
 use Rattle.nb_records.specs.Network.{Network}
 use Rattle.nb_records.specs.Switches.{enabled_ports, has_mac}
-use Rattle.nb_records.specs.declared.switch.Switch.{Switch}
 use Rattle.nb_records.specs.declared.switch.SwitchPort.{SwitchPort}
 use Rattle.net_model.specs.Journey.{arrive_all, arrive_one, enter_and_arrive, enter_one, lose_one, Traffic}
 use Rattle.net_model.specs.State.{State}
@@ -109,7 +107,7 @@ pub record CanEnter (m : State) (p : Name) : Type 0 where
   pub known : Among chassis m.config.chassis
 
 -- where nothing refuses it, it can
-pub can_enter : (m : State) (zones : List (Name × ℕ)) → AreBound m zones → (p : Name) → refusal_of_entry m p ≡ None → CanEnter m p
+pub can_enter : (m : State) (zones : Zoned) → AreBound m.config zones → (p : Name) → refusal_of_entry m p ≡ None → CanEnter m p
 can_enter m zones bound p allowed = by (at m.config.net.switch_ports p) refl (at m.config.bindings p) refl allowed
   where
     by : (o : Option SwitchPort) → at m.config.net.switch_ports p ≡ o → (b : Option Name) → at m.config.bindings p ≡ b

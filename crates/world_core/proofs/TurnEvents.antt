@@ -1,11 +1,10 @@
 -- What an event without a packet leaves: the network's step, and the chassis that hold it.
 use Rattle.world_core.proofs.Turns.{bindings_stay_beside, bindings_stay_with}
 use Rattle.net_model.specs.Transition.{turned_by, add_chassis, bind}
-use Rattle.std.specs.Ordering.{nat_cmp}
-use Rattle.std.specs.Cmp.Lexicographic.{slice_cmp}
 use Rattle.std.specs.Prelude.{◌≡◌, ◌+◌, ◌||◌, ℕ, cond, not, List, [], ◌∷◌, length, map, nat_le, Option, Some, None, is_some, codes, unwrap_or, refl}
 use Rattle.std.proofs.Common.{sym, ap, subst, ◌∙◌, inl, inr}
 use Rattle.std.proofs.lemmas.Bool.{cases_Bool, false≢true}
+use Rattle.conn_zones.specs.Rezoning.{IsRezoned}
 use Rattle.chassis_sim.specs.Changing.{given_name}
 use Rattle.chassis_sim.specs.Settings.{AreSet}
 use Rattle.chassis_sim.specs.State as sim
@@ -43,7 +42,7 @@ use Rattle.world_core.specs.WorldView.{WorldView}
 use Rattle.sim_laws.specs.Held.{AreHeld, HaveOwnersNames}
 use Rattle.physical_flows.specs.RecordKeys.{HaveKeys}
 use Rattle.net_model.specs.State.{State, event_count, finished, settled_where_none_waits}
-use Rattle.world_core.specs.Zones.{zone_for}
+use Rattle.world_core.specs.Zones.{home_change}
 use Rattle.net_model.specs.declared.crossing.Crossing.{Crossing}
 use Rattle.world_core.proofs.KeyNames.{datapath_called, port_called}
 use Rattle.world_core.proofs.NewKeys.{given_beside}
@@ -83,17 +82,17 @@ module _ (old done new : WorldView) (mid : State) (bound : List (Name × Option 
   sim_is : done.sim ≡ old.sim
   sim_is = ap (λ (v : WorldView). v.sim) over
 
-  held_then : AreHeld old.state old.zones done.sim
-  held_then = subst (λ s. AreHeld old.state old.zones s) (sym sim_is) taken.held
+  held_then : AreHeld old.state old.zones.numbers done.sim
+  held_then = subst (λ s. AreHeld old.state old.zones.numbers s) (sym sim_is) taken.held
 
   pub then_taken : ((q : Name) → at_name new.sim.bindings q ≡ at mid.config.bindings q) → HaveOwnersNames mid.keys new.sim → IsTaken new
   then_taken bindings called =
       let frames = frames_same old.state mid taken.consistent.born kept taken.consistent.keys.hold old.state.waiting taken.consistent.on_the_way.crossings.may in
       let state : done.state ≡ finished mid = ap (λ (v : WorldView). v.state) over in
-      let held : AreHeld (finished mid) done.zones new.sim = held_again old.state mid old.zones bound names done new held_then state made stay waiting next frames bindings called in
+      let held : AreHeld (finished mid) done.zones.numbers new.sim = held_again old.state mid old.zones bound names done new held_then state made stay waiting next frames bindings called in
       record {
         consistent = subst (λ (v : WorldView). IsConsistent v.state v.zones) (sym made.kept) (subst (λ w. IsConsistent w done.zones) (sym state) now);
-        held = subst (λ (v : WorldView). AreHeld v.state v.zones new.sim) (sym made.kept) (subst (λ w. AreHeld w done.zones new.sim) (sym state) held);
+        held = subst (λ (v : WorldView). AreHeld v.state v.zones.numbers new.sim) (sym made.kept) (subst (λ w. AreHeld w done.zones.numbers new.sim) (sym state) held);
         taken = ap (λ (v : WorldView). v.whole) made.kept ∙ ap (λ (v : WorldView). v.whole) over ∙ taken.taken;
       }
 
@@ -113,7 +112,7 @@ module _ (old done new : WorldView) (mid : State) (names : List (ℕ × ℕ × N
   abbrev birth : Birth
   birth = record { 0 = event_count m + 1 }
 
-  abbrev held : AreHeld m old.zones old.sim
+  abbrev held : AreHeld m old.zones.numbers old.sim
   held = taken.held
 
   bindings_then : mid.config.bindings ≡ m.config.bindings → (q : Name) → at_name new.sim.bindings q ≡ at mid.config.bindings q
@@ -217,9 +216,9 @@ chassis_done old done new c taken now over same_zones made =
 -- ---- a port is bound
 
 pub binding_done : (old done new : WorldView) (p c : Name) → IsTaken old → IsConsistent (finished (turned_by (bind old.state.config p c) old.state)) done.zones
-    → done ≡ record old { state = finished (turned_by (bind old.state.config p c) old.state); zones = done.zones } → done.zones ≡ put old.zones p (zone_for old.state.config.bindings old.zones p c)
+    → done ≡ record old { state = finished (turned_by (bind old.state.config p c) old.state); zones = done.zones } → IsRezoned old.zones (home_change p c) done.zones
     → IsRecompiled ((p, Some c) ∷ []) [] done new → IsDone old (event_of.Bind p c) [] [] 0 new
-binding_done old done new p c taken now over zones_are made =
+binding_done old done new p c taken now over rezoned made =
     let m = old.state in
     let mid : State = turned_by (bind m.config p c) m in
     let kept : AreKept m mid = same_kept m mid refl refl taken.consistent.keys.hold in
@@ -228,7 +227,7 @@ binding_done old done new p c taken now over zones_are made =
       step = record { mid = mid; does = (refl, refl); state = state_then old done new mid bound [] taken now over made kept (λ d among. among) refl refl };
       passed = refl;
       counts = refl;
-      zones = zones_then old done new mid bound [] taken now over made kept (λ d among. among) refl refl ∙ zones_are;
+      zones = subst (λ z. IsRezoned old.zones (home_change p c) z) (sym (zones_then old done new mid bound [] taken now over made kept (λ d among. among) refl refl)) rezoned;
       now = then_taken old done new mid bound [] taken now over made kept (λ d among. among) refl refl (bound_then m)
           (still_named m.keys done.sim new.sim made.names_are (subst (λ s. HaveOwnersNames m.keys s) (sym (ap (λ (v : WorldView). v.sim) over)) taken.held.names));
     }

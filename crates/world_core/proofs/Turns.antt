@@ -1,6 +1,6 @@
 -- What a turn of the configuration leaves of lists and bindings, while no connection is tracked.
-use Rattle.std.specs.Prelude.{◌≡◌, ℕ, Bool, true, false, cond, List, [], ◌∷◌, map, filter, Option, None, Some, option_map, unwrap_or, refl}
-use Rattle.std.proofs.Common.{sym, ap, ◌∙◌, subst}
+use Rattle.std.specs.Prelude.{◌≡◌, Bool, true, false, cond, List, [], ◌∷◌, map, filter, None, Some, option_map, unwrap_or, refl}
+use Rattle.std.proofs.Common.{sym, ap, ◌∙◌}
 use Rattle.std.proofs.lemmas.Option.{none-some}
 use Rattle.std.specs.BTreeMap.{is_at}
 use Rattle.std.specs.BTreeSet.{insert_key}
@@ -8,6 +8,7 @@ use Rattle.std.specs.Cmp.Lexicographic.{slice_cmp}
 use Rattle.std.specs.Map.{keys_of}
 use Rattle.std.specs.Ordering.{nat_cmp}
 use Rattle.conn_table.specs.Connections.{ConnectionList}
+use Rattle.conn_zones.specs.Zoning.{Zoned}
 use Rattle.nb_records.specs.Network.{Network}
 use Rattle.nb_records.specs.Switches.{is_named}
 use Rattle.nb_records.specs.declared.switch.Switch.{Switch}
@@ -22,7 +23,7 @@ use Rattle.tunnel_keys.specs.declared.owner.Identity.{Identity}
 use Rattle.net_model.specs.Config.{Config, port_identity}
 use Rattle.net_model.specs.ListOwners.{Emptied, homed_routers, list_unless, lists_for, names_of}
 use Rattle.net_model.specs.State.{State}
-use Rattle.net_model.specs.Trail.{Lists, list_at}
+use Rattle.net_model.specs.Trail.{list_at}
 use Rattle.net_model.specs.Transition.{add_chassis, bind, edit, identity_at, is_identity, is_still_there, still_bound, turned_by}
 use Rattle.sim_laws.specs.Consistent.{IsConsistent}
 use Rattle.world_core.specs.Editing.{edited}
@@ -76,7 +77,7 @@ kept_all : {X : Type 0} (test : X → Bool) (xs : List X) → ((x : X) → Among
 kept_all test [] h = refl
 kept_all test (x ∷ xs) h = ap (λ b. cond b (x ∷ filter test xs) (filter test xs)) (h x here) ∙ ap (λ l. x ∷ l) (kept_all test xs (λ y m. h y (there m)))
 
-module _ (m : State) (zones : List (Name × ℕ)) (valid : IsValid m.config.net) (bound : AreBound m zones) (net : Network)
+module _ (m : State) (zones : Zoned) (valid : IsValid m.config.net) (bound : AreBound m.config zones) (net : Network)
     (stays : (q : Name) (port : SwitchPort) → at m.config.net.switch_ports q ≡ Some port → at net.switch_ports q ≡ Some port) where
   still_there : (q : Name) (port : SwitchPort) → at m.config.net.switch_ports q ≡ Some port → is_still_there net (identity_at m.config.net q) ≡ true
   still_there q port is =
@@ -92,10 +93,10 @@ module _ (m : State) (zones : List (Name × ℕ)) (valid : IsValid m.config.net)
       still_there e.0 port.0 port.1)
 
 -- where a switch comes, and where a port comes
-pub bindings_stay_beside : (m : State) (zones : List (Name × ℕ)) → IsConsistent m zones → (s : Switch) → still_bound m.config.net (record m.config.net { switches = put m.config.net.switches s.name s }) m.config.bindings ≡ m.config.bindings
+pub bindings_stay_beside : (m : State) (zones : Zoned) → IsConsistent m zones → (s : Switch) → still_bound m.config.net (record m.config.net { switches = put m.config.net.switches s.name s }) m.config.bindings ≡ m.config.bindings
 bindings_stay_beside m zones old s = bindings_stay m zones old.valid old.bound (record m.config.net { switches = put m.config.net.switches s.name s }) (λ q port is. is)
 
-pub bindings_stay_with : (m : State) (zones : List (Name × ℕ)) → IsConsistent m zones → (p : SwitchPort) → at m.config.net.switch_ports p.name ≡ None
+pub bindings_stay_with : (m : State) (zones : Zoned) → IsConsistent m zones → (p : SwitchPort) → at m.config.net.switch_ports p.name ≡ None
     → still_bound m.config.net (record m.config.net { switch_ports = put m.config.net.switch_ports p.name p }) m.config.bindings ≡ m.config.bindings
 bindings_stay_with m zones old p absent =
     bindings_stay m zones old.valid old.bound (record m.config.net { switch_ports = put m.config.net.switch_ports p.name p })

@@ -21,7 +21,7 @@ seen_of w = record {
     accepted = w.accepted;
     refused = w.refused;
   };
-  zones = w.zones.entries;
+  zones = w.zones;
   sim = w.sim.state;
   walks = w.walks;
   whole = w.whole;

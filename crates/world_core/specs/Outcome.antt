@@ -13,7 +13,7 @@ use Rattle.world_core.specs.Refusing.{refusal}
 use Rattle.world_core.specs.WorldView.{WorldView, IsSound}
 use Rattle.net_model.specs.State.{event_count}
 use Rattle.world_core.specs.Step as net
-use Rattle.world_core.specs.Zones.{zones_after}
+use Rattle.world_core.specs.Zones.{Rezones}
 
 -- how many flows were matched in all
 abbrev pub matched : List Walk → ℕ
@@ -25,7 +25,7 @@ pub record IsAccepted (old : WorldView) (event : Event) (before after : List ℕ
   pub effects : List NetEffect
   pub step : net.NetworkStep old.state event effects new.state
   pub passed : Passes old.sim event (record { effects = effects; walks = new.walks }) new.sim
-  pub zones : new.zones ≡ zones_after old.state.config.bindings old.zones event
+  pub zones : Rezones event old.zones new.zones
   pub text : after ≡ before ++ accepted_lines (event_count old.state + 1) effects (matched new.walks)
 
 -- a refused event: it counts, and nothing else changes

@@ -47,7 +47,7 @@ pub record HasPassed (old : WorldView) (before after : SimOut) (new : WorldView)
   pub all : after.effects ≡ before.effects ++ effects
   pub happens : Happens old.state effects new.state
   pub amidst : IsAmidst new.state new.zones most_sent
-  pub held : AreHeld new.state new.zones new.sim
+  pub held : AreHeld new.state new.zones.numbers new.sim
   pub rest : new ≡ record old { state = new.state; sim = new.sim }
 
 -- a packet went in at a port

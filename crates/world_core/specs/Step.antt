@@ -1,5 +1,5 @@
 -- What an accepted event does to the network.
-use Rattle.std.specs.Prelude.{◌≡◌, ℕ, Bool, true, false, List, []}
+use Rattle.std.specs.Prelude.{◌≡◌, ℕ, true, false, List, []}
 use Rattle.edit_reader.specs.declared.event.Event.{Event}
 use Rattle.edit_reader.specs.declared.event.Event.TheVariants.{Edit, Bind, AddChassis, Inject, Deliver, Lose, Repeat, Drain, Packet, Unread, NotBuilt}
 use Rattle.inet_packet.specs.Frame.{frame_of}

@@ -21,14 +21,14 @@ use Rattle.sim_laws.specs.Held.{AreHeld}
 use Rattle.physical_flows.specs.ChassisFlows.{AreFlowsOf}
 use Rattle.net_model.specs.State.{empty}
 use Rattle.world_core.specs.Step as net
-use Rattle.world_core.specs.Zones.{zones_after}
+use Rattle.world_core.specs.Zones.{no_zones, Rezones}
 use Rattle.std.specs.Prelude.{map}
 
 -- the chassis of a state hold exactly its flows; ports are bound and keys are named as is said, and nothing else changed
 pub record IsRecompiled (bound : List (Name × Option Name)) (names : List (ℕ × ℕ × Name)) (old new : WorldView) : Type 0 where
   pub kept : new ≡ record old { sim = new.sim }
   pub held : (c : Name) → Among c new.state.config.chassis → IsSome (at_name new.sim.chassis c)
-  pub flows : (c : Name) (flows : List Flow) → Among c new.state.config.chassis → at_name new.sim.chassis c ≡ Some flows → AreFlowsOf new.state new.zones c flows
+  pub flows : (c : Name) (flows : List Flow) → Among c new.state.config.chassis → at_name new.sim.chassis c ≡ Some flows → AreFlowsOf new.state new.zones.numbers c flows
   pub others : (c : Name) → ¬ Among c new.state.config.chassis → at_name new.sim.chassis c ≡ at_name old.sim.chassis c
   pub bindings : AreSet same_name bound old.sim.bindings new.sim.bindings
   pub names_are : AreSet same_pair (map given_name names) old.sim.names new.sim.names
@@ -37,12 +37,12 @@ pub record IsRecompiled (bound : List (Name × Option Name)) (names : List (ℕ 
 
 -- no record, no chassis, no event
 abbrev pub new_world : WorldView
-new_world = record { state = empty; zones = []; sim = nothing_held; walks = []; whole = true }
+new_world = record { state = empty; zones = no_zones; sim = nothing_held; walks = []; whole = true }
 
 -- a sound world that takes an event
 pub record IsTaken (w : WorldView) : Type 0 where
   pub consistent : IsConsistent w.state w.zones
-  pub held : AreHeld w.state w.zones w.sim
+  pub held : AreHeld w.state w.zones.numbers w.sim
   pub taken : w.whole ≡ false
 
 -- what an accepted event leaves, and how many flows its packets matched
@@ -50,7 +50,7 @@ pub record IsDone (old : WorldView) (event : Event) (effects : List NetEffect) (
   pub step : net.NetworkStep old.state event effects new.state
   pub passed : Passes old.sim event (record { effects = effects; walks = walks }) new.sim
   pub counts : count ≡ matched walks
-  pub zones : new.zones ≡ zones_after old.state.config.bindings old.zones event
+  pub zones : Rezones event old.zones new.zones
   pub now : IsTaken new
 
 -- what a taken event leaves, before the world is marked as whole again

@@ -1,6 +1,6 @@
 -- What is seen of a world.
-use Rattle.std.specs.Prelude.{◌≡◌, ℕ, Bool, true, List}
-use Rattle.ovn_base.specs.declared.name.Name.{Name}
+use Rattle.std.specs.Prelude.{◌≡◌, Bool, true, List}
+use Rattle.conn_zones.specs.Zoning.{Zoned}
 use Rattle.chassis_sim.specs.State as sim
 use Rattle.switch_engine.specs.declared.walk.Walk.{Walk}
 use Rattle.sim_laws.specs.Consistent.{IsConsistent}
@@ -9,8 +9,8 @@ use Rattle.sim_laws.specs.Held.{AreHeld}
 
 pub record WorldView : Type 0 where
   pub state : State
-  -- the number of the zone of each bound port on its chassis, in order of name
-  pub zones : List (Name × ℕ)
+  -- where ports are at home, and the numbers of their zones there
+  pub zones : Zoned
   -- the simulated chassis: the flows of each, the bindings, the names of keys, and the frames that wait
   pub sim : sim.SimState
   -- the flows that the packets of the last event matched
@@ -21,4 +21,4 @@ pub record WorldView : Type 0 where
 pub record IsSound (w : WorldView) : Type 0 where
   pub whole : w.whole ≡ true
   pub consistent : IsConsistent w.state w.zones
-  pub held : AreHeld w.state w.zones w.sim
+  pub held : AreHeld w.state w.zones.numbers w.sim

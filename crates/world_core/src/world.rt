@@ -14,6 +14,7 @@ ghost use Rattle.net_model.specs.State.{event_count, finished};
 
 use crate::held::Held;
 use chassis_sim::sim::Sim;
+use conn_zones::zones::ConnZones;
 use edit_reader::event::Event;
 use event_lines::lines::{accepted, refused};
 use event_lines::refusal::{Refusal, StepFault};
@@ -46,7 +47,8 @@ pub struct World {
     chassis: List<Name>,
     bindings: BTreeMap<Name, Name>,
     keys: KeyStore,
-    zones: BTreeMap<Name, u16>,
+    // Their homes are the bindings.
+    zones: ConnZones,
     sim: Sim<Held>,
     // What each frame that waits is on its way for.
     crossings: BTreeMap<u128, Crossing>,
@@ -92,7 +94,7 @@ impl World {
             chassis: List::new(alloc),
             bindings: BTreeMap::new(alloc),
             keys: KeyStore::with_ranges(alloc, MAX_DATAPATH_KEY, MAX_PORT_KEY)?,
-            zones: BTreeMap::new(alloc),
+            zones: ConnZones::new(alloc)?,
             sim: Sim::new(alloc)?,
             crossings: BTreeMap::new(alloc),
             walks: List::new(alloc),

@@ -173,7 +173,7 @@ impl World {
         out: &mut SimOut,
     ) -> Result<(), NoMemory>
         requires amidst { IsAmidst self.old.state self.old.zones 0 }
-        requires held { AreHeld self.old.state self.old.zones self.old.sim }
+        requires held { AreHeld self.old.state self.old.zones.numbers self.old.sim }
         requires taken { self.old.whole ≡ false }
         requires bound { IsSome (at self.old.state.config.bindings port.now) }
         requires frame { IsPlainFrame frame.now }
@@ -199,7 +199,7 @@ impl World {
         out: &mut SimOut,
     ) -> Result<(), NoMemory>
         requires amidst { IsAmidst self.old.state self.old.zones most_sent }
-        requires held { AreHeld self.old.state self.old.zones self.old.sim }
+        requires held { AreHeld self.old.state self.old.zones.numbers self.old.sim }
         requires taken { self.old.whole ≡ false }
         requires waits { IsSome (numbered self.old.state.waiting frame) }
         ensures { OnOk result (HasArrived self.old frame keep out.old out.new self.new) }
@@ -218,7 +218,7 @@ impl World {
 
     // Takes a frame that waits away.
     pub(super) fn lose(&mut self, frame: u128)
-        requires held { AreHeld self.old.state self.old.zones self.old.sim }
+        requires held { AreHeld self.old.state self.old.zones.numbers self.old.sim }
         requires taken { self.old.whole ≡ false }
         requires waits { IsSome (numbered self.old.state.waiting frame) }
         ensures { self.new ≡ record self.old { state = with_kept false self.old.state frame; sim = arrived self.old.sim frame false } }
@@ -235,7 +235,7 @@ impl World {
     // The lowest frame arrives again and again, until none waits or 65,536 arrived.
     pub(super) fn drain(&mut self, out: &mut SimOut) -> Result<(), NoMemory>
         requires amidst { IsAmidst self.old.state self.old.zones most_sent }
-        requires held { AreHeld self.old.state self.old.zones self.old.sim }
+        requires held { AreHeld self.old.state self.old.zones.numbers self.old.sim }
         requires taken { self.old.whole ≡ false }
         ensures { OnOk result (AreGone most_arrivals self.old out.old out.new self.new) }
     {

@@ -20,7 +20,7 @@ impl World {
     // A classifier that holds the flows of the chassis.
     fn held_on(&self, alloc: Global, chassis: &Name) -> Result<Held, NoMemory>
         requires consistent { IsConsistent self.now.state self.now.zones }
-        ensures { IfOk result (λ held. AreFlowsOf self.now.state self.now.zones chassis.now (⟦<Held as Lookup>⟧.flows held)) }
+        ensures { IfOk result (λ held. AreFlowsOf self.now.state self.now.zones.numbers chassis.now (⟦<Held as Lookup>⟧.flows held)) }
     {
         let maps = Maps {
             chassis: *chassis,
@@ -28,7 +28,7 @@ impl World {
             records: &self.records,
             bindings: &self.bindings,
             keys: &self.keys,
-            zones: &self.zones,
+            zones: self.zones.numbers(),
         };
         let flows = maps.compile(alloc)?;
         let held = holding(alloc, flows)?;
@@ -39,7 +39,7 @@ impl World {
     fn all_tables(&self, alloc: Global) -> Result<List<(Name, Held)>, NoMemory>
         requires consistent { IsConsistent self.now.state self.now.zones }
         ensures chassis { IfOk result (λ added. keys_of added ≡ self.now.state.config.chassis) }
-        ensures flows { IfOk result (λ added. AllByRecursion (λ e. AreFlowsOf self.now.state self.now.zones e.0 (⟦<Held as Lookup>⟧.flows e.1)) added) }
+        ensures flows { IfOk result (λ added. AllByRecursion (λ e. AreFlowsOf self.now.state self.now.zones.numbers e.0 (⟦<Held as Lookup>⟧.flows e.1)) added) }
     {
         let mut added = List::new(alloc);
         'chassis: for chassis in self.chassis.as_slice() {

@@ -79,4 +79,4 @@ returns-clause-consistent c =
     let on : IsSome (at m.config.net.switches p.switch) = subst (λ v. IsSome (at v.state.config.net.switches p.switch)) (sym c.self.view_is) c.requires.on_switch in
     let new : AreNew m.config.net p = subst (λ v. AreNew v.state.config.net p) (sym c.self.view_is) c.requires.new in
     let room : event_count m < 2 ^ 42 = subst (λ v. event_count v.state < 2 ^ 42) (sym c.self.view_is) c.requires.room in
-    consistent_port m n c.in_ok-plan.plan c.in_ok-plan.ensures.after.hold p c.in_ok-plan.ensures.after.gives (λ i. with_records m (net i) (c.apply.ensures i)) c.self.inside.zones.entries old absent few on new room
+    consistent_port m n c.in_ok-plan.plan c.in_ok-plan.ensures.after.hold p c.in_ok-plan.ensures.after.gives (λ i. with_records m (net i) (c.apply.ensures i)) c.self.inside.zones old absent few on new room

@@ -67,4 +67,4 @@ returns-clause-consistent c =
     let absent : at m.config.net.switches s.name ≡ None = subst (λ v. at v.state.config.net.switches s.name ≡ None) (sym c.self.view_is) c.requires.absent in
     let few : length m.config.net.switches < 1024 = subst (λ v. length v.state.config.net.switches < 1024) (sym c.self.view_is) c.requires.few in
     let room : event_count m < 2 ^ 42 = subst (λ v. event_count v.state < 2 ^ 42) (sym c.self.view_is) c.requires.room in
-    consistent_switch m n c.in_ok-plan.plan c.in_ok-plan.ensures.after.hold s c.in_ok-plan.ensures.after.gives (λ i. with_records m (c.in_ok-put.ensures.ok i) (c.apply.ensures i)) c.self.inside.zones.entries old absent few room
+    consistent_switch m n c.in_ok-plan.plan c.in_ok-plan.ensures.after.hold s c.in_ok-plan.ensures.after.gives (λ i. with_records m (c.in_ok-put.ensures.ok i) (c.apply.ensures i)) c.self.inside.zones old absent few room

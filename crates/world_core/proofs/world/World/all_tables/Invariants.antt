@@ -9,5 +9,5 @@ use Rattle.world_core.proofs.world.World.all_tables.Given as goal
 abbrev pub invariant-chassis : goal.invariant-chassis
 invariant-chassis l = record {
   names : keys_of l.added ++ drop l.chassis-index l.self.state.config.chassis ≡ l.self.state.config.chassis;
-  flows : AllByRecursion (λ e. AreFlowsOf l.self.state l.self.zones e.0 (flows_of e.1)) l.added;
+  flows : AllByRecursion (λ e. AreFlowsOf l.self.state l.self.zones.numbers e.0 (flows_of e.1)) l.added;
 }

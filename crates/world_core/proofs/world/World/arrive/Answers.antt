@@ -17,7 +17,7 @@ pub unreachable-requires-in-Err-NoFrame : goal.unreachable-requires-in-Err-NoFra
 unreachable-requires-in-Err-NoFrame c =
     let old = seen_of c.self.inside in
     let waits : IsSome (numbered old.state.waiting c.args.frame) = subst (λ (v : WorldView). IsSome (numbered v.state.waiting c.args.frame)) (sym c.self.view_is) c.requires.waits in
-    let held : AreHeld old.state old.zones old.sim = subst (λ (v : WorldView). AreHeld v.state v.zones v.sim) (sym c.self.view_is) c.requires.held in
+    let held : AreHeld old.state old.zones.numbers old.sim = subst (λ (v : WorldView). AreHeld v.state v.zones.numbers v.sim) (sym c.self.view_is) c.requires.held in
     let answer = rw c.in-Err-NoFrame.field-0-is at c.in-Err-NoFrame.ensures.answer in
     let x = some_of (numbered old.state.waiting c.args.frame) waits in
     let found = ap (λ ws. numbered ws c.args.frame) held.waiting ∙ numbered_map (λ y. (frame_of_crossing old.state.keys (0, y)).1) old.state.waiting c.args.frame ∙ ap (λ o. option_map (λ y. (frame_of_crossing old.state.keys (0, y)).1) o) x.1 in
@@ -27,7 +27,7 @@ pub returns-then-not-keep : goal.returns-then-not-keep
 returns-then-not-keep c =
     let old = seen_of c.self.inside in
     let amidst : IsAmidst old.state old.zones most_sent = subst (λ (v : WorldView). IsAmidst v.state v.zones most_sent) (sym c.self.view_is) c.requires.amidst in
-    let held : AreHeld old.state old.zones old.sim = subst (λ (v : WorldView). AreHeld v.state v.zones v.sim) (sym c.self.view_is) c.requires.held in
+    let held : AreHeld old.state old.zones.numbers old.sim = subst (λ (v : WorldView). AreHeld v.state v.zones.numbers v.sim) (sym c.self.view_is) c.requires.held in
     let left = c.remove.new.self.entries in
     let kept : left ≡ (with_kept c.args.keep old.state c.args.frame).waiting = c.remove.ensures.entries ∙ ap (λ k. (with_kept k old.state c.args.frame).waiting) (sym c.if-not-keep.true) in
     let passed : HasArrived c.args.self.now c.args.frame c.args.keep c.args.out.now c.arrive.new.out (world_with old left c.arrive.new.self.state) =
@@ -42,7 +42,7 @@ pub returns-else-not-keep : goal.returns-else-not-keep
 returns-else-not-keep c =
     let old = seen_of c.self.inside in
     let amidst : IsAmidst old.state old.zones most_sent = subst (λ (v : WorldView). IsAmidst v.state v.zones most_sent) (sym c.self.view_is) c.requires.amidst in
-    let held : AreHeld old.state old.zones old.sim = subst (λ (v : WorldView). AreHeld v.state v.zones v.sim) (sym c.self.view_is) c.requires.held in
+    let held : AreHeld old.state old.zones.numbers old.sim = subst (λ (v : WorldView). AreHeld v.state v.zones.numbers v.sim) (sym c.self.view_is) c.requires.held in
     let kept : old.state.waiting ≡ (with_kept c.args.keep old.state c.args.frame).waiting = ap (λ k. (with_kept k old.state c.args.frame).waiting) (sym c.if-not-keep.false) in
     subst (λ (v : WorldView). HasArrived v c.args.frame c.args.keep c.args.out.now c.arrive.new.out (world_with old old.state.waiting c.arrive.new.self.state)) c.self.view_is
     (arrived_passed old c.args.frame c.args.keep c.args.out.now c.arrive.new.out c.arrive.new.self.state old.state.waiting amidst held c.in-Ok.ensures.answer kept)

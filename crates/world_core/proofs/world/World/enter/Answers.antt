@@ -19,7 +19,7 @@ pub keep_crossings-requires-clause-sent : goal.keep_crossings-requires-clause-se
 keep_crossings-requires-clause-sent c =
     let old = seen_of c.self.inside in
     let amidst : IsAmidst old.state old.zones 0 = subst (λ (v : WorldView). IsAmidst v.state v.zones 0) (sym c.self.view_is) c.requires.amidst in
-    let held : AreHeld old.state old.zones old.sim = subst (λ (v : WorldView). AreHeld v.state v.zones v.sim) (sym c.self.view_is) c.requires.held in
+    let held : AreHeld old.state old.zones.numbers old.sim = subst (λ (v : WorldView). AreHeld v.state v.zones.numbers v.sim) (sym c.self.view_is) c.requires.held in
     let bound : IsSome (at old.state.config.bindings c.args.port.now) = subst (λ (v : WorldView). IsSome (at v.state.config.bindings c.args.port.now)) (sym c.self.view_is) c.requires.bound in
     let in' : GoesIn old.sim c.args.port.now c.args.frame.now c.args.out.now c.inject.new.out c.inject.new.self.state =
     record { packet = c.in_ok-packet.packet; whole = c.in_ok-packet.ensures.whole; frame_is = c.in_ok-packet.ensures.frame; injected = c.in-Ok.ensures.answer } in
@@ -32,7 +32,7 @@ pub returns : goal.returns
 returns c =
     let old = seen_of c.self.inside in
     let amidst : IsAmidst old.state old.zones 0 = subst (λ (v : WorldView). IsAmidst v.state v.zones 0) (sym c.self.view_is) c.requires.amidst in
-    let held : AreHeld old.state old.zones old.sim = subst (λ (v : WorldView). AreHeld v.state v.zones v.sim) (sym c.self.view_is) c.requires.held in
+    let held : AreHeld old.state old.zones.numbers old.sim = subst (λ (v : WorldView). AreHeld v.state v.zones.numbers v.sim) (sym c.self.view_is) c.requires.held in
     let bound : IsSome (at old.state.config.bindings c.args.port.now) = subst (λ (v : WorldView). IsSome (at v.state.config.bindings c.args.port.now)) (sym c.self.view_is) c.requires.bound in
     let in' : GoesIn old.sim c.args.port.now c.args.frame.now c.args.out.now c.inject.new.out c.inject.new.self.state =
     record { packet = c.in_ok-packet.packet; whole = c.in_ok-packet.ensures.whole; frame_is = c.in_ok-packet.ensures.frame; injected = c.in-Ok.ensures.answer } in

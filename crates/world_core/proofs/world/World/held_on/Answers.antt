@@ -1,5 +1,5 @@
-use Rattle.std.proofs.Common.{subst}
-use Rattle.physical_flows.specs.ChassisFlows.{AreExactly, AreFlowsOf, basis_at}
+use Rattle.std.proofs.Common.{◌≡◌, subst}
+use Rattle.physical_flows.specs.ChassisFlows.{AreFlowsOf, basis_at}
 use Rattle.physical_flows.specs.Tables.{TableFlow}
 use Rattle.world_core.specs.Inside.{seen_of}
 use Rattle.world_core.specs.WorldView.{WorldView}
@@ -14,5 +14,7 @@ returns c =
     let m = (seen_of c.self.inside).state in
     let zones = (seen_of c.self.inside).zones in
     let held = flows_of c.in_ok-held.held in
-    subst (λ (v : WorldView). AreFlowsOf v.state v.zones c.args.chassis.now held) c.self.view_is
-    (held_exactly (TableFlow (basis_at m zones c.args.chassis.now)) c.in_ok-flows.flows held c.in_ok-flows.ensures c.in_ok-held.ensures)
+    let given : c.numbers.result.now ≡ zones.numbers = c.numbers.ensures in
+    let exact : AreFlowsOf m zones.numbers c.args.chassis.now c.in_ok-flows.flows = subst (λ n. AreFlowsOf m n c.args.chassis.now c.in_ok-flows.flows) given c.in_ok-flows.ensures in
+    subst (λ (v : WorldView). AreFlowsOf v.state v.zones.numbers c.args.chassis.now held) c.self.view_is
+    (held_exactly (TableFlow (basis_at m zones.numbers c.args.chassis.now)) c.in_ok-flows.flows held exact c.in_ok-held.ensures)

@@ -12,7 +12,7 @@ pub unreachable-requires-in-Err-NoFrame : goal.unreachable-requires-in-Err-NoFra
 unreachable-requires-in-Err-NoFrame c =
     let old = seen_of c.self.inside in
     let waits : IsSome (numbered old.state.waiting c.args.frame) = subst (λ (v : WorldView). IsSome (numbered v.state.waiting c.args.frame)) (sym c.self.view_is) c.requires.waits in
-    let held : AreHeld old.state old.zones old.sim = subst (λ (v : WorldView). AreHeld v.state v.zones v.sim) (sym c.self.view_is) c.requires.held in
+    let held : AreHeld old.state old.zones.numbers old.sim = subst (λ (v : WorldView). AreHeld v.state v.zones.numbers v.sim) (sym c.self.view_is) c.requires.held in
     let answer = rw c.in-Err-NoFrame.field-0-is at c.in-Err-NoFrame.ensures in
     let x = some_of (numbered old.state.waiting c.args.frame) waits in
     let found = ap (λ ws. numbered ws c.args.frame) held.waiting ∙ numbered_map (λ y. (frame_of_crossing old.state.keys (0, y)).1) old.state.waiting c.args.frame ∙ ap (λ o. option_map (λ y. (frame_of_crossing old.state.keys (0, y)).1) o) x.1 in

@@ -1,6 +1,6 @@
 use Rattle.tuple_space.specs.declared.space.TupleSpace.{TupleSpace}
 use Rattle.world_core.proofs.HeldFlows.{flows_of}
-use Rattle.std.proofs.Common.{◌≡◌, List, subst, sym, ap}
+use Rattle.std.proofs.Common.{◌≡◌, subst, sym, ap}
 use Rattle.std.specs.List.{AllByRecursion}
 use Rattle.std.specs.Map.{keys_of}
 use Rattle.chassis_sim.specs.Changing.{IsApplied}
@@ -24,7 +24,7 @@ apply-requires-clause-proper c =
     let m : State = (seen_of c.self.inside).state in
     let zones = (seen_of c.self.inside).zones in
     let now : IsConsistent m zones = subst (λ v. IsConsistent v.state v.zones) (sym c.self.view_is) c.requires.consistent in
-    let all : AllByRecursion (λ e. AreFlowsOf m zones e.0 (flows_of e.1)) c.in_ok-added.added = subst (λ (v : WorldView). AllByRecursion (λ e. AreFlowsOf v.state v.zones e.0 (flows_of e.1)) c.in_ok-added.added) (sym c.self.view_is) c.in_ok-added.ensures.flows in
+    let all : AllByRecursion (λ e. AreFlowsOf m zones.numbers e.0 (flows_of e.1)) c.in_ok-added.added = subst (λ (v : WorldView). AllByRecursion (λ e. AreFlowsOf v.state v.zones.numbers e.0 (flows_of e.1)) c.in_ok-added.added) (sym c.self.view_is) c.in_ok-added.ensures.flows in
     record {
       deltas = subst (λ l. AllByRecursion (λ (table : Name × Delta Flow). IsProper table.1.added) l) (sym c.new-2.ensures) tt;
       chassis = all_proper flows_of m zones now.keys now.bound c.in_ok-added.added all;
@@ -37,7 +37,7 @@ returns c =
     let zones = (seen_of c.self.inside).zones in
     let change : SimChange TupleSpace = record { added = c.in_ok-added.added; removed = c.new.result; tables = c.new-2.result; emptied = c.new-3.result; bound = c.args.bound; names = c.args.names } in
     let names : keys_of c.in_ok-added.added ≡ m.config.chassis = subst (λ (v : WorldView). keys_of c.in_ok-added.added ≡ v.state.config.chassis) (sym c.self.view_is) c.in_ok-added.ensures.chassis in
-    let all : AllByRecursion (λ e. AreFlowsOf m zones e.0 (flows_of e.1)) c.in_ok-added.added = subst (λ (v : WorldView). AllByRecursion (λ e. AreFlowsOf v.state v.zones e.0 (flows_of e.1)) c.in_ok-added.added) (sym c.self.view_is) c.in_ok-added.ensures.flows in
+    let all : AllByRecursion (λ e. AreFlowsOf m zones.numbers e.0 (flows_of e.1)) c.in_ok-added.added = subst (λ (v : WorldView). AllByRecursion (λ e. AreFlowsOf v.state v.zones.numbers e.0 (flows_of e.1)) c.in_ok-added.added) (sym c.self.view_is) c.in_ok-added.ensures.flows in
     let old = c.self.inside.sim.state in
     let new = c.apply.new.self.state in
     let change_made : IsApplied flows_of c.prepare.new.self.state change new = c.apply.ensures in

@@ -1,9 +1,11 @@
 use Rattle.net_model.specs.Transition.{turned_by, bind}
 use Rattle.std.proofs.Common.{◌≡◌, [], ◌∷◌, ◌++◌, Some, subst, sym, ap, ◌∙◌}
+use Rattle.conn_zones.specs.Rezoning.{IsRezoned}
 use Rattle.edit_reader.specs.declared.event.Event.TheVariants as event_of
 use Rattle.sim_laws.specs.Consistent.{IsConsistent}
 use Rattle.world_core.specs.StepParts.{IsRecompiled}
 use Rattle.world_core.specs.WorldView.{WorldView}
+use Rattle.world_core.specs.Zones.{home_change}
 use Rattle.net_model.specs.State.{State, finished}
 use Rattle.world_core.proofs.TurnEvents.{binding_done, done_so}
 use Rattle.world_core.proofs.Refusals.{is_known, among_chassis}
@@ -31,4 +33,4 @@ returns c =
     let bound : c.push.new.self ≡ (p, Some chassis) ∷ [] = c.in_ok-push.ensures.ok ∙ ap (λ l. l ++ (p, Some chassis) ∷ []) c.new-bound.ensures in
     let made : IsRecompiled ((p, Some chassis) ∷ []) [] done new = subst (λ l. IsRecompiled l [] done new) bound (subst (λ l. IsRecompiled c.push.new.self l done new) c.new.ensures c.in_ok-recompile.ensures) in
     done_so old new (event_of.Bind p chassis) [] c.done_with.result.effects c.done_with.result.walks c.done_with.result.matched (c.done_with.ensures.effects ∙ c.new-2.ensures) c.done_with.ensures.walks c.done_with.ensures.matched
-    (binding_done old done new p chassis c.requires.taken now over (zones ∙ c.in_ok-bind.ensures.zones) made)
+    (binding_done old done new p chassis c.requires.taken now over (subst (λ z. IsRezoned old.zones (home_change p chassis) z) (sym zones) c.in_ok-bind.ensures.zones) made)
