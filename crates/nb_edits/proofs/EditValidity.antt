@@ -40,7 +40,6 @@ use Rattle.nb_records.specs.declared.rule.AddressSet.{AddressSet}
 use Rattle.nb_records.specs.declared.rule.PortGroup.{PortGroup}
 use Rattle.nb_records.specs.declared.switch.Switch.{Switch}
 use Rattle.nb_records.specs.declared.switch.SwitchPort.{SwitchPort}
-use Rattle.nb_rules.proofs.Validity.{unbroken}
 use Rattle.nb_rules.specs.First.{fault_if}
 use Rattle.nb_rules.specs.FirstBroken.{first_broken}
 use Rattle.nb_rules.specs.Valid.{IsValid, AreNamed, AreApart, AreAtTheirNames}
@@ -51,19 +50,18 @@ use Rattle.tunnel_keys.specs.declared.owner.KeyOwner.{KeyOwner}
 use Rattle.tunnel_keys.specs.declared.owner.KeyOwner.TheVariants.{Datapath, Port}
 use Rattle.nb_edits.proofs.DirectionLaws.{fits_too}
 use Rattle.nb_edits.proofs.KindLists.{IsKept, put_kept, removed_kept, kept_at, removed_at, put_apart, apart_put, removed_apart, apart_removed, apart_at, apart_back}
-use Rattle.nb_edits.proofs.OwnerLaws.{Owns, among_owns, owns_among}
+use Rattle.nb_edits.proofs.OwnerLaws.{Owns}
 use Rattle.nb_edits.specs.Directions.{is_from, names_outport, misdirects}
-use Rattle.nb_edits.specs.KeyChange.{AreBorn, IsSound}
-use Rattle.nb_edits.specs.OpFaults.{is_taken_for, is_misdirected, is_misdirecting, op_fault, ops_fault, fault_of}
+use Rattle.nb_edits.specs.OpFaults.{is_taken_for, is_misdirected, is_misdirecting, op_fault, ops_fault}
 
 -- ---- what is kept by each operation
 
 -- the fields of the record are in their ranges and grammars, and a rule fits its direction
-abbrev Fits : Record → Type 0
+abbrev pub Fits : Record → Type 0
 Fits (row.Acl r) = IsAcl r × IsDirected r
 Fits r = IsInGrammar r
 
-abbrev AreKept : Network → Kind → Type 0
+abbrev pub AreKept : Network → Kind → Type 0
 AreKept net kind.Switch = IsKept (λ (r : Switch). r.name) (λ r. Fits (row.Switch r)) net.switches
 AreKept net kind.Router = IsKept (λ (r : Router). r.name) (λ r. Fits (row.Router r)) net.routers
 AreKept net kind.RouterPort = IsKept (λ (r : RouterPort). r.name) (λ r. Fits (row.RouterPort r)) net.router_ports
@@ -82,7 +80,7 @@ pub record IsFit (net : Network) : Type 0 where
   pub ports : AreApart net.switch_ports net.router_ports
 
 -- none record of another kind in the record's namespace has its name
-abbrev IsFree : Network → Record → Type 0
+abbrev pub IsFree : Network → Record → Type 0
 IsFree net (row.Switch r) = at net.routers r.name ≡ None
 IsFree net (row.Router r) = at net.switches r.name ≡ None
 IsFree net (row.RouterPort r) = at net.switch_ports r.name ≡ None
@@ -223,13 +221,13 @@ changed_free net (change.LoadBalancer vips switches routers) (row.LoadBalancer r
 changed_free net (change.StaticMac ip mac) (row.StaticMac r) h = h
 changed_free net c r h = h
 
-some_of : {X : Type 0} (f : X → Record) (a : Option X) (r : Record) → option_map f a ≡ Some r → (x : X) × (a ≡ Some x) × (f x ≡ r)
+pub some_of : {X : Type 0} (f : X → Record) (a : Option X) (r : Record) → option_map f a ≡ Some r → (x : X) × (a ≡ Some x) × (f x ≡ r)
 some_of f None r e = absurd cc
 some_of f (Some x) r e = (x, refl, ap (λ o. unwrap_or o (f x)) e)
 
 -- what is there at a name fits, and is free
 module _ (net : Network) (h : IsFit net) where
-  there_fits : (k : Kind) (q : Name) (r : Record) → record_at net k q ≡ Some r → Fits r × IsFree net r
+  pub there_fits : (k : Kind) (q : Name) (r : Record) → record_at net k q ≡ Some r → Fits r × IsFree net r
   there_fits kind.Switch q r e =
       let x = some_of row.Switch (at net.switches q) r e in
       let kept = kept_at (λ (s : Switch). s.name) (λ s. Fits (row.Switch s)) net.switches (h.each kind.Switch) q x.0 x.1 in
@@ -284,11 +282,11 @@ born_fits n (row.Nat r) f none = record { name = f.name; router = f.router; exte
 born_fits n (row.LoadBalancer r) f none = record { name = f.name; vips = f.vips; switches = f.switches; routers = f.routers }
 born_fits n (row.StaticMac r) f none = record { name = f.name; port = f.port; ip = f.ip }
 
-neither : (a b : Bool) → (a || b) ≡ false → (a ≡ false) × (b ≡ false)
+pub neither : (a b : Bool) → (a || b) ≡ false → (a ≡ false) × (b ≡ false)
 neither true b h = absurd (true≢false h)
 neither false b h = (refl, h)
 
-not_there : {X : Type 0} (f : X → Record) (a : Option X) → is_some (option_map f a) ≡ false → a ≡ None
+pub not_there : {X : Type 0} (f : X → Record) (a : Option X) → is_some (option_map f a) ≡ false → a ≡ None
 not_there f None h = refl
 not_there f (Some x) h = absurd (true≢false h)
 
@@ -301,11 +299,11 @@ born_free net n r h = tt
 
 -- ---- one operation
 
-no_first : (a b : Option SchemaFault) → or_else a b ≡ None → (a ≡ None) × (b ≡ None)
+pub no_first : (a b : Option SchemaFault) → or_else a b ≡ None → (a ≡ None) × (b ≡ None)
 no_first (Some x) b h = absurd cc
 no_first None b h = (refl, h)
 
-no_fault : (b : Bool) (f : SchemaFault) → fault_if b f ≡ None → b ≡ false
+pub no_fault : (b : Bool) (f : SchemaFault) → fault_if b f ≡ None → b ≡ false
 no_fault true f h = absurd cc
 no_fault false f h = refl
 
@@ -313,7 +311,7 @@ changed_fit : (net : Network) (h : IsFit net) (k : Kind) (q : Name) (c : Change)
 changed_fit net h k q c None is g none = h
 changed_fit net h k q c (Some r) is g none = let f = there_fits net h k q r is in put_fit net h (changed_record c r) (changed_fits c r f.0 g none) (changed_free net c r f.1)
 
-operated_fit : (net : Network) (o : Op) (n : ℕ) → IsFit net → IsOpInGrammar o → op_fault net o ≡ None → IsFit (operated net o n)
+pub operated_fit : (net : Network) (o : Op) (n : ℕ) → IsFit net → IsOpInGrammar o → op_fault net o ≡ None → IsFit (operated net o n)
 operated_fit net (op.Add r) n h g none =
     let parts = no_first (fault_if (is_taken_for net (kind_of r) (name_of r)) _) _ none in
     put_fit net h (born n r) (born_fits n r g (no_fault (is_misdirected r) _ parts.1)) (born_free net n r (no_fault (is_taken_for net (kind_of r) (name_of r)) _ parts.0))
@@ -324,7 +322,7 @@ operated_fit net (op.Remove k q) n h g none = marks_fit (without_record net k q)
 operated_fit net (op.Health balancer backend true) n h g none = marks_fit net h _
 operated_fit net (op.Health balancer backend false) n h g none = marks_fit net h _
 
-accepted_fit : (net : Network) (ops : List Op) (n : ℕ) → IsFit net → AllByRecursion IsOpInGrammar ops → ops_fault net ops n ≡ None → IsFit (accepted net ops n)
+pub accepted_fit : (net : Network) (ops : List Op) (n : ℕ) → IsFit net → AllByRecursion IsOpInGrammar ops → ops_fault net ops n ≡ None → IsFit (accepted net ops n)
 accepted_fit net [] n h g none = h
 accepted_fit net (o ∷ ops) n h g none = let parts = no_first (op_fault net o) _ none in accepted_fit (operated net o n) ops n (operated_fit net o n h g.0 parts.0) g.1 parts.1
 
@@ -411,7 +409,7 @@ module _ (net : Network) (v : IsValid net) where
   fit_by_kind kind.LoadBalancer = to_kept row.LoadBalancer (λ r. r.name) (λ r. Fits (row.LoadBalancer r)) net.load_balancers (λ r h. h) v.in_order.load_balancers v.named.load_balancers (all_behind IsInGrammar _ _ before_static_macs)
   fit_by_kind kind.StaticMac = to_kept row.StaticMac (λ r. r.name) (λ r. Fits (row.StaticMac r)) net.static_macs (λ r h. h) v.in_order.static_macs v.named.static_macs (all_behind IsInGrammar _ _ v.in_grammar)
 
-  valid_fit : IsFit net
+  pub valid_fit : IsFit net
   valid_fit = record { each = fit_by_kind; datapaths = v.datapaths; ports = v.ports }
 
 module _ (net : Network) (h : IsFit net) where
@@ -444,7 +442,7 @@ module _ (net : Network) (h : IsFit net) where
     static_macs = names_kept row.StaticMac (λ r. r.name) (λ r. Fits (row.StaticMac r)) net.static_macs (h.each kind.StaticMac);
   }
 
-  fit_valid : AreInOrder net → first_broken net [] ≡ None → IsValid net
+  pub fit_valid : AreInOrder net → first_broken net [] ≡ None → IsValid net
   fit_valid order none = record {
     in_order = order;
     named = all_named;
@@ -575,22 +573,8 @@ operated_born net f (op.Remove k q) n o h = let left = without_record net k q in
 operated_born net f (op.Health balancer backend true) n o h = inl (owns_unmarked net (marked net balancer backend true).offline o h)
 operated_born net f (op.Health balancer backend false) n o h = inl (owns_unmarked net (marked net balancer backend false).offline o h)
 
-accepted_born : (net : Network) (ops : List Op) (n : ℕ) → IsFit net → AllByRecursion IsOpInGrammar ops → ops_fault net ops n ≡ None → (o : KeyOwner) → Owns (accepted net ops n) o → Owns net o ⊎ ((birth_in o).0 ≡ n)
+pub accepted_born : (net : Network) (ops : List Op) (n : ℕ) → IsFit net → AllByRecursion IsOpInGrammar ops → ops_fault net ops n ≡ None → (o : KeyOwner) → Owns (accepted net ops n) o → Owns net o ⊎ ((birth_in o).0 ≡ n)
 accepted_born net [] n f g none o h = inl h
 accepted_born net (p ∷ ops) n f g none o h =
     let parts = no_first (op_fault net p) _ none in
     elim (accepted_born (operated net p n) ops n (operated_fit net p n f g.0 parts.0) g.1 parts.1 o h) [ inl mid ↦ operated_born net f p n o mid | inr new ↦ inr new ]
-
--- ---- all
-
-pub edit_sound : (net : Network) (ops : List Op) (n : ℕ) → IsValid net → AllByRecursion IsOpInGrammar ops → fault_of net ops n ≡ None → AreInOrder (accepted net ops n) → IsSound net ops n
-unfolding fault_of
-edit_sound net ops n v g none order =
-    let parts = no_first (ops_fault net ops n) (first_broken (accepted net ops n) ops) none in
-    let f = valid_fit net v in
-    let after = accepted_fit net ops n f g parts.0 in
-    let whole = (unbroken (accepted net ops n) []).1 ((unbroken (accepted net ops n) ops).0 parts.1) in
-    record {
-      valid = fit_valid (accepted net ops n) after order whole;
-      born = λ o m. elim (accepted_born net ops n f g parts.0 o (among_owns (accepted net ops n) order o m)) [ inl old ↦ inl (owns_among net o old) | inr new ↦ inr new ];
-    }

@@ -34,7 +34,7 @@ use Rattle.tunnel_keys.specs.declared.owner.HeldPort.{HeldPort}
 use Rattle.tunnel_keys.specs.declared.owner.KeyOwner.{KeyOwner}
 use Rattle.tunnel_keys.specs.declared.owner.KeyOwner.TheVariants.{Datapath, Port}
 use Rattle.nb_edits.proofs.OwnerLaws.{IsDatapath, IsPort, among_owns, datapath_among, listed_among, among_listed, owners_once}
-use Rattle.nb_edits.specs.KeyChange.{AreKeysOf, AreBorn}
+use Rattle.nb_edits.specs.EditLeaves.{AreKeysOf, AreBorn}
 
 -- ---- listed or not
 

@@ -7,3 +7,7 @@ pub mod MarkLists
 pub mod KindLists
 pub mod KeyEdits
 pub mod EditValidity
+pub mod MarkOrder
+pub mod MarkLaws
+pub mod RecordLaws
+pub mod EditSoundness

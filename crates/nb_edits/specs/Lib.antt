@@ -3,4 +3,4 @@ pub mod Directions
 pub mod OpFaults
 pub mod Owners
 pub mod Plans
-pub mod KeyChange
+pub mod EditLeaves

@@ -1,22 +1,20 @@
 //! Laws of edits, each on a function that does nothing: call it, and its clause is a fact of the call.
 ghost use Rattle.std.specs.Prelude.{◌≡◌, ℕ, List, None};
 ghost use Rattle.std.specs.List.{AllByRecursion};
-ghost use Rattle.nb_records.specs.Editing.{accepted};
 ghost use Rattle.nb_records.specs.Grammar.{IsOpInGrammar};
-ghost use Rattle.nb_records.specs.Network.{Network, AreInOrder};
+ghost use Rattle.nb_records.specs.Network.{Network};
 ghost use Rattle.nb_records.specs.declared.change.Op.{Op};
 ghost use Rattle.nb_rules.specs.Valid.{IsValid};
 ghost use Rattle.net_model.specs.Owners.{owners_only_in};
 ghost use Rattle.tunnel_keys.specs.Edits.{IsKeyEdit};
 ghost use Rattle.tunnel_keys.specs.Keys.{Keys};
-ghost use Rattle.nb_edits.specs.KeyChange.{AreBorn, AreKeysOf, IsSound};
+ghost use Rattle.nb_edits.specs.EditLeaves.{AreBorn, AreKeysOf, IsSound};
 ghost use Rattle.nb_edits.specs.OpFaults.{fault_of};
 
-/// An edit of valid records with operations in their grammar, in which there is no fault, leaves valid records, and each owner of
-/// keys that wasn't there before is of this event. That records are in order is told by `Records::hold`.
-#[tactic(auto, using(crate::proofs::EditValidity::edit_sound))]
+/// An edit of valid records with operations in their grammar, in which there is no fault, leaves valid records; each of them, and each
+/// owner of keys, is of this event or was there before, but for values that were set; and marks stay ones of listed backends.
 pub fn edit_is_sound()
-    ensures { (net : Network) (ops : List Op) (n : ℕ) → IsValid net → AllByRecursion IsOpInGrammar ops → fault_of net ops n ≡ None → AreInOrder (accepted net ops n) → IsSound net ops n }
+    ensures { (net : Network) (ops : List Op) (n : ℕ) → IsValid net → AllByRecursion IsOpInGrammar ops → fault_of net ops n ≡ None → IsSound net ops n }
 {}
 
 /// The owners by which valid records differ are an edit that fits the keys of the records before: each stands once, those that go
