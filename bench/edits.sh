@@ -4,7 +4,7 @@
 set -euo pipefail
 source "$(dirname "$0")/loops.sh"
 
-build_loop ovn_base inet_packet match_language match_cubes nb_records nb_rules tunnel_keys nb_edits <<'EOF'
+build_loop ovn_base inet_packet match_language match_cubes conn_table flow_table nb_records nb_rules net_model tunnel_keys nb_edits <<'EOF'
 //! Plans one edit on records of many ports, again and again.
 #![tactic(auto)]
 
