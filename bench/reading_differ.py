@@ -323,7 +323,8 @@ def lines_of_seed():
 lines = list(lines_of_seed())
 answers = {}
 for line in lines:
-    said = answer(line)
+    # a feed in a quoted name of a match would end the line of the answer
+    said = answer(line).replace("\n", "\\n")
     word = said.split()[0] if said else said
     answers[word] = answers.get(word, 0) + 1
     print(f"{line.hex()}\t{said}")

@@ -589,9 +589,18 @@ fn bytes_of(alloc: Global, digits: &[u8]) -> Result<Vec<u8>, NoMemory> {
     Ok(bytes)
 }
 
+// What is read, with `\n` for a feed, which would end the line of the answer.
 fn compare(alloc: Global, asked: &str, out: &mut Vec<u8>) -> Result<(), NoMemory> {
     let line = bytes_of(alloc, asked.as_bytes())?;
-    answer(alloc, &line, out)
+    let mut said = Vec::new(alloc);
+    answer(alloc, &line, &mut said)?;
+    for byte in said.as_slice() {
+        match *byte {
+            b'\n' => push_text(out, "\\n")?,
+            byte => out.push(byte)?,
+        }
+    }
+    Ok(())
 }
 
 fn main(rt: HostRuntime) -> io::Result<()> {
