@@ -51,7 +51,7 @@ unmapped : {A B : Type 0} (f : A → B) (a : Option A) → option_map f a ≡ No
 unmapped f (Some x) h = absurd cc
 unmapped f None h = refl
 
-mapped : {A B : Type 0} (f : A → B) (a : Option A) → a ≡ None → option_map f a ≡ None
+pub mapped : {A B : Type 0} (f : A → B) (a : Option A) → a ≡ None → option_map f a ≡ None
 mapped f (Some x) h = absurd cc
 mapped f None h = refl
 
@@ -70,11 +70,11 @@ module _ {X A : Type 0} (f : X → Option A) where
   each_none [] h = tt
   each_none (e ∷ es) h = let both = neither (f e.1) (first_of f es) h in (both.0, each_none es both.1)
 
-  none_each : (es : List (Name × X)) → AllByRecursion (λ (e : Name × X). f e.1 ≡ None) es → first_of f es ≡ None
+  pub none_each : (es : List (Name × X)) → AllByRecursion (λ (e : Name × X). f e.1 ≡ None) es → first_of f es ≡ None
   none_each [] h = refl
   none_each (e ∷ es) h = none_or (f e.1) (first_of f es) h.0 (none_each es h.1)
 
-all_weaker : {X : Type 0} {P Q : X → Type 0} → ((x : X) → P x → Q x) → (xs : List X) → AllByRecursion P xs → AllByRecursion Q xs
+pub all_weaker : {X : Type 0} {P Q : X → Type 0} → ((x : X) → P x → Q x) → (xs : List X) → AllByRecursion P xs → AllByRecursion Q xs
 all_weaker f [] h = tt
 all_weaker f (x ∷ xs) h = (f x h.0, all_weaker f xs h.1)
 

@@ -4,6 +4,7 @@ pub mod References
 pub mod BadAddresses
 pub mod Peers
 pub mod Holders
+pub mod Claims
 pub mod Prefixes
 pub mod Gateways
 pub mod Widths

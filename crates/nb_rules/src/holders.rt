@@ -3,6 +3,7 @@ ghost use Rattle.std.specs.Prelude.{◌≡◌, ◌&&◌, false, None};
 ghost use Rattle.std.specs.List.{list_any};
 ghost use Rattle.nb_records.specs.Routers.{has_own_ip};
 ghost use Rattle.nb_records.specs.Switches.{same_ip};
+ghost use Rattle.nb_rules.specs.Claims.{ApartIf};
 ghost use Rattle.nb_rules.specs.First.{has_second, least_of};
 ghost use Rattle.nb_rules.specs.Holders as spec;
 
@@ -164,15 +165,16 @@ fn twice_bound(records: &Records) -> Option<SchemaFault>
     first_of(&BoundTwice(records), records.router_ports())
 }
 
-/// The first address that two hold.
+/// The first address that two hold. No two ports of a switch need to be compared where all are apart.
 #[tactic(auto, unfolding(crate::specs::Holders::duplicate_address))]
-pub(crate) fn duplicate_address(records: &Records) -> Option<SchemaFault>
+pub(crate) fn duplicate_address(records: &Records, apart: bool) -> Option<SchemaFault>
+    requires { ApartIf apart records.now }
     ensures { result ≡ spec.duplicate_address records.now }
 {
-    if let Some(fault) = twice_mac(records) {
+    if let Some(fault) = twice_mac(records, apart) {
         return Some(fault);
     }
-    if let Some(fault) = twice_ip(records) {
+    if let Some(fault) = twice_ip(records, apart) {
         return Some(fault);
     }
     if let Some(fault) = twice_own(records) {

@@ -3,6 +3,7 @@
 
 pub mod addresses;
 pub mod check;
+mod claims;
 pub mod fault;
 mod first;
 mod gateways;

@@ -4,6 +4,7 @@ ghost use Rattle.std.specs.List.{list_any};
 ghost use Rattle.std.specs.Option.{option_copied};
 ghost use Rattle.nb_records.specs.Switches as facts;
 ghost use Rattle.nb_records.specs.Routers as routing;
+ghost use Rattle.nb_rules.specs.Claims.{ApartIf};
 ghost use Rattle.nb_rules.specs.Holders as spec;
 
 use crate::fault::{Address, SchemaFault};
@@ -25,8 +26,11 @@ fn is_mate(port: &SwitchPort, other: &SwitchPort) -> bool
     other.switch == port.switch && other.name < port.name
 }
 
-// The router port behind a port to a router.
-fn router_port_behind<'a>(records: &'a Records, port: &SwitchPort) -> Option<&'a RouterPort>
+/// The router port behind a port to a router.
+pub(crate) fn router_port_behind<'a>(
+    records: &'a Records,
+    port: &SwitchPort,
+) -> Option<&'a RouterPort>
     ensures { option_copied result ≡ facts.router_port_behind records.now port.now }
 {
     match &port.router_port {
@@ -37,8 +41,8 @@ fn router_port_behind<'a>(records: &'a Records, port: &SwitchPort) -> Option<&'a
 
 // ---- Ethernet addresses
 
-// The Ethernet address of an entry; `router` stands for that of the router port behind the port.
-fn entry_mac(records: &Records, port: &SwitchPort, entry: &PortAddress) -> Option<Mac>
+/// The Ethernet address of an entry; `router` stands for that of the router port behind the port.
+pub(crate) fn entry_mac(records: &Records, port: &SwitchPort, entry: &PortAddress) -> Option<Mac>
     ensures { result ≡ facts.entry_mac (facts.router_port_behind records.now port.now) entry.now }
 {
     match entry {
@@ -94,8 +98,8 @@ fn shared_mac(records: &Records, port: &SwitchPort) -> Option<Mac>
 
 // ---- IPv4 addresses
 
-// The addresses of an entry.
-fn ips_in_entry(entry: &PortAddress) -> &[Ip4]
+/// The IPv4 addresses of an entry.
+pub(crate) fn ips_in_entry(entry: &PortAddress) -> &[Ip4]
     ensures { result.now ≡ spec.ips_in_entry entry.now }
 {
     match entry {
@@ -116,8 +120,8 @@ fn has_entry_ip(entries: &[PortAddress], ip: Ip4) -> bool
     entries.iter().any(|entry| has_ip(ips_in_entry(entry), ip))
 }
 
-// The port holds the address: by an entry, or its partner answers for it.
-fn holds_ip(records: &Records, ip: Ip4, port: &SwitchPort) -> bool
+/// Whether the port holds the address: by an entry, or its partner answers for it.
+pub(crate) fn holds_ip(records: &Records, ip: Ip4, port: &SwitchPort) -> bool
     ensures { result ≡ spec.holds_ip records.now ip port.now }
 {
     match port.kind {
@@ -284,10 +288,14 @@ impl Clause<SwitchPort> for SharedMac<'_> {
     }
 }
 
-/// The first port that has an Ethernet address of a port before it.
-pub(crate) fn twice_mac(records: &Records) -> Option<SchemaFault>
+/// The first port that has an Ethernet address of a port before it. Where all are apart there is none.
+pub(crate) fn twice_mac(records: &Records, apart: bool) -> Option<SchemaFault>
+    requires { ApartIf apart records.now }
     ensures { result ≡ spec.twice_mac records.now }
 {
+    if apart {
+        return None;
+    }
     first_of(&SharedMac(records), records.switch_ports())
 }
 
@@ -306,9 +314,13 @@ impl Clause<SwitchPort> for SharedIp<'_> {
     }
 }
 
-/// The first port that holds an IPv4 address of a port before it.
-pub(crate) fn twice_ip(records: &Records) -> Option<SchemaFault>
+/// The first port that holds an IPv4 address of a port before it. Where all are apart there is none.
+pub(crate) fn twice_ip(records: &Records, apart: bool) -> Option<SchemaFault>
+    requires { ApartIf apart records.now }
     ensures { result ≡ spec.twice_ip records.now }
 {
+    if apart {
+        return None;
+    }
     first_of(&SharedIp(records), records.switch_ports())
 }

@@ -1,0 +1,72 @@
+-- Claims of ports to addresses on their switches. Where each place has one holder, no two ports of a switch have one address.
+use Rattle.std.specs.Prelude.{◌≡◌, ℕ, Bool, true, cond, List, [], ◌∷◌, map, flat_map, Option, Some, None}
+use Rattle.std.specs.BTreeMap.{is_at}
+use Rattle.std.specs.Cmp.Lexicographic.{slice_cmp}
+use Rattle.std.specs.List.{AllByRecursion}
+use Rattle.std.specs.Map.{lookup}
+use Rattle.std.specs.Ordering.{nat_cmp, on, then_cmp}
+use Rattle.std.specs.declared.cmp.Ordering.{Ordering}
+use Rattle.ovn_base.specs.declared.address.Ip4.{Ip4}
+use Rattle.ovn_base.specs.declared.address.Mac.{Mac}
+use Rattle.ovn_base.specs.declared.name.Name.{Name}
+use Rattle.nb_records.specs.Network.{Network}
+use Rattle.nb_records.specs.Switches.{is_given, macs_of}
+use Rattle.nb_records.specs.declared.switch.SwitchPort.{SwitchPort}
+use Rattle.nb_rules.specs.Holders.{holds_ip, ips_by_kind, twice_mac, twice_ip}
+use Rattle.nb_rules.specs.declared.claims.Claim.{Claim}
+use Rattle.nb_rules.specs.declared.claims.Place.{Place}
+
+-- an address on a switch, by its number
+abbrev pub place_on : SwitchPort → ℕ → Place
+place_on q number = record { number = number; switch = q.switch }
+
+-- the port's claim to the address
+abbrev pub claim_of : SwitchPort → ℕ → Claim
+claim_of q number = record { place = place_on q number; holder = q.name }
+
+-- ---- the claims of a port, and of all ports
+
+abbrev pub mac_claim : SwitchPort → Mac → Claim
+mac_claim q mac = claim_of q mac.number
+
+abbrev pub port_macs : Network → SwitchPort → List Claim
+port_macs net q = map (mac_claim q) (macs_of net q)
+
+abbrev pub mac_claims : Network → List Claim
+mac_claims net = flat_map (λ (e : Name × SwitchPort). port_macs net e.1) net.switch_ports
+
+-- the claim to the IPv4 address, if the port holds it
+abbrev pub ip_claim : Network → SwitchPort → Ip4 → List Claim
+ip_claim net q ip = cond (holds_ip net ip q) (claim_of q ip.0 ∷ []) []
+
+abbrev pub claims_to : Network → SwitchPort → List Ip4 → List Claim
+claims_to net q ips = flat_map (ip_claim net q) ips
+
+abbrev pub port_ips : Network → SwitchPort → List Claim
+port_ips net q = claims_to net q (ips_by_kind net q q.kind)
+
+abbrev pub ip_claims : Network → List Claim
+ip_claims net = flat_map (λ (e : Name × SwitchPort). port_ips net e.1) net.switch_ports
+
+-- ---- one holder
+
+-- places by number, and then by switch
+abbrev pub place_cmp : Place → Place → Ordering
+place_cmp = then_cmp (on (λ p. p.number) nat_cmp) (on (λ p. p.switch) (slice_cmp nat_cmp))
+
+-- the holder at the claim's place is the claim's
+abbrev pub is_holder : List (Place × Name) → Claim → Bool
+is_holder holders c = is_given c.holder (lookup (is_at (place_cmp c.place)) holders)
+
+-- each place has one holder
+abbrev pub HaveOneHolder : List Claim → Type 0
+HaveOneHolder claims = (holder : Place → Option Name) × AllByRecursion (λ (c : Claim). holder c.place ≡ Some c.holder) claims
+
+-- no two ports of a switch have one address
+pub record ArePortsApart (net : Network) : Type 0 where
+  pub macs : twice_mac net ≡ None
+  pub ips : twice_ip net ≡ None
+
+-- the same, where the answer is so
+abbrev pub ApartIf : Bool → Network → Type 0
+ApartIf apart net = apart ≡ true → ArePortsApart net

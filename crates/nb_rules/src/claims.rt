@@ -1,0 +1,271 @@
+//! Whether two ports of a switch have one address, by an index of all addresses.
+ghost use Rattle.std.specs.Prelude.{◌≡◌, ◌++◌, ◌∷◌, [], true, map, flat_map, None, IfOk, OnOk};
+ghost use Rattle.std.specs.List.{list_all};
+ghost use Rattle.nb_records.specs.Routers as routing;
+ghost use Rattle.nb_records.specs.Switches as facts;
+ghost use Rattle.nb_rules.specs.Claims as spec;
+ghost use Rattle.nb_rules.specs.Holders.{ips_in_entry, own_ips, twice_mac, twice_ip};
+
+use crate::shared::{entry_mac, holds_ip, ips_in_entry, router_port_behind};
+use crate::vips::serves;
+use nb_records::balancer::Vip;
+use nb_records::records::Records;
+use nb_records::router::RouterPort;
+use nb_records::switch::{PortAddress, PortKind, SwitchPort};
+use ovn_base::address::{Cidr, Ip4};
+use ovn_base::list::List;
+use ovn_base::memory::NoMemory;
+use ovn_base::name::Name;
+use std::alloc::Global;
+use std::collections::BTreeMap;
+
+/// An address on a switch, by its number.
+#[derive(Clone, Copy, PartialEq, Eq, PartialOrd, Ord, Debug)]
+pub(crate) struct Place {
+    number: u64,
+    switch: Name,
+}
+
+/// That a port of the switch has the address.
+#[derive(Clone, Copy, PartialEq, Eq, Debug)]
+pub(crate) struct Claim {
+    place: Place,
+    holder: Name,
+}
+
+// Adds the port's claim to the address.
+fn push_claim(port: &SwitchPort, number: u64, claims: &mut List<Claim>) -> Result<(), NoMemory>
+    ensures { OnOk result (claims.new ≡ claims.old ++ spec.claim_of port.now number ∷ []) }
+{
+    claims.push(Claim {
+        place: Place {
+            number,
+            switch: port.switch,
+        },
+        holder: port.name,
+    })
+}
+
+// ---- Ethernet addresses
+
+// Adds the claims to the port's Ethernet addresses.
+fn push_macs(records: &Records, port: &SwitchPort, claims: &mut List<Claim>) -> Result<(), NoMemory>
+    ensures { OnOk result (claims.new ≡ claims.old ++ spec.port_macs records.now port.now) }
+{
+    'entries: for entry in port.addresses.as_slice() {
+        if let Some(mac) = entry_mac(records, port, entry) {
+            push_claim(port, mac.number(), claims)?;
+        }
+    }
+    Ok(())
+}
+
+fn mac_claims(alloc: Global, records: &Records) -> Result<List<Claim>, NoMemory>
+    ensures { IfOk result (λ l. l ≡ spec.mac_claims records.now) }
+{
+    let mut claims = List::new(alloc);
+    'ports: for (_name, port) in records.switch_ports() {
+        push_macs(records, port, &mut claims)?;
+    }
+    Ok(claims)
+}
+
+// ---- IPv4 addresses
+
+// Adds the claim to the address, if the port holds it.
+fn push_ip(
+    records: &Records,
+    port: &SwitchPort,
+    ip: Ip4,
+    claims: &mut List<Claim>,
+) -> Result<(), NoMemory>
+    ensures { OnOk result (claims.new ≡ claims.old ++ spec.ip_claim records.now port.now ip) }
+{
+    if holds_ip(records, ip, port) {
+        return push_claim(port, u64::from(ip.0), claims);
+    }
+    Ok(())
+}
+
+fn push_ips(
+    records: &Records,
+    port: &SwitchPort,
+    ips: &[Ip4],
+    claims: &mut List<Claim>,
+) -> Result<(), NoMemory>
+    ensures { OnOk result (claims.new ≡ claims.old ++ spec.claims_to records.now port.now ips.now) }
+{
+    'ips: for ip in ips {
+        push_ip(records, port, *ip, claims)?;
+    }
+    Ok(())
+}
+
+fn push_entries(
+    records: &Records,
+    port: &SwitchPort,
+    entries: &[PortAddress],
+    claims: &mut List<Claim>,
+) -> Result<(), NoMemory>
+    ensures { OnOk result (claims.new ≡ claims.old ++ spec.claims_to records.now port.now (flat_map ips_in_entry entries.now)) }
+{
+    'entries: for entry in entries {
+        push_ips(records, port, ips_in_entry(entry), claims)?;
+    }
+    Ok(())
+}
+
+fn push_networks(
+    records: &Records,
+    port: &SwitchPort,
+    networks: &[Cidr],
+    claims: &mut List<Claim>,
+) -> Result<(), NoMemory>
+    ensures { OnOk result (claims.new ≡ claims.old ++ spec.claims_to records.now port.now (map (λ n. n.addr) networks.now)) }
+{
+    'networks: for network in networks {
+        push_ip(records, port, network.addr, claims)?;
+    }
+    Ok(())
+}
+
+fn push_nats(
+    records: &Records,
+    port: &SwitchPort,
+    router: &Name,
+    claims: &mut List<Claim>,
+) -> Result<(), NoMemory>
+    ensures { OnOk result (claims.new ≡ claims.old ++ spec.claims_to records.now port.now (map (λ r. r.external_ip) (routing.nats_of records.now router.now))) }
+{
+    'rows: for (_name, row) in records.nats() {
+        if row.router == *router {
+            push_ip(records, port, row.external_ip, claims)?;
+        }
+    }
+    Ok(())
+}
+
+fn push_vips(
+    records: &Records,
+    port: &SwitchPort,
+    vips: &[Vip],
+    claims: &mut List<Claim>,
+) -> Result<(), NoMemory>
+    ensures { OnOk result (claims.new ≡ claims.old ++ spec.claims_to records.now port.now (map (λ v. v.at.ip) vips.now)) }
+{
+    'vips: for vip in vips {
+        push_ip(records, port, vip.at.ip, claims)?;
+    }
+    Ok(())
+}
+
+fn push_balancers(
+    records: &Records,
+    port: &SwitchPort,
+    router: &Name,
+    claims: &mut List<Claim>,
+) -> Result<(), NoMemory>
+    ensures { OnOk result (claims.new ≡ claims.old ++ spec.claims_to records.now port.now (flat_map (λ b. map (λ v. v.at.ip) b.vips) (facts.balancers_of records.now router.now))) }
+{
+    'balancers: for (_name, balancer) in records.load_balancers() {
+        if serves(balancer, router) {
+            push_vips(records, port, balancer.vips.as_slice(), claims)?;
+        }
+    }
+    Ok(())
+}
+
+// Adds the claims to what the router port behind the port answers for.
+#[tactic(auto, using(crate::proofs::OneHolder::known_claims))]
+fn push_known(
+    records: &Records,
+    port: &SwitchPort,
+    behind: &RouterPort,
+    claims: &mut List<Claim>,
+) -> Result<(), NoMemory>
+    ensures { OnOk result (claims.new ≡ claims.old ++ spec.claims_to records.now port.now (own_ips behind.now ++ routing.served_ips records.now behind.now.router)) }
+{
+    push_networks(records, port, behind.networks.as_slice(), claims)?;
+    push_nats(records, port, &behind.router, claims)?;
+    push_balancers(records, port, &behind.router, claims)
+}
+
+// Adds the claims to the IPv4 addresses that the port holds.
+fn push_held(records: &Records, port: &SwitchPort, claims: &mut List<Claim>) -> Result<(), NoMemory>
+    ensures { OnOk result (claims.new ≡ claims.old ++ spec.port_ips records.now port.now) }
+{
+    match port.kind {
+        PortKind::Virtual => push_entries(records, port, port.addresses.as_slice(), claims),
+        PortKind::Router => match router_port_behind(records, port) {
+            Some(behind) => push_known(records, port, behind, claims),
+            None => Ok(()),
+        },
+    }
+}
+
+fn ip_claims(alloc: Global, records: &Records) -> Result<List<Claim>, NoMemory>
+    ensures { IfOk result (λ l. l ≡ spec.ip_claims records.now) }
+{
+    let mut claims = List::new(alloc);
+    'ports: for (_name, port) in records.switch_ports() {
+        push_held(records, port, &mut claims)?;
+    }
+    Ok(claims)
+}
+
+// ---- one holder
+
+// The last holder of each place.
+fn holders(alloc: Global, claims: &[Claim]) -> Result<BTreeMap<Place, Name>, NoMemory> {
+    let mut holders = BTreeMap::new(alloc);
+    for claim in claims {
+        holders.insert(claim.place, claim.holder)?;
+    }
+    Ok(holders)
+}
+
+fn is_holder(holders: &BTreeMap<Place, Name>, claim: &Claim) -> bool
+    ensures { result ≡ spec.is_holder holders.now.entries claim.now }
+{
+    match holders.get(&claim.place) {
+        Some(holder) => *holder == claim.holder,
+        None => false,
+    }
+}
+
+fn all_hold(holders: &BTreeMap<Place, Name>, claims: &[Claim]) -> bool
+    ensures { result ≡ list_all (spec.is_holder holders.now.entries) claims.now }
+{
+    claims.iter().all(|claim| is_holder(holders, claim))
+}
+
+// Each place has one holder. It may answer `false` where it does.
+fn have_one_holder(alloc: Global, claims: &[Claim]) -> Result<bool, NoMemory>
+    ensures { IfOk result (λ b. b ≡ true → spec.HaveOneHolder claims.now) }
+{
+    let holders = holders(alloc, claims)?;
+    Ok(all_hold(&holders, claims))
+}
+
+#[tactic(auto, using(crate::proofs::OneHolder::no_mac_twice))]
+fn are_macs_apart(alloc: Global, records: &Records) -> Result<bool, NoMemory>
+    ensures { IfOk result (λ b. b ≡ true → twice_mac records.now ≡ None) }
+{
+    let claims = mac_claims(alloc, records)?;
+    have_one_holder(alloc, claims.as_slice())
+}
+
+#[tactic(auto, using(crate::proofs::OneHolder::no_ip_twice))]
+fn are_ips_apart(alloc: Global, records: &Records) -> Result<bool, NoMemory>
+    ensures { IfOk result (λ b. b ≡ true → twice_ip records.now ≡ None) }
+{
+    let claims = ip_claims(alloc, records)?;
+    have_one_holder(alloc, claims.as_slice())
+}
+
+/// Whether no two ports of a switch have one address. It may answer `false` where none have.
+pub(crate) fn are_apart(alloc: Global, records: &Records) -> Result<bool, NoMemory>
+    ensures { IfOk result (λ b. spec.ApartIf b records.now) }
+{
+    Ok(are_macs_apart(alloc, records)? && are_ips_apart(alloc, records)?)
+}
