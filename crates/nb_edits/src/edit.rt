@@ -7,7 +7,7 @@ use crate::owners::new_owners;
 use crate::plan::{EditFault, EditPlan};
 use nb_records::change::Op;
 use nb_records::records::Records;
-use nb_rules::check::first_broken;
+use nb_rules::check::first_broken_indexed;
 use std::alloc::Global;
 
 /// The edit by the event of this number: what the operations leave, one after another, or the first that is wrong with them or with
@@ -26,7 +26,7 @@ pub fn plan(
     if let Err(fault) = operate_all(&mut after, ops, number) {
         return Err(fault);
     }
-    if let Some(fault) = first_broken(&after, ops) {
+    if let Some(fault) = first_broken_indexed(alloc, &after, ops)? {
         return Err(EditFault::Schema(fault));
     }
     let added = new_owners(alloc, records, &after)?;
