@@ -11,3 +11,4 @@ pub mod MarkOrder
 pub mod MarkLaws
 pub mod RecordLaws
 pub mod EditSoundness
+pub mod HealthLaws

@@ -1,9 +1,12 @@
 //! Laws of edits, each on a function that does nothing: call it, and its clause is a fact of the call.
-ghost use Rattle.std.specs.Prelude.{◌≡◌, ℕ, List, None};
+ghost use Rattle.std.specs.Prelude.{◌≡◌, ◌∷◌, [], ℕ, Bool, List, None};
 ghost use Rattle.std.specs.List.{AllByRecursion};
+ghost use Rattle.ovn_base.specs.declared.address.Backend.{Backend};
+ghost use Rattle.ovn_base.specs.declared.name.Name.{Name};
 ghost use Rattle.nb_records.specs.Grammar.{IsOpInGrammar};
 ghost use Rattle.nb_records.specs.Network.{Network};
 ghost use Rattle.nb_records.specs.declared.change.Op.{Op};
+ghost use Rattle.nb_records.specs.declared.change.Op.TheVariants as form;
 ghost use Rattle.nb_rules.specs.Valid.{IsValid};
 ghost use Rattle.net_model.specs.Owners.{owners_only_in};
 ghost use Rattle.tunnel_keys.specs.Edits.{IsKeyEdit};
@@ -22,4 +25,10 @@ pub fn edit_is_sound()
 #[tactic(auto, using(crate::proofs::KeyEdits::key_edit))]
 pub fn edit_fits_keys()
     ensures { (before after : Network) (n : ℕ) (keys : Keys) → IsValid before → IsValid after → AreBorn before after n → AreKeysOf before n keys → IsKeyEdit keys (owners_only_in after before) (owners_only_in before after) }
+{}
+
+/// A health event on valid records has no fault: no rule reads the marks.
+#[tactic(auto, using(crate::proofs::HealthLaws::health_fine))]
+pub fn health_has_no_fault()
+    ensures { (net : Network) (balancer : Name) (backend : Backend) (online : Bool) (n : ℕ) → IsValid net → fault_of net (form.Health balancer backend online ∷ []) n ≡ None }
 {}
