@@ -6,6 +6,7 @@ use nb_edits::edit::{apply, plan};
 use nb_edits::plan::{EditFault, EditPlan};
 use nb_records::change::Op;
 use nb_records::records::Records;
+use nb_rules::check::check;
 use nb_rules::fault::{Address, Limited, SchemaFault};
 use ovn_base::address::{Ip4, Mac};
 use ovn_base::list::List;
@@ -77,6 +78,42 @@ pub(crate) fn differing(alloc: Global, rows: &[Row]) -> Result<String, NoMemory>
         }
     }
     Ok(String::new(alloc))
+}
+
+// Puts the records that the operations add, and answers whether they do nothing else.
+fn put_all(alloc: Global, records: &mut Records, ops: &str) -> Result<bool, NoMemory> {
+    let ops = operations(alloc, ops)?;
+    for op in ops.as_slice() {
+        match op {
+            Op::Add(record) => records.put(record.copy()?)?,
+            _ => return Ok(false),
+        }
+    }
+    Ok(true)
+}
+
+// Tells what is wrong with the records that both edits add, as they stand; nothing, where one does something else.
+fn checked(alloc: Global, first: &str, second: &str) -> Result<Option<String>, NoMemory> {
+    let mut records = Records::new(alloc)?;
+    if !put_all(alloc, &mut records, first)? || !put_all(alloc, &mut records, second)? {
+        return Ok(None);
+    }
+    match check(&records) {
+        Ok(()) => Ok(Some(format!(in alloc; "ok")?)),
+        Err(fault) => Ok(Some(told(alloc, fault)?)),
+    }
+}
+
+/// Tells of the first row of which the answer is another, or to its records as they stand; nothing, where there is none.
+pub(crate) fn differing_rule(alloc: Global, rows: &[Row]) -> Result<String, NoMemory> {
+    for (before, ops, wanted) in rows {
+        if let Some(told) = checked(alloc, before, ops)? {
+            if told.as_str() != *wanted {
+                return Ok(format!(in alloc; "{told} of the records of {ops}")?);
+            }
+        }
+    }
+    differing(alloc, rows)
 }
 
 fn ip_text(alloc: Global, ip: Ip4) -> Result<String, NoMemory> {

@@ -1,6 +1,6 @@
 //! Each rule by smallest networks that break it, beside some that don't.
 
-use crate::lines::{Row, differing};
+use crate::lines::{Row, differing_rule};
 use std::test::Fail;
 
 // ---- what is there before
@@ -158,7 +158,7 @@ const PEERS: [Row; 6] = [
 ];
 
 // The second holder is named: a port, a router port, or a datapath. Of its addresses the least.
-const HOLDERS: [Row; 9] = [
+const HOLDERS: [Row; 14] = [
     (
         SWITCH,
         r#"{"add":"switch_port","name":"p2","switch":"s0","addresses":["0a:00:00:00:00:02","0a:00:00:00:00:01"]},{"add":"switch_port","name":"p1","switch":"s0","addresses":["0a:00:00:00:00:02","0a:00:00:00:00:01"]}"#,
@@ -198,6 +198,31 @@ const HOLDERS: [Row; 9] = [
         SWITCH,
         r#"{"add":"load_balancer","name":"b1","vips":{"10.0.0.50:80":""},"switches":["s0"]},{"add":"load_balancer","name":"b2","protocol":"udp","vips":{"10.0.0.50:80":""},"switches":["s0"]}"#,
         "ok",
+    ),
+    (
+        SWITCH,
+        r#"{"add":"switch","name":"s1"},{"add":"switch_port","name":"p1","switch":"s0","addresses":["0a:00:00:00:00:01 10.0.0.1"]},{"add":"switch_port","name":"p2","switch":"s1","addresses":["0a:00:00:00:00:01 10.0.0.1"]}"#,
+        "ok",
+    ),
+    (
+        SWITCH,
+        r#"{"add":"switch_port","name":"p1","switch":"s0","addresses":["0a:00:00:00:00:01 10.0.0.1","0a:00:00:00:00:01 10.0.0.1"]}"#,
+        "ok",
+    ),
+    (
+        GATEWAY,
+        r#"{"add":"switch_port","name":"sr","switch":"s0","type":"router","router_port":"gp1","addresses":["router"]},{"add":"load_balancer","name":"b","vips":{"172.16.0.50:80":"","10.9.9.9:80":""},"routers":["g0"]},{"add":"switch_port","name":"zz","switch":"s0","addresses":["0a:00:00:00:00:01 172.16.0.50"]}"#,
+        "DuplicateAddress 172.16.0.50 zz",
+    ),
+    (
+        GATEWAY,
+        r#"{"add":"switch_port","name":"sr","switch":"s0","type":"router","router_port":"gp1","addresses":["router"]},{"add":"load_balancer","name":"b","vips":{"172.16.0.50:80":"","10.9.9.9:80":""},"routers":["g0"]},{"add":"switch_port","name":"zz","switch":"s0","addresses":["0a:00:00:00:00:01 10.9.9.9"]}"#,
+        "ok",
+    ),
+    (
+        GATEWAY,
+        r#"{"add":"switch_port","name":"sr","switch":"s0","type":"router","router_port":"gp1","addresses":["router"]},{"add":"nat","name":"n","router":"g0","type":"dnat_and_snat","external_ip":"172.16.0.60","logical_ip":"10.0.0.2"},{"add":"switch_port","name":"p1","switch":"s0","addresses":["0a:00:00:00:00:01 172.16.0.60"]}"#,
+        "DuplicateAddress 172.16.0.60 sr",
     ),
     (
         ROUTER,
@@ -273,42 +298,42 @@ const TWO_RULES: [Row; 2] = [
 
 #[test]
 fn who_is_named_is_there(rt: HostRuntime) -> Result<(), Fail> {
-    assert_eq!(rt; differing(rt.alloc(), &REFERENCES)?.as_str(), "");
+    assert_eq!(rt; differing_rule(rt.alloc(), &REFERENCES)?.as_str(), "");
     Ok(())
 }
 
 #[test]
 fn addresses_stand_where_they_can(rt: HostRuntime) -> Result<(), Fail> {
-    assert_eq!(rt; differing(rt.alloc(), &ADDRESSES)?.as_str(), "");
+    assert_eq!(rt; differing_rule(rt.alloc(), &ADDRESSES)?.as_str(), "");
     Ok(())
 }
 
 #[test]
 fn a_router_port_has_one_partner_of_another_router(rt: HostRuntime) -> Result<(), Fail> {
-    assert_eq!(rt; differing(rt.alloc(), &PEERS)?.as_str(), "");
+    assert_eq!(rt; differing_rule(rt.alloc(), &PEERS)?.as_str(), "");
     Ok(())
 }
 
 #[test]
 fn no_two_hold_an_address(rt: HostRuntime) -> Result<(), Fail> {
-    assert_eq!(rt; differing(rt.alloc(), &HOLDERS)?.as_str(), "");
+    assert_eq!(rt; differing_rule(rt.alloc(), &HOLDERS)?.as_str(), "");
     Ok(())
 }
 
 #[test]
 fn no_two_have_a_prefix(rt: HostRuntime) -> Result<(), Fail> {
-    assert_eq!(rt; differing(rt.alloc(), &PREFIXES)?.as_str(), "");
+    assert_eq!(rt; differing_rule(rt.alloc(), &PREFIXES)?.as_str(), "");
     Ok(())
 }
 
 #[test]
 fn next_hops_are_near_and_gateways_translate(rt: HostRuntime) -> Result<(), Fail> {
-    assert_eq!(rt; differing(rt.alloc(), &ROUTERS)?.as_str(), "");
+    assert_eq!(rt; differing_rule(rt.alloc(), &ROUTERS)?.as_str(), "");
     Ok(())
 }
 
 #[test]
 fn the_first_rule_is_told(rt: HostRuntime) -> Result<(), Fail> {
-    assert_eq!(rt; differing(rt.alloc(), &TWO_RULES)?.as_str(), "");
+    assert_eq!(rt; differing_rule(rt.alloc(), &TWO_RULES)?.as_str(), "");
     Ok(())
 }
