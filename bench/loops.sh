@@ -19,14 +19,19 @@ make_program() {
   echo "timed: $*" >>"$work/crates.txt"
 }
 
-# Builds a program over the crates that are named. Its main.rt comes on standard input, and takes three words: what to do
-# in each round, how long the frame is, and how many rounds there are.
-build_loop() {
-  make_program "$@"
+# Builds the program that was made. It takes three words: what to do in each round, how long the frame is, and how many rounds
+# there are.
+build_program() {
   if ! (cd "$work/crates/timed" && "${RT:-rt}" run -- nothing 64 1) >"$work/log" 2>&1; then
     cat "$work/log" >&2
     exit 70
   fi
+}
+
+# Makes a program over the crates that are named, and builds it. Its main.rt comes on standard input.
+build_loop() {
+  make_program "$@"
+  build_program
 }
 
 # The least ns that five runs take: what, length, rounds, and what the program is to say.
