@@ -1,0 +1,13 @@
+//! Tests that it doesn't show which classifier holds the flows of the chassis.
+#![tactic(auto)]
+
+#[cfg(test)]
+mod lines;
+#[cfg(test)]
+mod mirror;
+#[cfg(test)]
+mod proper;
+#[cfg(test)]
+mod sims;
+#[cfg(test)]
+mod tests;
