@@ -4,7 +4,7 @@
 #[cfg(test)]
 mod lines;
 #[cfg(test)]
-mod mirror;
+mod pair;
 #[cfg(test)]
 mod proper;
 #[cfg(test)]

@@ -48,6 +48,26 @@ pub fn come<T: Lookup + Drop>(
     Ok(())
 }
 
+// Ports are bound to chassis, and pairs of a datapath key and a port key get names.
+fn settle<T: Lookup + Drop>(
+    alloc: Global,
+    sim: &mut Sim<T>,
+    bound: List<(Name, Option<Name>)>,
+    names: List<(u32, u16, Name)>,
+) -> Result<(), NoMemory> {
+    let change = SimChange {
+        added: List::new(alloc),
+        removed: List::new(alloc),
+        tables: List::new(alloc),
+        emptied: List::new(alloc),
+        bound,
+        names,
+    };
+    sim.prepare(&change)?;
+    sim.apply(change);
+    Ok(())
+}
+
 /// The port is bound to the chassis.
 pub fn bind<T: Lookup + Drop>(
     alloc: Global,
@@ -55,17 +75,8 @@ pub fn bind<T: Lookup + Drop>(
     port: Name,
     chassis: Name,
 ) -> Result<(), NoMemory> {
-    let change = SimChange {
-        added: List::new(alloc),
-        removed: List::new(alloc),
-        tables: List::new(alloc),
-        emptied: List::new(alloc),
-        bound: one(alloc, (port, Some(chassis)))?,
-        names: List::new(alloc),
-    };
-    sim.prepare(&change)?;
-    sim.apply(change);
-    Ok(())
+    let bound = one(alloc, (port, Some(chassis)))?;
+    settle(alloc, sim, bound, List::new(alloc))
 }
 
 /// The pair of a datapath key and a port key gets the name.
@@ -76,17 +87,8 @@ pub fn call<T: Lookup + Drop>(
     port: u16,
     name: Name,
 ) -> Result<(), NoMemory> {
-    let change = SimChange {
-        added: List::new(alloc),
-        removed: List::new(alloc),
-        tables: List::new(alloc),
-        emptied: List::new(alloc),
-        bound: List::new(alloc),
-        names: one(alloc, (datapath, port, name))?,
-    };
-    sim.prepare(&change)?;
-    sim.apply(change);
-    Ok(())
+    let names = one(alloc, (datapath, port, name))?;
+    settle(alloc, sim, List::new(alloc), names)
 }
 
 // Those of the flows that are none of the others.

@@ -1,54 +1,77 @@
-use crate::lines::{CHASSIS, Dice, PORTS, add_chassis, add_port, add_switch, bind, next_line};
-use crate::mirror::Mirror;
+use crate::lines::{Dice, NAMES, NETWORK, next_line};
+use crate::pair::{Pair, Texts, take_line};
 use ovn_base::memory::NoMemory;
 use ovn_base::name::Name;
 use std::alloc::Global;
 use std::test::Fail;
+use world_core::world::World;
 
-// A frame for a port that moves before it arrives.
-const LATE: [&str; 3] = [
-    "{\"inject\":{\"port\":\"p0\",\"frame\":\"0a00000000020a000000000088b56869\"}}",
-    "{\"bind\":{\"port\":\"p2\",\"chassis\":\"hv0\"}}",
-    "{\"deliver\":{\"frame\":1}}",
+// The kinds of outcome that the run is to have.
+const OUTCOMES: &[&str] = &[
+    " tunnel ",
+    " out ",
+    " lost ",
+    " loopback\n",
+    " vlan\n",
+    " unknown-address\n",
+    " refused NoFrame ",
 ];
 
-// The name of the kind and the number.
-fn name(alloc: Global, kind: &str, number: u32) -> Result<Name, NoMemory> {
-    let text = format!(in alloc; "{kind}{number}")?;
-    Name::read(text.as_bytes()).ok_or(NoMemory)
+// Has the world and the pair take the lines of the network.
+fn begin(
+    alloc: Global,
+    world: &mut World,
+    pair: &mut Pair,
+    texts: &mut Texts,
+) -> Result<(), NoMemory> {
+    for (datapath, port, name) in NAMES {
+        let name = Name::read(name.as_bytes()).ok_or(NoMemory)?;
+        pair.call(alloc, *datapath, *port, name)?;
+    }
+    for line in NETWORK {
+        take_line(alloc, world, pair, line, texts)?;
+    }
+    Ok(())
 }
 
-// Two switches, whose ports are bound to three chassis.
-fn network(alloc: Global) -> Result<Mirror, NoMemory> {
-    let mut mirror = Mirror::new(alloc)?;
-    for switch in 0..2 {
-        mirror.take(alloc, add_switch(alloc, switch)?.as_bytes())?;
-        mirror.call(alloc, switch + 1, 0, name(alloc, "s", switch)?)?;
-    }
-    for chassis in 0..CHASSIS {
-        mirror.take(alloc, add_chassis(alloc, chassis)?.as_bytes())?;
-    }
-    for port in 0..PORTS {
-        mirror.take(alloc, add_port(alloc, port)?.as_bytes())?;
-        let key = (port / 2 + 1) as u16;
-        mirror.call(alloc, port % 2 + 1, key, name(alloc, "p", port)?)?;
-        mirror.take(alloc, bind(alloc, port, port % CHASSIS)?.as_bytes())?;
-    }
-    Ok(mirror)
-}
-
-// The network after a generated run.
-fn run(alloc: Global, rounds: u32) -> Result<Mirror, NoMemory> {
-    let mut mirror = network(alloc)?;
-    for line in LATE {
-        mirror.take(alloc, line.as_bytes())?;
-    }
+// Has them take a generated run of this many lines.
+fn go_on(
+    alloc: Global,
+    world: &mut World,
+    pair: &mut Pair,
+    rounds: u32,
+    texts: &mut Texts,
+) -> Result<(), NoMemory> {
     let mut dice = Dice(1);
     for _ in 0..rounds {
-        let line = next_line(alloc, &mut dice, mirror.sent())?;
-        mirror.take(alloc, line.as_bytes())?;
+        let line = next_line(alloc, &mut dice, pair.sent())?;
+        take_line(alloc, world, pair, line.as_str(), texts)?;
     }
-    Ok(mirror)
+    Ok(())
+}
+
+// The texts of a run of the world and the pair.
+fn run_both(alloc: Global, world: &mut World, pair: &mut Pair) -> Result<Texts, NoMemory> {
+    let mut texts = Texts {
+        world: Vec::new(alloc),
+        list: Vec::new(alloc),
+        masks: Vec::new(alloc),
+    };
+    begin(alloc, world, pair, &mut texts)?;
+    go_on(alloc, world, pair, 100, &mut texts)?;
+    Ok(texts)
+}
+
+// The texts of a run beside the world.
+fn run_beside(alloc: Global, world: &mut World) -> Result<Texts, NoMemory> {
+    let mut pair = Pair::new(alloc)?;
+    run_both(alloc, world, &mut pair)
+}
+
+// The texts of a run. Each of these three functions holds one large value: a function that holds two takes minutes to prove.
+fn run(alloc: Global) -> Result<Texts, NoMemory> {
+    let mut world = World::new(alloc)?;
+    run_beside(alloc, &mut world)
 }
 
 // Whether the word stands in the text.
@@ -59,22 +82,16 @@ fn has(text: &[u8], word: &[u8]) -> bool {
     text.windows(word.len()).any(|part| part == word)
 }
 
+// Whether the text tells of each kind of outcome.
+fn tells_all(text: &[u8]) -> bool {
+    OUTCOMES.iter().all(|word| has(text, word.as_bytes()))
+}
+
 #[test]
 fn both_write_the_same(rt: HostRuntime) -> Result<(), Fail> {
-    let ran = run(rt.alloc(), 100)?;
-    assert!(rt; ran.by_list.as_slice() == ran.by_masks.as_slice());
-    assert!(rt; ran.by_masks.as_slice() == ran.by_world.as_slice());
-    let words: [&[u8]; 7] = [
-        b" tunnel ",
-        b" out ",
-        b" lost ",
-        b" loopback\n",
-        b" vlan\n",
-        b" unknown-address\n",
-        b" refused NoFrame ",
-    ];
-    for word in words {
-        assert!(rt; has(ran.by_list.as_slice(), word));
-    }
+    let texts = run(rt.alloc())?;
+    assert!(rt; texts.list.as_slice() == texts.masks.as_slice());
+    assert!(rt; texts.masks.as_slice() == texts.world.as_slice());
+    assert!(rt; tells_all(texts.list.as_slice()));
     Ok(())
 }

@@ -6,9 +6,8 @@ use Rattle.ovn_base.specs.lists.Among.{Among}
 use Rattle.ovn_base.specs.lists.Once.{EachOnce}
 use Rattle.ovn_base.proofs.AmongLaws.{among_any, among_append, among_cases, among_none}
 use Rattle.flow_table.proofs.OnceLaws.{once_push}
-use Rattle.flow_table.specs.declared.flow.Flow.{Flow}
 use Rattle.flow_table.specs.contracts.flow.FlowPartialEq.TheImpl.{ghosts}
-use Rattle.switch_engine.specs.Proper.{IsProper, IsProperFlow}
+use Rattle.switch_engine.specs.Proper.{IsProperFlow}
 use Rattle.classifier_tests.proofs.sims.keep.Goals as goal
 
 pub returns-clause-once : goal.returns-clause-once

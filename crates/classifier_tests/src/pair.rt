@@ -22,17 +22,19 @@ use world_core::world::World;
 // Names the count of the events that were taken.
 struct Events;
 
-/// A world and the two simulations, and what each of them writes of packets.
+/// The two simulations.
 #[derive(Drop)]
-pub struct Mirror {
-    world: World,
+pub struct Pair {
     list: Sim<Tables>,
     masks: Sim<TupleSpace>,
-    known: List<Name>,
-    pub told: Vec<u8>,
-    pub by_list: Vec<u8>,
-    pub by_masks: Vec<u8>,
-    pub by_world: Vec<u8>,
+}
+
+/// What the world and each of the two write of packets.
+#[derive(Drop)]
+pub struct Texts {
+    pub world: Vec<u8>,
+    pub list: Vec<u8>,
+    pub masks: Vec<u8>,
 }
 
 // Takes an event of packets as a world does, and adds its lines.
@@ -87,18 +89,12 @@ fn is_of_packets(event: &Event) -> bool {
     }
 }
 
-impl Mirror {
+impl Pair {
     /// Nothing yet.
-    pub fn new(alloc: Global) -> Result<Mirror, NoMemory> {
-        Ok(Mirror {
-            world: World::new(alloc)?,
+    pub fn new(alloc: Global) -> Result<Pair, NoMemory> {
+        Ok(Pair {
             list: Sim::new(alloc)?,
             masks: Sim::new(alloc)?,
-            known: List::new(alloc),
-            told: Vec::new(alloc),
-            by_list: Vec::new(alloc),
-            by_masks: Vec::new(alloc),
-            by_world: Vec::new(alloc),
         })
     }
 
@@ -114,62 +110,108 @@ impl Mirror {
         call(alloc, &mut self.masks, datapath, port, name)
     }
 
-    /// Takes the event of the line, whose lines are added to what is written.
-    pub fn take(&mut self, alloc: Global, line: &[u8]) -> Result<(), NoMemory> {
-        let Ok(event) = read_event(alloc, line) else {
-            return Err(NoMemory);
-        };
-        self.told.clear();
-        self.step(&event)?;
-        if is_of_packets(&event) {
-            let number = self.world.events();
-            self.by_world.extend_from_slice(&self.told)?;
-            take(alloc, &mut self.list, &event, number, &mut self.by_list)?;
-            return take(alloc, &mut self.masks, &event, number, &mut self.by_masks);
-        }
-        self.follow(alloc)?;
-        if let Event::Bind { port, chassis } = event {
-            bind(alloc, &mut self.list, port, chassis)?;
-            bind(alloc, &mut self.masks, port, chassis)?;
-        }
-        Ok(())
-    }
-
     /// How many frames were sent, up to 1,000.
     pub fn sent(&self) -> u32 {
         let next = self.list.next_frame().min(1_001);
         next.saturating_sub(1) as u32
     }
 
-    // Has the world take the event.
-    fn step(&mut self, event: &Event) -> Result<(), NoMemory> {
-        if !self.world.is_sound() || self.world.events() >= 1 << 42 || !is_admitted(event) {
-            return Err(NoMemory);
-        }
-        let mut steps: Steps<Events> = Steps::new();
-        match self.world.step(event, &mut self.told, &mut steps) {
-            Ok(()) | Err(StepFault::Refused(_)) => Ok(()),
-            Err(StepFault::Memory) => Err(NoMemory),
-        }
+    // The chassis comes.
+    fn come(&mut self, alloc: Global, chassis: Name) -> Result<(), NoMemory> {
+        come(alloc, &mut self.list, chassis, Tables::new(alloc)?)?;
+        come(alloc, &mut self.masks, chassis, TupleSpace::new(alloc)?)
     }
 
-    // Gives both simulations what the chassis of the world hold.
-    fn follow(&mut self, alloc: Global) -> Result<(), NoMemory> {
+    // The port is bound to the chassis.
+    fn bind(&mut self, alloc: Global, port: Name, chassis: Name) -> Result<(), NoMemory> {
+        bind(alloc, &mut self.list, port, chassis)?;
+        bind(alloc, &mut self.masks, port, chassis)
+    }
+
+    // Each chassis holds what it holds in the world.
+    fn follow(&mut self, alloc: Global, world: &World) -> Result<(), NoMemory> {
         for index in 0..64 {
-            if let Some(chassis) = self.world.chassis(index) {
-                let chassis = *chassis;
-                let flows = flows_of(alloc, &self.world, &chassis)?;
-                if !self.known.as_slice().contains(&chassis) {
-                    self.known.push(chassis)?;
-                    come(alloc, &mut self.list, chassis, Tables::new(alloc)?)?;
-                    come(alloc, &mut self.masks, chassis, TupleSpace::new(alloc)?)?;
-                }
-                follow(alloc, &mut self.list, chassis, &flows)?;
-                follow(alloc, &mut self.masks, chassis, &flows)?;
-            }
+            let Some(chassis) = world.chassis(index) else {
+                return Ok(());
+            };
+            let flows = flows_of(alloc, world, chassis)?;
+            follow(alloc, &mut self.list, *chassis, &flows)?;
+            follow(alloc, &mut self.masks, *chassis, &flows)?;
         }
         Ok(())
     }
+}
+
+// Has the world take the event.
+fn step(world: &mut World, event: &Event, text: &mut Vec<u8>) -> Result<(), NoMemory> {
+    if !world.is_sound() || world.events() >= 1 << 42 || !is_admitted(event) {
+        return Err(NoMemory);
+    }
+    let mut steps: Steps<Events> = Steps::new();
+    match world.step(event, text, &mut steps) {
+        Ok(()) | Err(StepFault::Refused(_)) => Ok(()),
+        Err(StepFault::Memory) => Err(NoMemory),
+    }
+}
+
+// Has the world and the pair take an event of packets.
+fn pass(
+    alloc: Global,
+    world: &mut World,
+    pair: &mut Pair,
+    event: &Event,
+    texts: &mut Texts,
+) -> Result<(), NoMemory> {
+    step(world, event, &mut texts.world)?;
+    let number = world.events();
+    take(alloc, &mut pair.list, event, number, &mut texts.list)?;
+    take(alloc, &mut pair.masks, event, number, &mut texts.masks)
+}
+
+// Has the world take another event, and gives the pair what came of it.
+fn change(
+    alloc: Global,
+    world: &mut World,
+    pair: &mut Pair,
+    event: &Event,
+) -> Result<(), NoMemory> {
+    let mut skipped = Vec::new(alloc);
+    step(world, event, &mut skipped)?;
+    match event {
+        Event::AddChassis(chassis) => pair.come(alloc, *chassis)?,
+        Event::Bind { port, chassis } => pair.bind(alloc, *port, *chassis)?,
+        _ => {}
+    }
+    pair.follow(alloc, world)
+}
+
+// Has the world and the pair take the event.
+fn take_event(
+    alloc: Global,
+    world: &mut World,
+    pair: &mut Pair,
+    event: &Event,
+    texts: &mut Texts,
+) -> Result<(), NoMemory> {
+    if is_of_packets(event) {
+        pass(alloc, world, pair, event, texts)
+    } else {
+        change(alloc, world, pair, event)
+    }
+}
+
+/// Has the world and the pair take the event of the line.
+pub fn take_line(
+    alloc: Global,
+    world: &mut World,
+    pair: &mut Pair,
+    line: &str,
+    texts: &mut Texts,
+) -> Result<(), NoMemory> {
+    let Ok(event) = read_event(alloc, line.as_bytes()) else {
+        return Err(NoMemory);
+    };
+    take_event(alloc, world, pair, &event, texts)
 }
 
 // The flows that the chassis holds.
