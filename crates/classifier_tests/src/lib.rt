@@ -2,9 +2,9 @@
 #![tactic(auto)]
 
 #[cfg(test)]
-mod lines;
+mod events;
 #[cfg(test)]
-mod pair;
+mod lines;
 #[cfg(test)]
 mod proper;
 #[cfg(test)]

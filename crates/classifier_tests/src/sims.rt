@@ -10,12 +10,33 @@ use chassis_sim::sim::Sim;
 use flow_table::exact::{exact_flow, exact_flow_clone};
 use flow_table::flow::Flow;
 use flow_table::lookup::Lookup;
+use flow_table::tables::Tables;
 use inet_packet::decode::decode;
 use ovn_base::delta::Delta;
 use ovn_base::list::List;
 use ovn_base::memory::NoMemory;
 use ovn_base::name::Name;
 use std::alloc::Global;
+use tuple_space::space::TupleSpace;
+
+/// A classifier that begins with no flow.
+pub trait Empty: Lookup + Drop {
+    /// No flow yet.
+    fn empty(alloc: Global) -> Result<Self, NoMemory>
+        ensures { IfOk result (λ tables. Self.flows tables ≡ []) };
+}
+
+impl Empty for Tables {
+    fn empty(alloc: Global) -> Result<Tables, NoMemory> {
+        Tables::new(alloc)
+    }
+}
+
+impl Empty for TupleSpace {
+    fn empty(alloc: Global) -> Result<TupleSpace, NoMemory> {
+        TupleSpace::new(alloc)
+    }
+}
 
 // The list of one element.
 fn one<T: Drop>(alloc: Global, item: T) -> Result<List<T>, NoMemory>
@@ -27,14 +48,8 @@ fn one<T: Drop>(alloc: Global, item: T) -> Result<List<T>, NoMemory>
 }
 
 /// The chassis comes, and holds no flow.
-pub fn come<T: Lookup + Drop>(
-    alloc: Global,
-    sim: &mut Sim<T>,
-    chassis: Name,
-    empty: T,
-) -> Result<(), NoMemory>
-    requires { T.flows empty ≡ [] }
-{
+pub fn come<T: Empty>(alloc: Global, sim: &mut Sim<T>, chassis: Name) -> Result<(), NoMemory> {
+    let empty = T::empty(alloc)?;
     let change = SimChange {
         added: one(alloc, (chassis, empty))?,
         removed: List::new(alloc),
@@ -49,7 +64,7 @@ pub fn come<T: Lookup + Drop>(
 }
 
 // Ports are bound to chassis, and pairs of a datapath key and a port key get names.
-fn settle<T: Lookup + Drop>(
+fn settle<T: Empty>(
     alloc: Global,
     sim: &mut Sim<T>,
     bound: List<(Name, Option<Name>)>,
@@ -69,7 +84,7 @@ fn settle<T: Lookup + Drop>(
 }
 
 /// The port is bound to the chassis.
-pub fn bind<T: Lookup + Drop>(
+pub fn bind<T: Empty>(
     alloc: Global,
     sim: &mut Sim<T>,
     port: Name,
@@ -80,7 +95,7 @@ pub fn bind<T: Lookup + Drop>(
 }
 
 /// The pair of a datapath key and a port key gets the name.
-pub fn call<T: Lookup + Drop>(
+pub fn call<T: Empty>(
     alloc: Global,
     sim: &mut Sim<T>,
     datapath: u32,
@@ -129,7 +144,7 @@ fn proper_once(alloc: Global, flows: &List<Flow>) -> Result<List<Flow>, NoMemory
 
 // Some flows of the chassis come, and others go. Those that come are named among those that go, too: so the delta is one of any
 // flows.
-fn change<T: Lookup + Drop>(
+fn change<T: Empty>(
     alloc: Global,
     sim: &mut Sim<T>,
     chassis: Name,
@@ -160,11 +175,7 @@ fn change<T: Lookup + Drop>(
 }
 
 // The flows that the chassis holds.
-fn held_by<T: Lookup + Drop>(
-    alloc: Global,
-    sim: &Sim<T>,
-    chassis: &Name,
-) -> Result<List<Flow>, NoMemory> {
+fn held_by<T: Empty>(alloc: Global, sim: &Sim<T>, chassis: &Name) -> Result<List<Flow>, NoMemory> {
     let mut flows = List::new(alloc);
     for index in 0..10_000 {
         match sim.flow(chassis, index) {
@@ -176,7 +187,7 @@ fn held_by<T: Lookup + Drop>(
 }
 
 /// The chassis holds these flows from now on: those that it didn't hold come, and what else it held goes.
-pub fn follow<T: Lookup + Drop>(
+pub fn follow<T: Empty>(
     alloc: Global,
     sim: &mut Sim<T>,
     chassis: Name,
@@ -190,7 +201,7 @@ pub fn follow<T: Lookup + Drop>(
 }
 
 /// A frame enters at the port.
-pub fn enter<T: Lookup + Drop>(
+pub fn enter<T: Empty>(
     alloc: Global,
     sim: &mut Sim<T>,
     port: &Name,
@@ -207,7 +218,7 @@ pub fn enter<T: Lookup + Drop>(
 }
 
 /// The waiting frame of the number arrives.
-pub fn arrive<T: Lookup + Drop>(
+pub fn arrive<T: Empty>(
     sim: &mut Sim<T>,
     frame: u128,
     keep: bool,
@@ -220,7 +231,7 @@ pub fn arrive<T: Lookup + Drop>(
 }
 
 /// The frames that wait arrive, the lowest first.
-pub fn drain<T: Lookup + Drop>(sim: &mut Sim<T>, out: &mut SimOut) -> Result<(), SimFault> {
+pub fn drain<T: Empty>(sim: &mut Sim<T>, out: &mut SimOut) -> Result<(), SimFault> {
     for frame in 1..1_000_u64 {
         if sim.waiting() == 0 {
             return Ok(());

@@ -1,9 +1,13 @@
+use crate::events::{Texts, take_line};
 use crate::lines::{Dice, NAMES, NETWORK, next_line};
-use crate::pair::{Pair, Texts, take_line};
+use crate::sims::{Empty, call};
+use chassis_sim::sim::Sim;
+use flow_table::tables::Tables;
 use ovn_base::memory::NoMemory;
 use ovn_base::name::Name;
 use std::alloc::Global;
 use std::test::Fail;
+use tuple_space::space::TupleSpace;
 use world_core::world::World;
 
 // The kinds of outcome that the run is to have.
@@ -17,61 +21,65 @@ const OUTCOMES: &[&str] = &[
     " refused NoFrame ",
 ];
 
-// Has the world and the pair take the lines of the network.
-fn begin(
+// Has both take the lines of the network.
+fn begin<T: Empty>(
     alloc: Global,
     world: &mut World,
-    pair: &mut Pair,
+    sim: &mut Sim<T>,
     texts: &mut Texts,
 ) -> Result<(), NoMemory> {
     for (datapath, port, name) in NAMES {
         let name = Name::read(name.as_bytes()).ok_or(NoMemory)?;
-        pair.call(alloc, *datapath, *port, name)?;
+        call(alloc, sim, *datapath, *port, name)?;
     }
     for line in NETWORK {
-        take_line(alloc, world, pair, line, texts)?;
+        take_line(alloc, world, sim, line, texts)?;
     }
     Ok(())
 }
 
-// Has them take a generated run of this many lines.
-fn go_on(
+// Has both take a generated run of this many lines.
+fn go_on<T: Empty>(
     alloc: Global,
     world: &mut World,
-    pair: &mut Pair,
+    sim: &mut Sim<T>,
     rounds: u32,
     texts: &mut Texts,
 ) -> Result<(), NoMemory> {
     let mut dice = Dice(1);
     for _ in 0..rounds {
-        let line = next_line(alloc, &mut dice, pair.sent())?;
-        take_line(alloc, world, pair, line.as_str(), texts)?;
+        let sent = sim.next_frame().min(1_001).saturating_sub(1);
+        let line = next_line(alloc, &mut dice, sent as u32)?;
+        take_line(alloc, world, sim, line.as_str(), texts)?;
     }
     Ok(())
 }
 
-// The texts of a run of the world and the pair.
-fn run_both(alloc: Global, world: &mut World, pair: &mut Pair) -> Result<Texts, NoMemory> {
+// The texts of a run of both.
+fn run_both<T: Empty>(
+    alloc: Global,
+    world: &mut World,
+    sim: &mut Sim<T>,
+) -> Result<Texts, NoMemory> {
     let mut texts = Texts {
         world: Vec::new(alloc),
-        list: Vec::new(alloc),
-        masks: Vec::new(alloc),
+        sim: Vec::new(alloc),
     };
-    begin(alloc, world, pair, &mut texts)?;
-    go_on(alloc, world, pair, 100, &mut texts)?;
+    begin(alloc, world, sim, &mut texts)?;
+    go_on(alloc, world, sim, 100, &mut texts)?;
     Ok(texts)
 }
 
 // The texts of a run beside the world.
-fn run_beside(alloc: Global, world: &mut World) -> Result<Texts, NoMemory> {
-    let mut pair = Pair::new(alloc)?;
-    run_both(alloc, world, &mut pair)
+fn run_beside<T: Empty>(alloc: Global, world: &mut World) -> Result<Texts, NoMemory> {
+    let mut sim: Sim<T> = Sim::new(alloc)?;
+    run_both(alloc, world, &mut sim)
 }
 
-// The texts of a run. Each of these three functions holds one large value: a function that holds two takes minutes to prove.
-fn run(alloc: Global) -> Result<Texts, NoMemory> {
+// The texts of a run. It and the two above hold one large value each: a function that holds two takes minutes to prove.
+fn run<T: Empty>(alloc: Global) -> Result<Texts, NoMemory> {
     let mut world = World::new(alloc)?;
-    run_beside(alloc, &mut world)
+    run_beside::<T>(alloc, &mut world)
 }
 
 // Whether the word stands in the text.
@@ -89,9 +97,11 @@ fn tells_all(text: &[u8]) -> bool {
 
 #[test]
 fn both_write_the_same(rt: HostRuntime) -> Result<(), Fail> {
-    let texts = run(rt.alloc())?;
-    assert!(rt; texts.list.as_slice() == texts.masks.as_slice());
-    assert!(rt; texts.masks.as_slice() == texts.world.as_slice());
-    assert!(rt; tells_all(texts.list.as_slice()));
+    let list = run::<Tables>(rt.alloc())?;
+    let masks = run::<TupleSpace>(rt.alloc())?;
+    assert!(rt; list.sim.as_slice() == masks.sim.as_slice());
+    assert!(rt; list.sim.as_slice() == list.world.as_slice());
+    assert!(rt; masks.sim.as_slice() == masks.world.as_slice());
+    assert!(rt; tells_all(list.sim.as_slice()));
     Ok(())
 }

@@ -1,7 +1,7 @@
-//! A world, and two simulations that are given what its chassis hold: one in lists, and one by masks.
+//! A world, and a simulation over any classifier that is given what the chassis of the world hold. Both take the same events.
 
 use crate::proper::is_admitted;
-use crate::sims::{arrive, bind, call, come, drain, enter, follow};
+use crate::sims::{Empty, arrive, bind, come, drain, enter, follow};
 use chassis_sim::out::{SimFault, SimOut};
 use chassis_sim::sim::Sim;
 use edit_reader::event::Event;
@@ -9,36 +9,25 @@ use edit_reader::read::read_event;
 use event_lines::lines::{accepted, refused};
 use event_lines::refusal::{Refusal, StepFault};
 use flow_table::flow::Flow;
-use flow_table::lookup::Lookup;
-use flow_table::tables::Tables;
 use ovn_base::list::List;
 use ovn_base::memory::NoMemory;
 use ovn_base::name::Name;
 use ovn_base::steps::Steps;
 use std::alloc::Global;
-use tuple_space::space::TupleSpace;
 use world_core::world::World;
 
 // Names the count of the events that were taken.
 struct Events;
 
-/// The two simulations.
-#[derive(Drop)]
-pub struct Pair {
-    list: Sim<Tables>,
-    masks: Sim<TupleSpace>,
-}
-
-/// What the world and each of the two write of packets.
+/// What the world and the simulation write of packets.
 #[derive(Drop)]
 pub struct Texts {
     pub world: Vec<u8>,
-    pub list: Vec<u8>,
-    pub masks: Vec<u8>,
+    pub sim: Vec<u8>,
 }
 
 // Takes an event of packets as a world does, and adds its lines.
-fn take<T: Lookup + Drop>(
+fn take<T: Empty>(
     alloc: Global,
     sim: &mut Sim<T>,
     event: &Event,
@@ -89,57 +78,16 @@ fn is_of_packets(event: &Event) -> bool {
     }
 }
 
-impl Pair {
-    /// Nothing yet.
-    pub fn new(alloc: Global) -> Result<Pair, NoMemory> {
-        Ok(Pair {
-            list: Sim::new(alloc)?,
-            masks: Sim::new(alloc)?,
-        })
+// Each chassis holds what it holds in the world.
+fn follow_all<T: Empty>(alloc: Global, world: &World, sim: &mut Sim<T>) -> Result<(), NoMemory> {
+    for index in 0..64 {
+        let Some(chassis) = world.chassis(index) else {
+            return Ok(());
+        };
+        let flows = flows_of(alloc, world, chassis)?;
+        follow(alloc, sim, *chassis, &flows)?;
     }
-
-    /// The pair of keys has the name.
-    pub fn call(
-        &mut self,
-        alloc: Global,
-        datapath: u32,
-        port: u16,
-        name: Name,
-    ) -> Result<(), NoMemory> {
-        call(alloc, &mut self.list, datapath, port, name)?;
-        call(alloc, &mut self.masks, datapath, port, name)
-    }
-
-    /// How many frames were sent, up to 1,000.
-    pub fn sent(&self) -> u32 {
-        let next = self.list.next_frame().min(1_001);
-        next.saturating_sub(1) as u32
-    }
-
-    // The chassis comes.
-    fn come(&mut self, alloc: Global, chassis: Name) -> Result<(), NoMemory> {
-        come(alloc, &mut self.list, chassis, Tables::new(alloc)?)?;
-        come(alloc, &mut self.masks, chassis, TupleSpace::new(alloc)?)
-    }
-
-    // The port is bound to the chassis.
-    fn bind(&mut self, alloc: Global, port: Name, chassis: Name) -> Result<(), NoMemory> {
-        bind(alloc, &mut self.list, port, chassis)?;
-        bind(alloc, &mut self.masks, port, chassis)
-    }
-
-    // Each chassis holds what it holds in the world.
-    fn follow(&mut self, alloc: Global, world: &World) -> Result<(), NoMemory> {
-        for index in 0..64 {
-            let Some(chassis) = world.chassis(index) else {
-                return Ok(());
-            };
-            let flows = flows_of(alloc, world, chassis)?;
-            follow(alloc, &mut self.list, *chassis, &flows)?;
-            follow(alloc, &mut self.masks, *chassis, &flows)?;
-        }
-        Ok(())
-    }
+    Ok(())
 }
 
 // Has the world take the event.
@@ -154,64 +102,62 @@ fn step(world: &mut World, event: &Event, text: &mut Vec<u8>) -> Result<(), NoMe
     }
 }
 
-// Has the world and the pair take an event of packets.
-fn pass(
+// Has both take an event of packets.
+fn pass<T: Empty>(
     alloc: Global,
     world: &mut World,
-    pair: &mut Pair,
+    sim: &mut Sim<T>,
     event: &Event,
     texts: &mut Texts,
 ) -> Result<(), NoMemory> {
     step(world, event, &mut texts.world)?;
-    let number = world.events();
-    take(alloc, &mut pair.list, event, number, &mut texts.list)?;
-    take(alloc, &mut pair.masks, event, number, &mut texts.masks)
+    take(alloc, sim, event, world.events(), &mut texts.sim)
 }
 
-// Has the world take another event, and gives the pair what came of it.
-fn change(
+// Has the world take another event, and gives the simulation what came of it.
+fn change<T: Empty>(
     alloc: Global,
     world: &mut World,
-    pair: &mut Pair,
+    sim: &mut Sim<T>,
     event: &Event,
 ) -> Result<(), NoMemory> {
     let mut skipped = Vec::new(alloc);
     step(world, event, &mut skipped)?;
     match event {
-        Event::AddChassis(chassis) => pair.come(alloc, *chassis)?,
-        Event::Bind { port, chassis } => pair.bind(alloc, *port, *chassis)?,
+        Event::AddChassis(chassis) => come(alloc, sim, *chassis)?,
+        Event::Bind { port, chassis } => bind(alloc, sim, *port, *chassis)?,
         _ => {}
     }
-    pair.follow(alloc, world)
+    follow_all(alloc, world, sim)
 }
 
-// Has the world and the pair take the event.
-fn take_event(
+// Has both take the event.
+fn take_event<T: Empty>(
     alloc: Global,
     world: &mut World,
-    pair: &mut Pair,
+    sim: &mut Sim<T>,
     event: &Event,
     texts: &mut Texts,
 ) -> Result<(), NoMemory> {
     if is_of_packets(event) {
-        pass(alloc, world, pair, event, texts)
+        pass(alloc, world, sim, event, texts)
     } else {
-        change(alloc, world, pair, event)
+        change(alloc, world, sim, event)
     }
 }
 
-/// Has the world and the pair take the event of the line.
-pub fn take_line(
+/// Has both take the event of the line.
+pub fn take_line<T: Empty>(
     alloc: Global,
     world: &mut World,
-    pair: &mut Pair,
+    sim: &mut Sim<T>,
     line: &str,
     texts: &mut Texts,
 ) -> Result<(), NoMemory> {
     let Ok(event) = read_event(alloc, line.as_bytes()) else {
         return Err(NoMemory);
     };
-    take_event(alloc, world, pair, &event, texts)
+    take_event(alloc, world, sim, &event, texts)
 }
 
 // The flows that the chassis holds.
