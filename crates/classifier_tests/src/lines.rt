@@ -15,7 +15,7 @@ impl Dice {
     }
 }
 
-/// Two switches, whose ports are bound to three chassis, and a frame for a port that moves before it arrives. The sixth port takes
+/// Two switches, whose ports are bound to three chassis, and a frame for a port that moves before it arrives. The port p6 takes
 /// packets for addresses that no port has.
 pub const NETWORK: &[&str] = &[
     r#"{"edit":[{"add":"switch","name":"s0"}]}"#,
