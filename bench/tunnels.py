@@ -54,6 +54,13 @@ def packets(switches, ports, count):
         yield {"packet": {"port": f"s{switch}-p{port}", "frame": frame}}
 
 
+def moves(switches, ports, count):
+    """A port of each switch in turn is bound elsewhere, and then back."""
+    for at in range(count):
+        switch, turn = at % switches, at // switches % 2
+        yield {"bind": {"port": f"s{switch}-p0", "chassis": f"c{(switch + 1 - turn) % chassis}"}}
+
+
 def run(command, setup, traffic):
     """The seconds that the set-up and the traffic take, by the times at which the last line of each comes, and the lines."""
     with tempfile.TemporaryFile("w+") as events:
@@ -101,9 +108,17 @@ def measure(name, command, switches, ports, count, runs):
     print(counts(lines, len(setup)), flush=True)
 
 
+def measure_moves(command, switches, ports, count):
+    """The time of a bind, at the end of the set-up."""
+    seconds = run(command, list(network(switches, ports)), list(moves(switches, ports, count)))[1]
+    print(f"ovnsim, {switches} switches of {ports} ports: {count} binds in {seconds:.3f} s, {seconds / count * 1e6:.0f} us each", flush=True)
+
+
 program = [*os.environ.get("OVNSIM", os.path.join(top, "ovnsim")).split(), "replay"]
 subprocess.run(program, stdin=subprocess.DEVNULL, stdout=subprocess.DEVNULL, check=True)
 measure("ovnsim", program, 8, 16, 20_000, 3)
 measure("ovnsim", program, 32, 64, 20_000, 1)
+measure_moves(program, 8, 16, 1_000)
+measure_moves(program, 32, 64, 1_000)
 if os.path.exists(model):
     measure("model", [sys.executable, "-u", model, "replay"], 8, 16, 2_000, 1)

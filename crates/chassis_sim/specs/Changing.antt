@@ -14,9 +14,9 @@ use Rattle.chassis_sim.specs.declared.change.SimChange.{SimChange}
 use Rattle.chassis_sim.specs.Settings.{set_in_turn, AreSet}
 use Rattle.chassis_sim.specs.State.{KeyPair, same_pair, SimState, SimRoom, at_name}
 
--- the flows of a chassis after a delta, if it is given one, by those before
+-- the flows of a chassis after a delta, if it is given one, by those before: each flow once
 abbrev pub AreReplaced : Option (Delta Flow) → Option (List Flow) → Option (List Flow) → Type 0
-AreReplaced (Some delta) (Some flows) after = (others : List Flow) × (after ≡ Some others) × IsReplaced flows delta others
+AreReplaced (Some delta) (Some flows) after = (others : List Flow) × (after ≡ Some others) × IsReplaced flows delta others × EachOnce others
 AreReplaced (Some delta) None after = after ≡ None
 AreReplaced None before after = after ≡ before
 

@@ -64,6 +64,7 @@ fn replace_one<T: Lookup>(held: &mut IndexMap<Name, T>, name: &Name, delta: Delt
 {
     if let Some(tables) = held.get_mut(name) {
         tables.replace(delta);
+        let _first = tables.flow(0);
     }
 }
 

@@ -1,13 +1,17 @@
 -- Lemmas.
 pub mod BoundZones
-pub mod FlowsOnce
 pub mod FlowSearch
 pub mod KeyLaws
 pub mod Macs
 pub mod Members
-pub mod OnceLaws
 pub mod ProperTables
 pub mod RetiredKeys
 pub mod RowFits
+pub mod SwitchLists
+pub mod TableDeltas
 pub mod TableSets
 pub mod Tables
+pub mod UnitLaws
+pub mod UnitStores
+pub mod TouchedUnits
+pub mod UnitReads

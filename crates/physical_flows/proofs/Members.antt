@@ -32,7 +32,7 @@ use Rattle.physical_flows.specs.Numbers.{port_number}
 use Rattle.physical_flows.specs.Valid.{IsValid}
 use Rattle.physical_flows.specs.RecordKeys.{HaveKeys}
 use Rattle.physical_flows.specs.Stages.{Basis, zone_of, member_of, members_here, homes_of, has_unknown}
-use Rattle.physical_flows.specs.TableList.{ingress_rows, egress_rows, group_rows, switch_rows, is_record_in, group_among, here_among, bound_among, others_among}
+use Rattle.physical_flows.specs.TableList.{ingress_rows, egress_rows, group_rows, is_record_in, group_among, here_among, bound_among, others_among}
 
 -- ---- names in order
 
@@ -206,19 +206,24 @@ module _ (b : Basis) (valid : IsValid b.net) (keys : HaveKeys b.net b.keys) (a :
   pub taken_is : has_unknown b a ≡ nat_lt 0 (length (group_among b Unknown ports))
   taken_is = ap (λ ms. nat_lt 0 (length ms)) (members_are Unknown) ∙ ap (λ n. nat_lt 0 n) (length-map (group_among b Unknown ports) (λ e. e.0))
 
-  -- the rows that the compiler adds for the switch
-  pub switch_rows_are : (dp : ℕ) (all unknown : List (Name × ℕ)) (flows : List Flow) → all ≡ ports → unknown ≡ group_among b Unknown all
-      → (((flows ++ ingress_rows dp (nat_lt 0 (length unknown))) ++ egress_rows dp) ++ group_rows dp Flood (others_among b (bound_among b all)) (here_among b all))
-      ++ group_rows dp Unknown (others_among b (bound_among b unknown)) (here_among b unknown) ≡ flows ++ switch_rows b a dp
-  switch_rows_are dp all unknown flows is_all is_unknown =
-      let mine : unknown ≡ group_among b Unknown ports = is_unknown ∙ ap (λ es. group_among b Unknown es) is_all in
-      let flood : all ≡ group_among b Flood ports = is_all ∙ sym flood_are in
-      let ingress : ingress_rows dp (nat_lt 0 (length unknown)) ≡ ingress_rows dp (has_unknown b a) = ap (λ es. ingress_rows dp (nat_lt 0 (length es))) mine ∙ ap (λ t. ingress_rows dp t) (sym taken_is) in
-      let of_flood : group_rows dp Flood (others_among b (bound_among b all)) (here_among b all) ≡ group_rows dp Flood (homes_of b a Flood) (members_here b a Flood) =
-      ap (λ es. group_rows dp Flood (others_among b (bound_among b es)) (here_among b es)) flood ∙ (λ i. group_rows dp Flood (sym (homes_are Flood) i) (sym (here_are Flood) i)) in
-      let of_unknown : group_rows dp Unknown (others_among b (bound_among b unknown)) (here_among b unknown) ≡ group_rows dp Unknown (homes_of b a Unknown) (members_here b a Unknown) =
-      ap (λ es. group_rows dp Unknown (others_among b (bound_among b es)) (here_among b es)) mine ∙ (λ i. group_rows dp Unknown (sym (homes_are Unknown) i) (sym (here_are Unknown) i)) in
-      (λ i. (((flows ++ ingress i) ++ egress_rows dp) ++ of_flood i) ++ of_unknown i)
-      ∙ append_assoc ((flows ++ ingress_rows dp (has_unknown b a)) ++ egress_rows dp) (group_rows dp Flood (homes_of b a Flood) (members_here b a Flood)) _
-      ∙ append_assoc (flows ++ ingress_rows dp (has_unknown b a)) (egress_rows dp) _
-      ∙ append_assoc flows (ingress_rows dp (has_unknown b a)) _
+  module _ (dp : ℕ) (all unknown : List (Name × ℕ)) (flows : List Flow) (is_all : all ≡ ports) (is_unknown : unknown ≡ group_among b Unknown all) where
+    unknown_among_ports : unknown ≡ group_among b Unknown ports
+    unknown_among_ports = is_unknown ∙ ap (λ es. group_among b Unknown es) is_all
+
+    -- the rows that the compiler adds for the switch, on every chassis
+    pub everywhere_are : (flows ++ ingress_rows dp (nat_lt 0 (length unknown))) ++ egress_rows dp ≡ flows ++ (ingress_rows dp (has_unknown b a) ++ egress_rows dp)
+    everywhere_are =
+        ap (λ t. (flows ++ ingress_rows dp t) ++ egress_rows dp) (ap (λ (es : List (Name × ℕ)). nat_lt 0 (length es)) unknown_among_ports ∙ sym taken_is)
+        ∙ append_assoc flows (ingress_rows dp (has_unknown b a)) (egress_rows dp)
+
+    -- and those of its groups
+    pub groups_are : (flows ++ group_rows dp Flood (others_among b (bound_among b all)) (here_among b all)) ++ group_rows dp Unknown (others_among b (bound_among b unknown)) (here_among b unknown)
+        ≡ flows ++ (group_rows dp Flood (homes_of b a Flood) (members_here b a Flood) ++ group_rows dp Unknown (homes_of b a Unknown) (members_here b a Unknown))
+    groups_are =
+        let flood : all ≡ group_among b Flood ports = is_all ∙ sym flood_are in
+        let of_flood : group_rows dp Flood (others_among b (bound_among b all)) (here_among b all) ≡ group_rows dp Flood (homes_of b a Flood) (members_here b a Flood) =
+        ap (λ es. group_rows dp Flood (others_among b (bound_among b es)) (here_among b es)) flood ∙ (λ i. group_rows dp Flood (sym (homes_are Flood) i) (sym (here_are Flood) i)) in
+        let of_unknown : group_rows dp Unknown (others_among b (bound_among b unknown)) (here_among b unknown) ≡ group_rows dp Unknown (homes_of b a Unknown) (members_here b a Unknown) =
+        ap (λ es. group_rows dp Unknown (others_among b (bound_among b es)) (here_among b es)) unknown_among_ports ∙ (λ i. group_rows dp Unknown (sym (homes_are Unknown) i) (sym (here_are Unknown) i)) in
+        (λ i. (flows ++ of_flood i) ++ of_unknown i)
+        ∙ append_assoc flows (group_rows dp Flood (homes_of b a Flood) (members_here b a Flood)) (group_rows dp Unknown (homes_of b a Unknown) (members_here b a Unknown))

@@ -102,7 +102,7 @@ module _ (m : state.State) (zones : Zoned) (c : Name) (keys : HaveKeys m.config.
       row_proper f leave_row e
       (can_be_set Tracked 0 refl (omega arith), (can_be_set State 0 refl (omega arith), (can_be_set Blocked 0 refl (omega arith), (can_be_set Verdict 0 refl (omega arith), (omega arith, tt)))))
 
-  flow_proper : TableFlow b f → IsProperFlow f
+  pub flow_proper : TableFlow b f → IsProperFlow f
   flow_proper (TableFlow.in_entry r) = entry_proper r
   flow_proper (TableFlow.in_s_admit r) = admit_proper r
   flow_proper (TableFlow.in_s_port_sec (PortSecRow.s_port_sec_base a dp on e)) = pass_proper dp 9 10 (omega arith) e

@@ -8,7 +8,7 @@ basis_of m = record {
   chassis = m.chassis;
   all = m.all.now;
   net = m.records.now;
-  bindings = m.bindings.now.entries;
+  bindings = m.homes.now.ports;
   keys = m.keys.now;
   zones = m.zones.now;
 }

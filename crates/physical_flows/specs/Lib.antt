@@ -12,4 +12,6 @@ pub mod Rows
 pub mod Stages
 pub mod TableList
 pub mod Tables
+pub mod UnitFlows
+pub mod Units
 pub mod Valid

@@ -1,5 +1,5 @@
--- The flows of a chassis, as a list: the rows that the compiler makes, in its order.
-use Rattle.std.specs.Prelude.{◌++◌, ℕ, Bool, true, false, ◌&&◌, not, cond, List, [], ◌∷◌, Some, None, Option, filter, filter_map, map, flat_map, unwrap_or}
+-- The rows of switches, of ports and of all chassis, as lists in the compiler's order.
+use Rattle.std.specs.Prelude.{◌++◌, ℕ, Bool, true, false, ◌&&◌, not, cond, List, [], ◌∷◌, Some, None, Option, filter, filter_map, map, unwrap_or}
 use Rattle.std.specs.List.{list_any}
 use Rattle.ovn_base.specs.declared.name.Name.{Name}
 use Rattle.ovn_base.specs.declared.stages.TheConstants.{ACL_TABLE, ADMIT_TABLE, ARP_TABLE, EGRESS_ACL_TABLE, EGRESS_SECURITY_TABLE, EGRESS_STATE_TABLE, EGRESS_TRACK_TABLE, LOOKUP_TABLE, OUTPUT_TABLE, PORT_SECURITY_TABLE, STATE_TABLE, TRACK_TABLE}
@@ -11,11 +11,9 @@ use Rattle.nb_records.specs.declared.switch.PortAddress.{PortAddress}
 use Rattle.nb_records.specs.declared.switch.SwitchPort.{SwitchPort}
 use Rattle.physical_flows.specs.Addresses.{macs_in}
 use Rattle.net_model.specs.declared.crossing.Group.{Group}
-use Rattle.net_model.specs.declared.crossing.Group.TheVariants.{Flood, Unknown}
 use Rattle.physical_flows.specs.Homes.{is_at, is_group_member}
-use Rattle.physical_flows.specs.Numbers.{datapath_number, port_number}
 use Rattle.physical_flows.specs.Rows.{entry_row, arrival_row, pass_row, bad_source_row, vlan_row, flood_row, address_row, unknown_row, remote_row, spread_row, stay_row, home_row, copies_row, return_row, leave_row, output_row}
-use Rattle.physical_flows.specs.Stages.{Basis, zone_of, members_here, homes_of, has_unknown}
+use Rattle.physical_flows.specs.Stages.{Basis, zone_of}
 
 -- ---- switches
 
@@ -43,15 +41,6 @@ egress_rows dp = pass_row dp EGRESS_TRACK_TABLE EGRESS_ACL_TABLE ∷ pass_row dp
 abbrev pub group_rows : ℕ → Group → List Name → List Member → List Flow
 group_rows dp group homes members = spread_row dp group homes ∷ copies_row dp group false members ∷ copies_row dp group true members ∷ []
 
-abbrev pub switch_rows : Basis → Name → ℕ → List Flow
-switch_rows b a dp =
-    ingress_rows dp (has_unknown b a) ++ egress_rows dp
-    ++ group_rows dp Flood (homes_of b a Flood) (members_here b a Flood) ++ group_rows dp Unknown (homes_of b a Unknown) (members_here b a Unknown)
-
-abbrev pub switch_part : Basis → Name → Option ℕ → List Flow
-switch_part b a None = []
-switch_part b a (Some dp) = switch_rows b a dp
-
 -- ---- ports
 
 -- the rows of a port's addresses
@@ -75,22 +64,11 @@ abbrev pub bound_rows : Name → Option Name → Option ℕ → ℕ → Name →
 bound_rows chassis None number dp q key = []
 bound_rows chassis (Some home) number dp q key = cond (same_name home chassis) (local_part number dp q key) (remote_row dp key home ∷ [])
 
-abbrev pub port_part : Basis → Name → SwitchPort → Option ℕ → Option ℕ → List Flow
-port_part b q port (Some dp) (Some key) = port_rows dp q port key ++ bound_rows b.chassis (at b.bindings q) (zone_of b q) dp q key
-port_part b q port (Some dp) None = []
-port_part b q port None key = []
+-- ---- every chassis
 
--- ---- the whole
-
--- the rows that are no unit's
+-- the rows that every chassis has
 abbrev pub common_rows : List Flow
 common_rows = arrival_row ∷ stay_row ∷ leave_row ∷ []
-
--- the rows of all units
-abbrev pub table_flows : Basis → List Flow
-table_flows b =
-    common_rows ++ flat_map (λ e. switch_part b e.0 (datapath_number b.keys e.0)) b.net.switches
-    ++ flat_map (λ e. port_part b e.0 e.1 (datapath_number b.keys e.1.switch) (port_number b.keys e.0)) b.net.switch_ports
 
 -- ---- groups, among ports of a switch with their keys
 

@@ -1,5 +1,5 @@
 //! The flows of a chassis, from the records, the keys and the homes.
-ghost use Rattle.std.specs.Prelude.{◌≡◌, ◌++◌, IfOk, OnOk};
+ghost use Rattle.std.specs.Prelude.{◌≡◌, ◌++◌, map, IfOk, OnOk};
 ghost use Rattle.std.specs.List.{list_any};
 ghost use Rattle.ovn_base.specs.names.ByName.{at};
 ghost use Rattle.ovn_base.specs.names.SameName.{same_name};
@@ -7,27 +7,28 @@ ghost use Rattle.nb_records.specs.Switches.{takes_unknown, is_unknown};
 ghost use Rattle.net_model.specs.declared.crossing.Group.TheVariants.{Unknown};
 ghost use Rattle.physical_flows.specs.Homes.{is_at};
 ghost use Rattle.physical_flows.specs.Stages.{zone_of};
-ghost use Rattle.physical_flows.specs.TableList.{table_flows, group_rows, switch_part, bound_rows, port_part, is_record_in, group_among, here_among, bound_among, is_other_among, others_among};
-ghost use Rattle.physical_flows.specs.Tables.{TableFlow};
+ghost use Rattle.physical_flows.specs.TableList.{group_rows, bound_rows, is_record_in, group_among, here_among, bound_among, is_other_among, others_among};
+ghost use Rattle.physical_flows.specs.Units.{all_units, rows_everywhere, rows_here};
+ghost use Rattle.physical_flows.specs.declared.unit.FlowUnit.TheVariants as unit;
 ghost use Rattle.physical_flows.specs.Compiling.{basis_of};
-ghost use Rattle.physical_flows.specs.Numbers.{datapath_number, port_number};
 ghost use Rattle.physical_flows.specs.Valid.{IsValid};
 ghost use Rattle.physical_flows.specs.RecordKeys.{HaveKeys};
-ghost use Rattle.physical_flows.specs.ChassisFlows.{AreExactly};
 
 use crate::rows::{
     push_common, push_egress, push_group, push_ingress, push_local, push_port, push_remote,
 };
+use crate::unit::FlowUnit;
+use conn_zones::homes::Homes;
 use conn_zones::numbers::ZoneNumbers;
+use flow_table::exact::exact_flow_clone;
 use flow_table::flow::{Flow, Member};
 use nb_records::records::Records;
-use nb_records::switch::{PortAddress, SwitchPort};
+use nb_records::switch::PortAddress;
 use net_model::crossing::Group;
 use ovn_base::list::List;
 use ovn_base::memory::NoMemory;
 use ovn_base::name::Name;
 use std::alloc::Global;
-use std::collections::BTreeMap;
 use tunnel_keys::store::KeyStore;
 
 /// What the flows of a chassis follow from.
@@ -37,7 +38,8 @@ pub struct Maps<'a> {
     /// All chassis, in order of name.
     pub all: &'a List<Name>,
     pub records: &'a Records,
-    pub bindings: &'a BTreeMap<Name, Name>,
+    /// Where ports are at home: where they are bound.
+    pub homes: &'a Homes,
     pub keys: &'a KeyStore,
     pub zones: &'a ZoneNumbers,
 }
@@ -88,7 +90,7 @@ impl Maps<'_> {
     fn is_here(&self, port: &Name) -> bool
         ensures { result ≡ is_at (basis_of self.now).bindings port.now (basis_of self.now).chassis }
     {
-        match self.bindings.get(port) {
+        match self.homes.port(port) {
             Some(home) => *home == self.chassis,
             None => false,
         }
@@ -100,7 +102,7 @@ impl Maps<'_> {
     {
         let mut homes = List::new(alloc);
         'ports: for (name, _key) in ports {
-            if let Some(home) = self.bindings.get(name) {
+            if let Some(home) = self.homes.port(name) {
                 homes.push(*home)?;
             }
         }
@@ -146,8 +148,8 @@ impl Maps<'_> {
         push_group(alloc, dp, group, others.as_slice(), here.as_slice(), flows)
     }
 
-    // Adds the rows of a switch that has a key.
-    fn push_switch(
+    // Adds the rows that a switch has on every chassis.
+    fn push_switch_everywhere(
         &self,
         alloc: Global,
         name: &Name,
@@ -155,8 +157,36 @@ impl Maps<'_> {
     ) -> Result<(), NoMemory>
         requires valid { IsValid (basis_of self.now).net }
         requires keys { HaveKeys (basis_of self.now).net (basis_of self.now).keys }
-        ensures { OnOk result (flows.new ≡ flows.old ++ switch_part (basis_of self.now) name.now (datapath_number (basis_of self.now).keys name.now)) }
+        ensures { OnOk result (flows.new ≡ flows.old ++ rows_everywhere (basis_of self.now) (unit.Switch name.now)) }
     {
+        if self.records.switch(name).is_none() {
+            return Ok(());
+        }
+        let Some(datapath) = self.keys.datapath(name) else {
+            return Ok(());
+        };
+        let Some(ports) = self.keys.ports(name) else {
+            return Ok(());
+        };
+        let unknown = self.unknown_among(alloc, ports.list.as_slice())?;
+        push_ingress(alloc, datapath, 0 < unknown.len(), flows)?;
+        push_egress(alloc, datapath, flows)
+    }
+
+    // Adds the rows that a switch has by who is at home on the chassis.
+    fn push_switch_here(
+        &self,
+        alloc: Global,
+        name: &Name,
+        flows: &mut List<Flow>,
+    ) -> Result<(), NoMemory>
+        requires valid { IsValid (basis_of self.now).net }
+        requires keys { HaveKeys (basis_of self.now).net (basis_of self.now).keys }
+        ensures { OnOk result (flows.new ≡ flows.old ++ rows_here (basis_of self.now) (unit.Switch name.now)) }
+    {
+        if self.records.switch(name).is_none() {
+            return Ok(());
+        }
         let Some(datapath) = self.keys.datapath(name) else {
             return Ok(());
         };
@@ -165,14 +195,53 @@ impl Maps<'_> {
         };
         let all = ports.list.as_slice();
         let unknown = self.unknown_among(alloc, all)?;
-        push_ingress(alloc, datapath, 0 < unknown.len(), flows)?;
-        push_egress(alloc, datapath, flows)?;
         self.push_group(alloc, datapath, Group::Flood, all, flows)?;
-        self.push_group(alloc, datapath, Group::Unknown, unknown.as_slice(), flows)?;
-        Ok(())
+        self.push_group(alloc, datapath, Group::Unknown, unknown.as_slice(), flows)
+    }
+
+    // Adds the rows that a port has on every chassis.
+    fn push_port_everywhere(
+        &self,
+        alloc: Global,
+        name: &Name,
+        flows: &mut List<Flow>,
+    ) -> Result<(), NoMemory>
+        ensures { OnOk result (flows.new ≡ flows.old ++ rows_everywhere (basis_of self.now) (unit.Port name.now)) }
+    {
+        let Some(port) = self.records.switch_port(name) else {
+            return Ok(());
+        };
+        let Some(datapath) = self.keys.datapath(&port.switch) else {
+            return Ok(());
+        };
+        let Some(key) = self.keys.port(name) else {
+            return Ok(());
+        };
+        push_port(alloc, datapath, *name, port, key, flows)
     }
 
     // Adds the rows that a port has by its home.
+    fn push_port_here(
+        &self,
+        alloc: Global,
+        name: &Name,
+        flows: &mut List<Flow>,
+    ) -> Result<(), NoMemory>
+        ensures { OnOk result (flows.new ≡ flows.old ++ rows_here (basis_of self.now) (unit.Port name.now)) }
+    {
+        let Some(port) = self.records.switch_port(name) else {
+            return Ok(());
+        };
+        let Some(datapath) = self.keys.datapath(&port.switch) else {
+            return Ok(());
+        };
+        let Some(key) = self.keys.port(name) else {
+            return Ok(());
+        };
+        self.push_bound(alloc, datapath, name, key, flows)
+    }
+
+    // Adds the rows that a port has by its home, with the keys of its switch and its own.
     fn push_bound(
         &self,
         alloc: Global,
@@ -184,7 +253,7 @@ impl Maps<'_> {
         ensures { OnOk result (flows.new ≡ flows.old ++ bound_rows (basis_of self.now).chassis
             (at (basis_of self.now).bindings name.now) (zone_of (basis_of self.now) name.now) dp name.now key) }
     {
-        let Some(home) = self.bindings.get(name) else {
+        let Some(home) = self.homes.port(name) else {
             return Ok(());
         };
         if *home != self.chassis {
@@ -196,52 +265,72 @@ impl Maps<'_> {
         }
     }
 
-    // Adds the rows of a port that has a key, on a switch that has one.
-    fn push_port(
+    // The rows that a unit has on every chassis.
+    fn rows_everywhere(&self, alloc: Global, unit: &FlowUnit) -> Result<List<Flow>, NoMemory>
+        requires valid { IsValid (basis_of self.now).net }
+        requires keys { HaveKeys (basis_of self.now).net (basis_of self.now).keys }
+        ensures { IfOk result (λ rows. rows ≡ rows_everywhere (basis_of self.now) unit.now) }
+    {
+        let mut rows = List::new(alloc);
+        match unit {
+            FlowUnit::Common => push_common(alloc, &mut rows)?,
+            FlowUnit::Switch(name) => self.push_switch_everywhere(alloc, name, &mut rows)?,
+            FlowUnit::Port(name) => self.push_port_everywhere(alloc, name, &mut rows)?,
+        }
+        Ok(rows)
+    }
+
+    /// The units, each with those of its rows that are the same on every chassis.
+    pub fn everywhere(
         &self,
         alloc: Global,
-        name: &Name,
-        port: &SwitchPort,
-        flows: &mut List<Flow>,
-    ) -> Result<(), NoMemory>
-        ensures { OnOk result (flows.new ≡ flows.old ++ port_part (basis_of self.now) name.now port.now
-            (datapath_number (basis_of self.now).keys port.now.switch) (port_number (basis_of self.now).keys name.now)) }
-    {
-        let Some(datapath) = self.keys.datapath(&port.switch) else {
-            return Ok(());
-        };
-        let Some(key) = self.keys.port(name) else {
-            return Ok(());
-        };
-        push_port(alloc, datapath, *name, port, key, flows)?;
-        self.push_bound(alloc, datapath, name, key, flows)
-    }
-
-    // The flows of the chassis, row by row.
-    fn listed(&self, alloc: Global) -> Result<List<Flow>, NoMemory>
+        units: &[FlowUnit],
+    ) -> Result<List<(FlowUnit, List<Flow>)>, NoMemory>
         requires valid { IsValid (basis_of self.now).net }
         requires keys { HaveKeys (basis_of self.now).net (basis_of self.now).keys }
-        ensures { IfOk result (λ flows. flows ≡ table_flows (basis_of self.now)) }
+        ensures { IfOk result (λ rows. rows ≡ map (λ u. (u, rows_everywhere (basis_of self.now) u)) units.now) }
     {
-        let mut flows = List::new(alloc);
-        push_common(alloc, &mut flows)?;
+        let mut rows = List::new(alloc);
+        'units: for unit in units {
+            rows.push((*unit, self.rows_everywhere(alloc, unit)?))?;
+        }
+        Ok(rows)
+    }
+
+    /// All rows of a unit, of which those are given that are the same on every chassis.
+    pub(crate) fn rows_of(
+        &self,
+        alloc: Global,
+        unit: &FlowUnit,
+        everywhere: &List<Flow>,
+    ) -> Result<List<Flow>, NoMemory>
+        requires valid { IsValid (basis_of self.now).net }
+        requires keys { HaveKeys (basis_of self.now).net (basis_of self.now).keys }
+        ensures { IfOk result (λ rows. rows ≡ everywhere.now ++ rows_here (basis_of self.now) unit.now) }
+    {
+        exact_flow_clone();
+        let mut rows = everywhere.copy()?;
+        match unit {
+            FlowUnit::Common => {}
+            FlowUnit::Switch(name) => self.push_switch_here(alloc, name, &mut rows)?,
+            FlowUnit::Port(name) => self.push_port_here(alloc, name, &mut rows)?,
+        }
+        Ok(rows)
+    }
+
+    /// All units that have rows.
+    pub fn units(&self, alloc: Global) -> Result<List<FlowUnit>, NoMemory>
+        ensures { IfOk result (λ units. units ≡ all_units (basis_of self.now).net) }
+    {
+        let mut units = List::new(alloc);
+        units.push(FlowUnit::Common)?;
         'switches: for (name, _switch) in self.records.switches() {
-            self.push_switch(alloc, name, &mut flows)?;
+            units.push(FlowUnit::Switch(*name))?;
         }
-        'ports: for (name, port) in self.records.switch_ports() {
-            self.push_port(alloc, name, port, &mut flows)?;
+        'ports: for (name, _port) in self.records.switch_ports() {
+            units.push(FlowUnit::Port(*name))?;
         }
-        Ok(flows)
-    }
-
-    /// The flows of the chassis, each once.
-    pub fn compile(&self, alloc: Global) -> Result<List<Flow>, NoMemory>
-        requires valid { IsValid (basis_of self.now).net }
-        requires keys { HaveKeys (basis_of self.now).net (basis_of self.now).keys }
-        ensures { IfOk result (AreExactly (TableFlow (basis_of self.now))) }
-    {
-        let flows = self.listed(alloc)?;
-        Ok(flows)
+        Ok(units)
     }
 }
 

@@ -4,3 +4,5 @@
 pub mod compile;
 mod priorities;
 mod rows;
+pub mod unit;
+pub mod unit_flows;

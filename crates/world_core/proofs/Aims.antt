@@ -12,7 +12,7 @@ use Rattle.ovn_base.specs.declared.ports.Ports.{Ports}
 use Rattle.ovn_base.proofs.AmongLaws.{among_cases, among_none, among_filter, among_map, filter_among, map_among}
 use Rattle.ovn_base.proofs.ByNameLaws.{at_among, among_at}
 use Rattle.nb_records.specs.declared.switch.SwitchPort.{SwitchPort}
-use Rattle.tunnel_keys.specs.Keys.{ports_on}
+use Rattle.tunnel_keys.specs.Keys.{Keys, ports_on}
 use Rattle.tunnel_keys.specs.declared.owner.DatapathKey.{DatapathKey}
 use Rattle.tunnel_keys.specs.declared.owner.Identity.{Identity}
 use Rattle.tunnel_keys.specs.declared.owner.PortKey.{PortKey}
@@ -38,6 +38,10 @@ found_at (e ∷ es) n key m one = by (nat_eq e.1 key) refl (λ later. found_at e
     by : (b : Bool) → nat_eq e.1 key ≡ b → (Among (n, key) es → port_of_key es key ≡ Some n) → cond b (Some e.0) (port_of_key es key) ≡ Some n
     by true is rest = ap (λ x. Some x) (one e here ((Decides-eqb e.1 key).0 is))
     by false is rest = rest (later_of e es n key is m)
+
+-- the ports of a switch by its keys, where it has one
+abbrev pub ports_of : Keys → Name → Option Ports
+ports_of keys switch = option_map (λ d. record { list = ports_on keys.ports switch }) (at keys.datapaths switch)
 
 module _ (m : State) (have : HaveKeys m.config.net m.keys) (switch : Name) where
   -- the port of the switch that has the key is found
@@ -82,7 +86,7 @@ module _ (m : State) (have : HaveKeys m.config.net m.keys) (switch : Name) where
   aims_port key f u (ToPort id) n = record { id = id; is = refl; has = n.0; port = n.1.0; there' = n.1.1; birth = n.1.2 }
 
   -- the ports of the switch are there
-  pub ports_are : (q : Name) (key : ℕ) → HasPortKey m.keys switch q key → (o : Option Ports) → o ≡ option_map (λ d. record { list = ports_on m.keys.ports switch }) (at m.keys.datapaths switch) → o ≡ Some (record { list = ports_on m.keys.ports switch })
+  pub ports_are : (q : Name) (key : ℕ) → HasPortKey m.keys switch q key → (o : Option Ports) → o ≡ ports_of m.keys switch → o ≡ Some (record { list = ports_on m.keys.ports switch })
   ports_are q key h o e =
       let d = datapath_under m.config.net m.keys have q h.live h.has in
       e ∙ ap (λ x. option_map (λ (k : DatapathKey). record { list = ports_on m.keys.ports switch }) x) (ap (λ n. at m.keys.datapaths n) (sym h.on) ∙ d.1)

@@ -15,6 +15,7 @@ use Rattle.switch_engine.specs.declared.walk.Walk.{Walk}
 use Rattle.net_model.specs.declared.crossing.Crossing.{Crossing}
 use Rattle.tunnel_keys.specs.Keys.{Keys, IsKeys, no_keys}
 use Rattle.sim_laws.specs.Consistent.{IsConsistent}
+use Rattle.world_core.specs.Ground.{GroundView, ground_of}
 use Rattle.world_core.specs.StepParts.{new_world}
 use Rattle.world_core.specs.Zones.{no_zones}
 use Rattle.tunnel_keys.proofs.Invariant.{none_hold}
@@ -141,22 +142,12 @@ pub are_no_zones : (zones : Zoned) → zones.homes ≡ no_zones.homes → zones.
 are_no_zones zones homes numbers = λ i. record { homes = homes i; numbers = numbers i }
 
 -- and so is one that is made of empty parts
-pub starts_sound : (net : Network) (chassis : List Name) (bindings : List (Name × Name)) (keys : Keys) (zones : Zoned) (s : sim.SimState) (crossings : List (ℕ × Crossing)) (walks : List Walk)
-    → net ≡ empty_network → chassis ≡ [] → bindings ≡ [] → keys ≡ first_keys → zones ≡ no_zones → s ≡ nothing_held → crossings ≡ [] → walks ≡ []
+pub starts_sound : (g : GroundView) (s : sim.SimState) (crossings : List (ℕ × Crossing)) (walks : List Walk) → g ≡ ground_of empty no_zones → s ≡ nothing_held → crossings ≡ [] → walks ≡ []
     → IsSound (record {
-      state = record {
-        config = record { net = net; chassis = chassis; bindings = bindings };
-        keys = keys;
-        lists = untracked (record { net = net; chassis = chassis; bindings = bindings });
-        waiting = crossings;
-        next = s.next;
-        clock = 0;
-        accepted = 0;
-        refused = 0;
-      };
-      zones = zones;
+      state = record { config = g.config; keys = g.keys; lists = untracked g.config; waiting = crossings; next = s.next; clock = 0; accepted = 0; refused = 0 };
+      zones = g.zones;
       sim = s;
       walks = walks;
       whole = true;
     })
-starts_sound net chassis bindings keys zones s crossings walks e f g h i j k l = rw (e, f, g, h, i, j, k, l) new_sound
+starts_sound g s crossings walks e f h i = rw (e, f, h, i) new_sound

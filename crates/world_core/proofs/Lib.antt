@@ -1,4 +1,5 @@
 -- Lemmas.
+pub mod AcceptedTurns
 pub mod AddedRecords
 pub mod Aims
 pub mod ConsistentTurns
@@ -6,6 +7,7 @@ pub mod Counts
 pub mod CrossingStore
 pub mod DrainSteps
 pub mod EmptyWorld
+pub mod FlowStores
 pub mod FrameCrossings
 pub mod FreeAddresses
 pub mod FreedKeys
@@ -14,7 +16,6 @@ pub mod KeyNames
 pub mod KeyPlans
 pub mod NamesInOrder
 pub mod NewKeys
-pub mod NewTables
 pub mod OneCrossing
 pub mod OnePass
 pub mod OneStep
@@ -22,11 +23,17 @@ pub mod PacketEvents
 pub mod PacketState
 pub mod PlainSteps
 pub mod PortHomes
+pub mod ReadiedChanges
 pub mod RecordChanges
 pub mod Refusal
 pub mod Refusals
 pub mod SameZones
+pub mod SetupTurns
 pub mod StepByStep
 pub mod TurnEvents
+pub mod Turned
+pub mod TurnedHomes
+pub mod TurnedRecords
+pub mod TurnedUnits
 pub mod Turns
 pub mod WaitingFrames

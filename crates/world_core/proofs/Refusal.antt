@@ -11,6 +11,7 @@ use Rattle.tunnel_keys.proofs.Births.{born_later}
 use Rattle.world_core.specs.Outcome.{IsAccepted, IsRefused}
 use Rattle.world_core.specs.StepParts.{IsTaken}
 use Rattle.world_core.specs.WorldView.{WorldView, IsSound}
+use Rattle.sim_laws.specs.Consistent.{IsConsistent}
 use Rattle.sim_laws.specs.Held.{AreHeld}
 use Rattle.sim_laws.specs.Sound.{MayWait}
 use Rattle.net_model.specs.State.{State, event_count}
@@ -41,38 +42,41 @@ held_on m zones s h = record {
   next = h.next;
 }
 
--- a refused event changes nothing but the number of refused ones
-pub refused_taken : (w : WorldView) → IsTaken w → event_count w.state < 2 ^ 42 → IsTaken (record w { state = record w.state { refused = w.state.refused + 1 }; walks = [] })
-refused_taken w taken room =
-    let m = w.state in
-    let now = taken.consistent in
+refused_consistent : (m : State) (zones : Zoned) → IsConsistent m zones → event_count m < 2 ^ 42 → IsConsistent (one_refused m) zones
+refused_consistent m zones now room =
     let sent = now.on_the_way.few in
     record {
-      consistent = record {
-        valid = now.valid;
-        within = now.within;
-        keys = now.keys;
-        bound = now.bound;
-        born = record {
-          switches = λ a switch is. let b = now.born.switches a switch is in omega (arith, b);
-          ports = λ q port is. let b = now.born.ports q port is in omega (arith, b);
-          keys = born_later m.keys (event_count m) (event_count (record m { refused = m.refused + 1 })) (omega arith) now.born.keys;
-          none = now.born.none;
-        };
-        on_the_way = record {
-          crossings = record {
-            in_order = now.on_the_way.crossings.in_order;
-            below = now.on_the_way.crossings.below;
-            may = λ n x among. may_wait m x (now.on_the_way.crossings.may n x among);
-          };
-          few = omega (arith, sent);
-          none = now.on_the_way.none;
-        };
-        few = omega (arith, room);
+      valid = now.valid;
+      within = now.within;
+      keys = now.keys;
+      bound = now.bound;
+      born = record {
+        switches = λ a switch is. let b = now.born.switches a switch is in omega (arith, b);
+        ports = λ q port is. let b = now.born.ports q port is in omega (arith, b);
+        keys = born_later m.keys (event_count m) (event_count (one_refused m)) (omega arith) now.born.keys;
+        none = now.born.none;
       };
-      held = held_on m w.zones w.sim taken.held;
-      taken = taken.taken;
+      on_the_way = record {
+        crossings = record {
+          in_order = now.on_the_way.crossings.in_order;
+          below = now.on_the_way.crossings.below;
+          may = λ n x among. may_wait m x (now.on_the_way.crossings.may n x among);
+        };
+        few = omega (arith, sent);
+        none = now.on_the_way.none;
+      };
+      few = omega (arith, room);
     }
+
+-- a refused event changes nothing but the number of refused ones
+abbrev pub refused_world : WorldView → WorldView
+refused_world w = record w { state = one_refused w.state; walks = [] }
+
+pub refused_taken : (w : WorldView) → IsTaken w → event_count w.state < 2 ^ 42 → IsTaken (refused_world w)
+refused_taken w taken room = record { consistent = refused_consistent w.state w.zones taken.consistent room; held = held_on w.state w.zones w.sim taken.held; taken = taken.taken }
+
+pub refused_sound : (w : WorldView) → IsSound w → event_count w.state < 2 ^ 42 → IsSound (refused_world w)
+refused_sound w sound room = record { whole = sound.whole; consistent = refused_consistent w.state w.zones sound.consistent room; held = held_on w.state w.zones w.sim sound.held }
 
 -- the mark of an event that is taken plays no part in what it does
 pub accepted_marked : (old mid : WorldView) (event : Event) (before after : List ℕ) → IsAccepted (record old { whole = false }) event before after mid → IsTaken mid → IsAccepted old event before after (record mid { whole = true }) × IsSound (record mid { whole = true })

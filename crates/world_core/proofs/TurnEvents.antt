@@ -1,243 +1,123 @@
--- What an event without a packet leaves: the network's step, and the chassis that hold it.
-use Rattle.world_core.proofs.Turns.{bindings_stay_beside, bindings_stay_with}
-use Rattle.net_model.specs.Transition.{turned_by, add_chassis, bind}
-use Rattle.std.specs.Prelude.{◌≡◌, ◌+◌, ◌||◌, ℕ, cond, not, List, [], ◌∷◌, length, map, nat_le, Option, Some, None, is_some, codes, unwrap_or, refl}
-use Rattle.std.proofs.Common.{sym, ap, subst, ◌∙◌, inl, inr}
+-- What a turn of the configuration leaves: names, bindings, keys, and the rest of the state.
+use Rattle.std.specs.Prelude.{◌≡◌, ◌+◌, ℕ, cond, List, [], ◌∷◌, Some, codes, length, true, unwrap_or, refl}
+use Rattle.std.proofs.Common.{arith, sym, ap, subst, ◌∙◌, inl, inr}
 use Rattle.std.proofs.lemmas.Bool.{cases_Bool, false≢true}
-use Rattle.conn_zones.specs.Rezoning.{IsRezoned}
-use Rattle.chassis_sim.specs.Changing.{given_name}
-use Rattle.chassis_sim.specs.Settings.{AreSet}
+use Rattle.chassis_sim.specs.Settings.{AreSet, set_in_turn}
 use Rattle.chassis_sim.specs.State as sim
-use Rattle.chassis_sim.specs.State.{at_name, same_pair}
+use Rattle.chassis_sim.specs.State.{same_pair}
+use Rattle.chassis_sim.specs.declared.out.SimOut.{SimOut}
 use Rattle.edit_reader.specs.declared.event.Event.{Event}
 use Rattle.edit_reader.specs.declared.event.Event.TheVariants as event_of
-use Rattle.event_lines.specs.declared.refusal.Refusal.TheVariants as why
+use Rattle.nb_records.specs.Editing.{accepted}
 use Rattle.nb_records.specs.Network.{Network}
-use Rattle.nb_records.specs.declared.change.Op.TheVariants.{Add}
-use Rattle.nb_records.specs.declared.record.Record.TheVariants as record_of
-use Rattle.nb_records.specs.declared.switch.Switch.{Switch}
-use Rattle.nb_records.specs.declared.switch.SwitchPort.{SwitchPort}
-use Rattle.ovn_base.specs.lists.Among.{Among, here}
+use Rattle.net_model.specs.State.{State, event_count, settled_where_none_waits}
+use Rattle.net_model.specs.ListOwners.{lists_for}
+use Rattle.net_model.specs.Transition.{Turn, add_chassis, bind, edit, turned_by}
+use Rattle.net_model.specs.declared.crossing.Crossing.{Crossing}
 use Rattle.ovn_base.specs.names.ByName.{at, put}
 use Rattle.ovn_base.specs.names.SameName.{bytes_decides, same_name}
-use Rattle.ovn_base.specs.declared.address.Birth.{Birth}
 use Rattle.ovn_base.specs.declared.name.Name.{Name}
 use Rattle.ovn_base.proofs.ByNameLaws.{put_other, put_there}
+use Rattle.physical_flows.specs.RecordKeys.{HaveKeys}
+use Rattle.sim_laws.specs.Held.{HaveOwnersNames}
 use Rattle.switch_engine.specs.declared.effect.NetEffect.{NetEffect}
-use Rattle.switch_engine.specs.declared.walk.Walk.{Walk}
-use Rattle.tunnel_keys.specs.declared.owner.HeldDatapath.{HeldDatapath}
-use Rattle.tunnel_keys.specs.declared.owner.HeldPort.{HeldPort}
 use Rattle.tunnel_keys.proofs.KeyOrder.{none_in_order}
 use Rattle.tunnel_keys.specs.Edits.{GivesKeys, GivesKeysAfter}
-use Rattle.tunnel_keys.specs.Keys.{Keys}
-use Rattle.tunnel_keys.specs.declared.owner.DatapathKey.{DatapathKey}
+use Rattle.tunnel_keys.specs.Keys.{Keys, settled}
+use Rattle.tunnel_keys.specs.declared.owner.HeldDatapath.{HeldDatapath}
+use Rattle.tunnel_keys.specs.declared.owner.HeldPort.{HeldPort}
 use Rattle.tunnel_keys.specs.declared.owner.KeyOwner.{KeyOwner}
-use Rattle.tunnel_keys.specs.declared.owner.KeyOwner.TheVariants.{Datapath, Port}
-use Rattle.tunnel_keys.specs.declared.owner.PortKey.{PortKey}
-use Rattle.sim_laws.specs.Consistent.{IsConsistent}
-use Rattle.world_core.specs.Editing.{Edits, edited}
-use Rattle.world_core.specs.StepParts.{IsDone, IsRecompiled, IsTaken}
-use Rattle.world_core.specs.Refusing.{refusal_of_record}
-use Rattle.world_core.specs.WorldView.{WorldView}
-use Rattle.sim_laws.specs.Held.{AreHeld, HaveOwnersNames}
-use Rattle.physical_flows.specs.RecordKeys.{HaveKeys}
-use Rattle.net_model.specs.State.{State, event_count, finished, settled_where_none_waits}
-use Rattle.world_core.specs.Zones.{home_change}
-use Rattle.net_model.specs.declared.crossing.Crossing.{Crossing}
-use Rattle.world_core.proofs.KeyNames.{datapath_called, port_called}
+use Rattle.world_core.specs.Editing.{owners_of}
+use Rattle.world_core.specs.EventPasses.{Passes}
+use Rattle.world_core.specs.Step.{Does}
+use Rattle.world_core.specs.Turning.{is_turn}
+use Rattle.world_core.specs.Untracked.{untracked}
 use Rattle.world_core.proofs.NewKeys.{given_beside}
-use Rattle.world_core.proofs.NamesInOrder.{name_kept}
-use Rattle.world_core.proofs.WaitingFrames.{AreKept, frames_same, port_kept, same_kept, switch_kept}
-use Rattle.world_core.proofs.NewTables.{held_again}
-
--- where no key is retired, nothing comes of giving retired ones up
-same_settled : (ws : List (ℕ × Crossing)) (keys : Keys) → keys.retired_datapaths ≡ [] → keys.retired_ports ≡ [] → settled_where_none_waits ws keys ≡ keys
-same_settled [] keys d p = λ i. record keys { retired_datapaths = sym d i; retired_ports = sym p i }
-same_settled (w ∷ ws) keys d p = refl
-
--- a switch that comes is new
-pub switch_new : (net : Network) (s : Switch) → refusal_of_record net (record_of.Switch s) ≡ None → at net.switches s.name ≡ None
-switch_new net s h = by (at net.switches s.name) h
-  where
-    by : (o : Option Switch) → cond (not (is_some o || nat_le 1024 (length net.switches))) None (Some why.NotBuilt) ≡ None → o ≡ None
-    by None h = refl
-    by (Some x) h = cc
-
--- the effects and the walks of an event that has no walk
-pub done_so : (old new : WorldView) (event : Event) (effects own : List NetEffect) (walks : List Walk) (count : ℕ) → own ≡ effects → walks ≡ [] → count ≡ 0 → IsDone old event effects [] 0 new → IsDone old event own walks count new
-done_so old new event effects own walks count e w n done =
-    subst (λ l. IsDone old event l walks count new) (sym e) (subst (λ l. IsDone old event effects l count new) (sym w) (subst (λ k. IsDone old event effects [] k new) (sym n) done))
+use Rattle.world_core.proofs.Turns.{lists_still}
 
 -- names stay where none is given
-still_named : (keys : Keys) (old new : sim.SimState) → AreSet same_pair [] old.names new.names → HaveOwnersNames keys old → HaveOwnersNames keys new
+pub still_named : (keys : Keys) (old new : sim.SimState) → AreSet same_pair [] old.names new.names → HaveOwnersNames keys old → HaveOwnersNames keys new
 still_named keys old new same named = record {
   datapaths = λ a k has. ap (λ o. unwrap_or o (codes "-")) (same (k.key, 0)) ∙ named.datapaths a k has;
   ports = λ q p k has under. ap (λ o. unwrap_or o (codes "-")) (same (k.key, p.key)) ∙ named.ports q p k has under;
 }
 
--- the event is over, and all tables were made anew
-module _ (old done new : WorldView) (mid : State) (bound : List (Name × Option Name)) (names : List (ℕ × ℕ × Name)) (taken : IsTaken old) (now : IsConsistent (finished mid) done.zones)
-    (over : done ≡ record old { state = finished mid; zones = done.zones }) (made : IsRecompiled bound names done new) (kept : AreKept old.state mid)
-    (stay : (c : Name) → Among c old.state.config.chassis → Among c mid.config.chassis) (waiting : mid.waiting ≡ old.state.waiting) (next : mid.next ≡ old.state.next) where
-  sim_is : done.sim ≡ old.sim
-  sim_is = ap (λ (v : WorldView). v.sim) over
+-- a port that is bound is at its chassis, and the others are where they were
+pub bound_then : (bindings : List (Name × Name)) (p c q : Name) → set_in_turn same_name ((p, Some c) ∷ []) q (at bindings q) ≡ at (put bindings p c) q
+bound_then bindings p c q = elim (cases_Bool (same_name p q)) [
+  | inl same ↦
+      let is : p ≡ q = (bytes_decides p q).0 same in
+      ap (λ b. cond b (Some c) (at bindings q)) same ∙ sym (ap (λ n. at (put bindings p c) n) (sym is) ∙ put_there bindings p c)
+  | inr other ↦
+      ap (λ b. cond b (Some c) (at bindings q)) other ∙ sym (put_other bindings p c q (λ is. false≢true (sym other ∙ (bytes_decides p q).1 (sym is))))
+]
 
-  held_then : AreHeld old.state old.zones.numbers done.sim
-  held_then = subst (λ s. AreHeld old.state old.zones.numbers s) (sym sim_is) taken.held
+-- ---- keys
 
-  pub then_taken : ((q : Name) → at_name new.sim.bindings q ≡ at mid.config.bindings q) → HaveOwnersNames mid.keys new.sim → IsTaken new
-  then_taken bindings called =
-      let frames = frames_same old.state mid taken.consistent.born kept taken.consistent.keys.hold old.state.waiting taken.consistent.on_the_way.crossings.may in
-      let state : done.state ≡ finished mid = ap (λ (v : WorldView). v.state) over in
-      let held : AreHeld (finished mid) done.zones.numbers new.sim = held_again old.state mid old.zones bound names done new held_then state made stay waiting next frames bindings called in
-      record {
-        consistent = subst (λ (v : WorldView). IsConsistent v.state v.zones) (sym made.kept) (subst (λ w. IsConsistent w done.zones) (sym state) now);
-        held = subst (λ (v : WorldView). AreHeld v.state v.zones.numbers new.sim) (sym made.kept) (subst (λ w. AreHeld w done.zones.numbers new.sim) (sym state) held);
-        taken = ap (λ (v : WorldView). v.whole) made.kept ∙ ap (λ (v : WorldView). v.whole) over ∙ taken.taken;
-      }
+-- where no key is retired, nothing comes of giving retired ones up
+pub same_settled : (ws : List (ℕ × Crossing)) (keys : Keys) → keys.retired_datapaths ≡ [] → keys.retired_ports ≡ [] → settled_where_none_waits ws keys ≡ keys
+same_settled [] keys d p = λ i. record keys { retired_datapaths = sym d i; retired_ports = sym p i }
+same_settled (w ∷ ws) keys d p = refl
 
-  pub state_then : new.state ≡ finished mid
-  state_then = ap (λ (v : WorldView). v.state) made.kept ∙ ap (λ (v : WorldView). v.state) over
+-- retired keys are given up where nothing waits, and only there
+pub given_up : (ws : List (ℕ × Crossing)) (keys : Keys) → length ws ≡ 0 → settled keys ≡ settled_where_none_waits ws keys
+given_up [] keys none = refl
+given_up (w ∷ ws) keys none = absurd (omega (arith, none))
 
-  pub zones_then : new.zones ≡ done.zones
-  zones_then = ap (λ (v : WorldView). v.zones) made.kept
+pub kept_on : (ws : List (ℕ × Crossing)) (keys : Keys) → ¬ (length ws ≡ 0) → keys ≡ settled_where_none_waits ws keys
+kept_on [] keys some = absurd (some refl)
+kept_on (w ∷ ws) keys some = refl
 
--- ---- a record comes
+-- owners that come retire no key
+pub none_retired : (net : Network) (keys : Keys) (added : List KeyOwner) (after : Keys) → HaveKeys net keys → GivesKeys keys added [] after → (after.retired_datapaths ≡ []) × (after.retired_ports ≡ [])
+none_retired net keys added after have gives =
+    let beside : GivesKeysAfter keys added after = given_beside keys added after gives in (
+      none_in_order (λ (h : HeldDatapath). h.owner) keys.retired_datapaths after.retired_datapaths beside.retired_datapaths have.no_retired_datapaths,
+      none_in_order (λ (h : HeldPort). h.owner) keys.retired_ports after.retired_ports beside.retired_ports have.no_retired_ports,
+    )
 
-module _ (old done new : WorldView) (mid : State) (names : List (ℕ × ℕ × Name)) (taken : IsTaken old) (now : IsConsistent (finished mid) done.zones)
-    (over : done ≡ record old { state = finished mid; zones = done.zones }) (same_zones : done.zones ≡ old.zones) (made : IsRecompiled [] names done new) where
-  abbrev m : State
-  m = old.state
+-- ---- the state
 
-  abbrev birth : Birth
-  birth = record { 0 = event_count m + 1 }
+-- the configuration and the keys are others, no key is retired, and no connection is tracked
+pub record IsTurnedTo (m mid : State) : Type 0 where
+  pub state : mid ≡ record m { config = mid.config; keys = mid.keys; lists = untracked mid.config }
+  pub no_datapaths : mid.keys.retired_datapaths ≡ []
+  pub no_ports : mid.keys.retired_ports ≡ []
 
-  abbrev held : AreHeld m old.zones.numbers old.sim
-  held = taken.held
-
-  bindings_then : mid.config.bindings ≡ m.config.bindings → (q : Name) → at_name new.sim.bindings q ≡ at mid.config.bindings q
-  bindings_then same q = made.bindings q ∙ ap (λ (v : WorldView). at_name v.sim.bindings q) over ∙ held.bindings q ∙ ap (λ l. at l q) (sym same)
-
-  names_then : HaveOwnersNames m.keys done.sim
-  names_then = subst (λ s. HaveOwnersNames m.keys s) (sym (ap (λ (v : WorldView). v.sim) over)) held.names
-
-  module _ (added : List KeyOwner) (after : Keys) (net : Network) (gives : GivesKeys m.keys added [] after) (is : mid ≡ edited m net after) where
-    beside : GivesKeysAfter m.keys added after
-    beside = given_beside m.keys added after gives
-
-    settled_same : settled_where_none_waits m.waiting after ≡ after
-    settled_same =
-        let have = taken.consistent.keys in
-        same_settled m.waiting after (none_in_order (λ (h : HeldDatapath). h.owner) m.keys.retired_datapaths after.retired_datapaths beside.retired_datapaths have.no_retired_datapaths)
-        (none_in_order (λ (h : HeldPort). h.owner) m.keys.retired_ports after.retired_ports beside.retired_ports have.no_retired_ports)
-
-    keys_done : done.state.keys ≡ after
-    keys_done = ap (λ (v : WorldView). v.state.keys) over ∙ ap (λ (w : State). settled_where_none_waits w.waiting w.keys) is ∙ settled_same
-
-    have_then : HaveKeys net after
-    have_then =
-        let have : HaveKeys mid.config.net (settled_where_none_waits mid.waiting mid.keys) = now.keys in
-        subst (λ k. HaveKeys net k) settled_same (subst (λ (w : State). HaveKeys w.config.net (settled_where_none_waits w.waiting w.keys)) is have)
-
-  pub switch_done : (s : Switch) (effects : List NetEffect) → at m.config.net.switches s.name ≡ None → Edits m (Add (record_of.Switch s) ∷ []) effects mid
-      → ((k : DatapathKey) → at done.state.keys.datapaths s.name ≡ Some k → names ≡ (k.key, 0, s.name) ∷ []) → IsDone old (event_of.Edit (Add (record_of.Switch s) ∷ [])) effects [] 0 new
-  switch_done s effects absent edits so =
-      let after = edits.keys in
-      let one : Switch = record s { birth = birth } in
-      let net : Network = record m.config.net { switches = put m.config.net.switches s.name one } in
-      let added : List KeyOwner = Datapath s.name birth ∷ [] in
-      let have = have_then added after net edits.given edits.state in
-      let given = (beside added after net edits.given edits.state).datapath_given s.name birth here in
-      let k : DatapathKey = record { birth = birth; key = given.0 } in
-      let names_are : names ≡ (k.key, 0, s.name) ∷ [] = so k (ap (λ (x : Keys). at x.datapaths s.name) (keys_done added after net edits.given edits.state) ∙ given.1) in
-      let set : AreSet same_pair (((k.key, 0), Some s.name) ∷ []) done.sim.names new.sim.names = subst (λ l. AreSet same_pair (map given_name l) done.sim.names new.sim.names) names_are made.names_are in
-      let called : HaveOwnersNames after new.sim = datapath_called m.config.net net m.keys after done.sim new.sim taken.consistent.keys have names_then s.name birth absent (beside added after net edits.given edits.state) k given.1 set in
-      let keys : mid.keys ≡ after = ap (λ (w : State). w.keys) edits.state in
-      let kept : AreKept m mid = switch_kept m added after taken.consistent.keys.hold have.hold edits.given one refl mid keys (ap (λ (w : State). w.config.net.switches) edits.state) in
-      let stay : (c : Name) → Among c m.config.chassis → Among c mid.config.chassis = λ c among. subst (λ (w : State). Among c w.config.chassis) (sym edits.state) among in
-      let waiting : mid.waiting ≡ m.waiting = ap (λ (w : State). w.waiting) edits.state in
-      let next : mid.next ≡ m.next = ap (λ (w : State). w.next) edits.state in
-      record {
-        step = record { mid = mid; does = edits; state = state_then old done new mid [] names taken now over made kept stay waiting next };
-        passed = refl;
-        counts = refl;
-        zones = zones_then old done new mid [] names taken now over made kept stay waiting next ∙ same_zones;
-        now = then_taken old done new mid [] names taken now over made kept stay waiting next (bindings_then (ap (λ (w : State). w.config.bindings) edits.state ∙ bindings_stay_beside m old.zones taken.consistent one)) (subst (λ k. HaveOwnersNames k new.sim) (sym keys) called);
-      }
-
-  pub port_done : (p : SwitchPort) (effects : List NetEffect) → at m.config.net.switch_ports p.name ≡ None → Edits m (Add (record_of.SwitchPort p) ∷ []) effects mid
-      → ((k : DatapathKey) (r : PortKey) → at done.state.keys.datapaths p.switch ≡ Some k → at done.state.keys.ports p.name ≡ Some r → names ≡ (k.key, r.key, p.name) ∷ [])
-      → IsDone old (event_of.Edit (Add (record_of.SwitchPort p) ∷ [])) effects [] 0 new
-  port_done p effects absent edits so =
-      let after = edits.keys in
-      let one : SwitchPort = record p { birth = birth } in
-      let net : Network = record m.config.net { switch_ports = put m.config.net.switch_ports p.name one } in
-      let added : List KeyOwner = Port p.switch p.name birth ∷ [] in
-      let have = have_then added after net edits.given edits.state in
-      let given = (beside added after net edits.given edits.state).port_given p.switch p.name birth here in
-      let r : PortKey = record { birth = birth; datapath = p.switch; key = given.0 } in
-      let k : DatapathKey = given.1 in
-      let same = keys_done added after net edits.given edits.state in
-      let names_are : names ≡ (k.key, r.key, p.name) ∷ [] = so k r (ap (λ (x : Keys). at x.datapaths p.switch) same ∙ given.3) (ap (λ (x : Keys). at x.ports p.name) same ∙ given.2) in
-      let set : AreSet same_pair (((k.key, r.key), Some p.name) ∷ []) done.sim.names new.sim.names = subst (λ l. AreSet same_pair (map given_name l) done.sim.names new.sim.names) names_are made.names_are in
-      let called : HaveOwnersNames after new.sim = port_called m.config.net net m.keys after done.sim new.sim taken.consistent.keys have names_then p.switch p.name birth (beside added after net edits.given edits.state) k given.3 r given.2 refl set in
-      let keys : mid.keys ≡ after = ap (λ (w : State). w.keys) edits.state in
-      let kept : AreKept m mid = port_kept m added after taken.consistent.keys.hold have.hold edits.given mid keys (ap (λ (w : State). w.config.net.switches) edits.state) in
-      let stay : (c : Name) → Among c m.config.chassis → Among c mid.config.chassis = λ c among. subst (λ (w : State). Among c w.config.chassis) (sym edits.state) among in
-      let waiting : mid.waiting ≡ m.waiting = ap (λ (w : State). w.waiting) edits.state in
-      let next : mid.next ≡ m.next = ap (λ (w : State). w.next) edits.state in
-      record {
-        step = record { mid = mid; does = edits; state = state_then old done new mid [] names taken now over made kept stay waiting next };
-        passed = refl;
-        counts = refl;
-        zones = zones_then old done new mid [] names taken now over made kept stay waiting next ∙ same_zones;
-        now = then_taken old done new mid [] names taken now over made kept stay waiting next (bindings_then (ap (λ (w : State). w.config.bindings) edits.state ∙ bindings_stay_with m old.zones taken.consistent one absent)) (subst (λ k. HaveOwnersNames k new.sim) (sym keys) called);
-      }
-
--- ---- a chassis comes
-
-pub chassis_done : (old done new : WorldView) (c : Name) → IsTaken old → IsConsistent (finished (turned_by (add_chassis old.state.config c) old.state)) done.zones
-    → done ≡ record old { state = finished (turned_by (add_chassis old.state.config c) old.state); zones = done.zones } → done.zones ≡ old.zones → IsRecompiled [] [] done new → IsDone old (event_of.AddChassis c) [] [] 0 new
-chassis_done old done new c taken now over same_zones made =
-    let m = old.state in
-    let mid : State = turned_by (add_chassis m.config c) m in
-    let kept : AreKept m mid = same_kept m mid refl refl taken.consistent.keys.hold in
-    let stay : (d : Name) → Among d m.config.chassis → Among d mid.config.chassis = λ d among. name_kept m.config.chassis c d among in
+turned_to : (m mid : State) (turn : Turn) (keys : Keys) → m.lists ≡ untracked m.config → mid ≡ record (turned_by turn m) { keys = keys } → (keys.retired_datapaths ≡ []) × (keys.retired_ports ≡ []) → IsTurnedTo m mid
+turned_to m mid turn keys lists is none =
+    let left : lists_for turn.next turn.emptied m.lists ≡ untracked turn.next = ap (λ l. lists_for turn.next turn.emptied l) lists ∙ lists_still m.config turn.next turn.emptied in
     record {
-      step = record { mid = mid; does = (refl, refl); state = state_then old done new mid [] [] taken now over made kept stay refl refl };
-      passed = refl;
-      counts = refl;
-      zones = zones_then old done new mid [] [] taken now over made kept stay refl refl ∙ same_zones;
-      now = then_taken old done new mid [] [] taken now over made kept stay refl refl
-          (λ q. made.bindings q ∙ ap (λ (v : WorldView). at_name v.sim.bindings q) over ∙ taken.held.bindings q)
-          (still_named old.state.keys done.sim new.sim made.names_are (subst (λ s. HaveOwnersNames old.state.keys s) (sym (ap (λ (v : WorldView). v.sim) over)) taken.held.names));
+      state = subst (λ (w : State). w ≡ record m { config = w.config; keys = w.keys; lists = untracked w.config }) (sym is) (λ i. record m { config = turn.next; keys = keys; lists = left i });
+      no_datapaths = ap (λ (w : State). w.keys.retired_datapaths) is ∙ none.0;
+      no_ports = ap (λ (w : State). w.keys.retired_ports) is ∙ none.1;
     }
 
--- ---- a port is bound
+-- that is what turns do
+pub turns_to : (m : State) (event : Event) (effects : List NetEffect) (mid : State) → is_turn event ≡ true → m.lists ≡ untracked m.config → HaveKeys m.config.net m.keys → Does m event effects mid → IsTurnedTo m mid
+turns_to m (event_of.Edit ops) effects mid is lists have does =
+    turned_to m mid (edit m.config (accepted m.config.net ops (event_count m + 1))) does.keys lists does.state (none_retired m.config.net m.keys (owners_of ops (event_count m + 1)) does.keys have does.given)
+turns_to m (event_of.Bind p c) effects mid is lists have does = turned_to m mid (bind m.config p c) m.keys lists does.1 (have.no_retired_datapaths, have.no_retired_ports)
+turns_to m (event_of.AddChassis c) effects mid is lists have does = turned_to m mid (add_chassis m.config c) m.keys lists does.1 (have.no_retired_datapaths, have.no_retired_ports)
+turns_to m (event_of.Inject p frame) effects mid is lists have does = absurd (false≢true is)
+turns_to m (event_of.Deliver n) effects mid is lists have does = absurd (false≢true is)
+turns_to m (event_of.Lose n) effects mid is lists have does = absurd (false≢true is)
+turns_to m (event_of.Repeat n) effects mid is lists have does = absurd (false≢true is)
+turns_to m event_of.Drain effects mid is lists have does = absurd (false≢true is)
+turns_to m (event_of.Packet p frame) effects mid is lists have does = absurd (false≢true is)
+turns_to m (event_of.Unread fault) effects mid is lists have does = absurd (false≢true is)
+turns_to m event_of.NotBuilt effects mid is lists have does = absurd (false≢true is)
 
-pub binding_done : (old done new : WorldView) (p c : Name) → IsTaken old → IsConsistent (finished (turned_by (bind old.state.config p c) old.state)) done.zones
-    → done ≡ record old { state = finished (turned_by (bind old.state.config p c) old.state); zones = done.zones } → IsRezoned old.zones (home_change p c) done.zones
-    → IsRecompiled ((p, Some c) ∷ []) [] done new → IsDone old (event_of.Bind p c) [] [] 0 new
-binding_done old done new p c taken now over rezoned made =
-    let m = old.state in
-    let mid : State = turned_by (bind m.config p c) m in
-    let kept : AreKept m mid = same_kept m mid refl refl taken.consistent.keys.hold in
-    let bound : List (Name × Option Name) = (p, Some c) ∷ [] in
-    record {
-      step = record { mid = mid; does = (refl, refl); state = state_then old done new mid bound [] taken now over made kept (λ d among. among) refl refl };
-      passed = refl;
-      counts = refl;
-      zones = subst (λ z. IsRezoned old.zones (home_change p c) z) (sym (zones_then old done new mid bound [] taken now over made kept (λ d among. among) refl refl)) rezoned;
-      now = then_taken old done new mid bound [] taken now over made kept (λ d among. among) refl refl (bound_then m)
-          (still_named m.keys done.sim new.sim made.names_are (subst (λ s. HaveOwnersNames m.keys s) (sym (ap (λ (v : WorldView). v.sim) over)) taken.held.names));
-    }
-  where
-    bound_then : (m : State) → (q : Name) → at_name new.sim.bindings q ≡ at (put old.state.config.bindings p c) q
-    bound_then m q = elim (cases_Bool (same_name p q)) [
-      | inl same ↦
-          let is : p ≡ q = (bytes_decides p q).0 same in
-          made.bindings q ∙ ap (λ b. cond b (Some c) (at_name done.sim.bindings q)) same ∙ sym (ap (λ n. at (put old.state.config.bindings p c) n) (sym is) ∙ put_there old.state.config.bindings p c)
-      | inr other ↦
-          made.bindings q ∙ ap (λ b. cond b (Some c) (at_name done.sim.bindings q)) other ∙ ap (λ (v : WorldView). at_name v.sim.bindings q) over ∙ taken.held.bindings q
-          ∙ sym (put_other old.state.config.bindings p c q (λ is. false≢true (sym other ∙ (bytes_decides p q).1 (sym is))))
-    ]
+-- a turn has no packet
+pub no_walks : (s : sim.SimState) (event : Event) (out : SimOut) (new : sim.SimState) → is_turn event ≡ true → out.walks ≡ [] → Passes s event out new
+no_walks s (event_of.Edit ops) out new is none = none
+no_walks s (event_of.Bind p c) out new is none = none
+no_walks s (event_of.AddChassis c) out new is none = none
+no_walks s (event_of.Inject p frame) out new is none = absurd (false≢true is)
+no_walks s (event_of.Deliver n) out new is none = absurd (false≢true is)
+no_walks s (event_of.Lose n) out new is none = absurd (false≢true is)
+no_walks s (event_of.Repeat n) out new is none = absurd (false≢true is)
+no_walks s event_of.Drain out new is none = absurd (false≢true is)
+no_walks s (event_of.Packet p frame) out new is none = absurd (false≢true is)
+no_walks s (event_of.Unread fault) out new is none = absurd (false≢true is)
+no_walks s event_of.NotBuilt out new is none = absurd (false≢true is)

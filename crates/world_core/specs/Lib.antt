@@ -2,6 +2,7 @@
 pub mod Admitted
 pub mod Editing
 pub mod EventPasses
+pub mod Ground
 pub mod Holding
 pub mod Inside
 pub mod NewPort
@@ -9,8 +10,10 @@ pub mod Outcome
 pub mod Packets
 pub mod Picks
 pub mod Refusing
+pub mod Setup
 pub mod Step
 pub mod StepParts
+pub mod Turning
 pub mod Unbuilt
 pub mod Untracked
 pub mod WorldView

@@ -1,5 +1,5 @@
 -- What a world does with an event.
-use Rattle.std.specs.Prelude.{◌≡◌, ◌++◌, ◌+◌, ℕ, List, [], length, None, Some, Ok, Err, Result}
+use Rattle.std.specs.Prelude.{◌≡◌, ◌++◌, ◌+◌, ℕ, Bool, true, false, List, [], length, None, Some, Ok, Err, Result}
 use Rattle.std.specs.List.{sum_by}
 use Rattle.edit_reader.specs.declared.event.Event.{Event}
 use Rattle.event_lines.specs.Lines.{accepted_lines, refused_line}
@@ -13,6 +13,7 @@ use Rattle.world_core.specs.Refusing.{refusal}
 use Rattle.world_core.specs.WorldView.{WorldView, IsSound}
 use Rattle.net_model.specs.State.{event_count}
 use Rattle.world_core.specs.Step as net
+use Rattle.world_core.specs.Turning.{is_turn}
 use Rattle.world_core.specs.Zones.{Rezones}
 
 -- how many flows were matched in all
@@ -34,8 +35,14 @@ pub record IsRefused (old : WorldView) (event : Event) (why : Refusal) (before a
   pub kept : new ≡ record old { state = record old.state { refused = old.state.refused + 1 }; walks = [] }
   pub text : after ≡ before ++ refused_line (event_count old.state + 1) why
 
--- what a step leaves: after want of memory the world isn't sound, and the text keeps what it held
+-- what want of memory leaves: in an edit, a binding or a chassis all stays; in any other event the world isn't sound, and the text
+-- keeps what it held
+abbrev pub Wants : Bool → WorldView → List ℕ → List ℕ → WorldView → Type 0
+Wants true old before after new = (new ≡ old) × (after ≡ before)
+Wants false old before after new = (¬ IsSound new) × ((more : List ℕ) × (after ≡ before ++ more))
+
+-- what a step leaves
 abbrev pub Outcome : Result (Unit {0}) StepFault → WorldView → Event → List ℕ → List ℕ → WorldView → Type 0
 Outcome (Ok done) old event before after new = IsAccepted old event before after new × IsSound new
 Outcome (Err (Refused why)) old event before after new = IsRefused old event why before after new × IsSound new
-Outcome (Err Memory) old event before after new = (¬ IsSound new) × ((more : List ℕ) × (after ≡ before ++ more))
+Outcome (Err Memory) old event before after new = Wants (is_turn event) old before after new

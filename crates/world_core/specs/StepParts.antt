@@ -1,12 +1,6 @@
 -- What the parts of a step need and leave.
-use Rattle.std.specs.Prelude.{◌≡◌, ℕ, List, [], Option, Some, IsSome, true, false, Ok, Err, Result}
-use Rattle.ovn_base.specs.lists.Among.{Among}
-use Rattle.ovn_base.specs.names.SameName.{same_name}
-use Rattle.ovn_base.specs.declared.name.Name.{Name}
-use Rattle.chassis_sim.specs.Changing.{given_name}
-use Rattle.chassis_sim.specs.Settings.{AreSet}
-use Rattle.chassis_sim.specs.State.{at_name, same_pair, nothing_held}
-use Rattle.flow_table.specs.declared.flow.Flow.{Flow}
+use Rattle.std.specs.Prelude.{◌≡◌, ℕ, List, [], true, false, Ok, Err, Result}
+use Rattle.chassis_sim.specs.State.{nothing_held}
 use Rattle.edit_reader.specs.declared.event.Event.{Event}
 use Rattle.event_lines.specs.Text.{StartsWith}
 use Rattle.event_lines.specs.declared.refusal.StepFault.{StepFault}
@@ -18,22 +12,9 @@ use Rattle.world_core.specs.Outcome.{matched, IsAccepted, IsRefused}
 use Rattle.world_core.specs.EventPasses.{Passes}
 use Rattle.world_core.specs.WorldView.{WorldView}
 use Rattle.sim_laws.specs.Held.{AreHeld}
-use Rattle.physical_flows.specs.ChassisFlows.{AreFlowsOf}
 use Rattle.net_model.specs.State.{empty}
 use Rattle.world_core.specs.Step as net
 use Rattle.world_core.specs.Zones.{no_zones, Rezones}
-use Rattle.std.specs.Prelude.{map}
-
--- the chassis of a state hold exactly its flows; ports are bound and keys are named as is said, and nothing else changed
-pub record IsRecompiled (bound : List (Name × Option Name)) (names : List (ℕ × ℕ × Name)) (old new : WorldView) : Type 0 where
-  pub kept : new ≡ record old { sim = new.sim }
-  pub held : (c : Name) → Among c new.state.config.chassis → IsSome (at_name new.sim.chassis c)
-  pub flows : (c : Name) (flows : List Flow) → Among c new.state.config.chassis → at_name new.sim.chassis c ≡ Some flows → AreFlowsOf new.state new.zones.numbers c flows
-  pub others : (c : Name) → ¬ Among c new.state.config.chassis → at_name new.sim.chassis c ≡ at_name old.sim.chassis c
-  pub bindings : AreSet same_name bound old.sim.bindings new.sim.bindings
-  pub names_are : AreSet same_pair (map given_name names) old.sim.names new.sim.names
-  pub waiting : new.sim.waiting ≡ old.sim.waiting
-  pub next : new.sim.next ≡ old.sim.next
 
 -- no record, no chassis, no event
 abbrev pub new_world : WorldView

@@ -1,5 +1,5 @@
 //! The state of the network and of its chassis, and its steps.
-ghost use Rattle.std.specs.Prelude.{◌-◌, ◌≡◌, ◌+◌, ◌<◌, ◌^◌, ◌++◌, ◌↔◌, [], ◌∷◌, Some, false, min, length, slice_get, IsTrue, IfOk, OnOk, OnErr, List};
+ghost use Rattle.std.specs.Prelude.{◌-◌, ◌≡◌, ◌+◌, ◌<◌, ◌^◌, ◌++◌, ◌↔◌, [], ◌∷◌, None, Some, true, false, min, length, slice_get, IsTrue, IfOk, OnOk, OnErr, List};
 ghost use Rattle.std.specs.Option.{option_copied};
 ghost use Rattle.ovn_base.specs.lists.Once.{EachOnce};
 ghost use Rattle.chassis_sim.specs.State.{flow_at, at_name};
@@ -7,21 +7,22 @@ ghost use Rattle.flow_table.specs.declared.flow.Flow.{Flow};
 ghost use Rattle.event_lines.specs.Lines.{refused_line};
 ghost use Rattle.event_lines.specs.Text.{StartsWith};
 ghost use Rattle.world_core.specs.Admitted.{IsAdmitted};
-ghost use Rattle.world_core.specs.Outcome.{Outcome};
+ghost use Rattle.world_core.specs.Outcome.{IsAccepted, Outcome};
 ghost use Rattle.world_core.specs.StepParts.{IsTaken, Leaves, new_world};
+ghost use Rattle.world_core.specs.Refusing.{refusal};
+ghost use Rattle.world_core.specs.Turning.{is_turn};
 ghost use Rattle.world_core.specs.WorldView.{IsSound};
 ghost use Rattle.net_model.specs.State.{event_count, finished};
 
 use crate::held::Held;
+use crate::setup::Setup;
+use crate::world::texts::{write_accepted, write_refused};
 use chassis_sim::sim::Sim;
-use conn_zones::zones::ConnZones;
 use edit_reader::event::Event;
-use event_lines::lines::{accepted, refused};
 use event_lines::refusal::{Refusal, StepFault};
+use flow_table::exact::exact_flow;
 use flow_table::flow::Flow;
-use nb_records::records::Records;
 use net_model::crossing::Crossing;
-use ovn_base::limits::{MAX_DATAPATH_KEY, MAX_PORT_KEY};
 use ovn_base::list::List;
 use ovn_base::memory::NoMemory;
 use ovn_base::name::Name;
@@ -31,24 +32,15 @@ use std::collections::BTreeMap;
 use std::marker::Model;
 use switch_engine::effect::NetEffect;
 use switch_engine::walk::Walk;
-use tunnel_keys::store::KeyStore;
 
-mod edits;
-mod homes;
 mod packets;
-mod recompiling;
 mod steps;
+mod texts;
 
 /// The network and its simulated chassis.
 #[derive(Drop)]
 pub struct World {
-    records: Records,
-    // In order of name.
-    chassis: List<Name>,
-    bindings: BTreeMap<Name, Name>,
-    keys: KeyStore,
-    // Their homes are the bindings.
-    zones: ConnZones,
+    setup: Setup,
     sim: Sim<Held>,
     // What each frame that waits is on its way for.
     crossings: BTreeMap<u128, Crossing>,
@@ -83,6 +75,16 @@ impl Model for World {
     ghost invariant = { IsSoundOnceWhole };
 }
 
+// Whether the event is an edit, a binding or a chassis.
+fn is_turn(event: &Event) -> bool
+    ensures { result ≡ is_turn event.now }
+{
+    matches!(
+        event,
+        Event::Edit(_) | Event::Bind { .. } | Event::AddChassis(_)
+    )
+}
+
 impl World {
     /// The empty world: no record, no chassis, no event.
     pub fn new(alloc: Global) -> Result<World, NoMemory>
@@ -90,11 +92,7 @@ impl World {
         ensures sound { IfOk result IsSound }
     {
         Ok(World {
-            records: Records::new(alloc)?,
-            chassis: List::new(alloc),
-            bindings: BTreeMap::new(alloc),
-            keys: KeyStore::with_ranges(alloc, MAX_DATAPATH_KEY, MAX_PORT_KEY)?,
-            zones: ConnZones::new(alloc)?,
+            setup: Setup::new(alloc)?,
             sim: Sim::new(alloc)?,
             crossings: BTreeMap::new(alloc),
             walks: List::new(alloc),
@@ -129,7 +127,7 @@ impl World {
     pub fn chassis(&self, index: usize) -> Option<&Name>
         ensures { option_copied result ≡ slice_get self.now.state.config.chassis index }
     {
-        self.chassis.as_slice().get(index)
+        self.setup.ground().chassis.as_slice().get(index)
     }
 
     /// Each flow that the chassis holds at exactly one index below their number; `None` past the last, and where no such
@@ -155,28 +153,75 @@ impl World {
         ensures { self.new ≡ record self.old { state = finished self.old.state } }
     {
         self.accepted += 1;
-        if self.crossings.is_empty() {
-            self.keys.settle();
+        let none_waits = self.crossings.is_empty();
+        if none_waits {
+            self.setup.settle();
         }
     }
 
-    // Refuses an event, which counts.
+    // Refuses an event, which counts. Without memory nothing changes.
     fn refuse(&mut self, why: &Refusal, text: &mut Vec<u8>) -> Result<(), NoMemory>
-        requires taken { IsTaken self.old }
         requires room { event_count self.old.state < 2 ^ 42 }
         ensures kept { OnOk result (self.new ≡ record self.old { state = record self.old.state { refused = self.old.state.refused + 1 }; walks = [] }) }
         ensures text { OnOk result (text.new.items ≡ text.old.items ++ refused_line (event_count self.old.state + 1) why.now) }
-        ensures taken { OnOk result (IsTaken self.new) }
-        ensures front { OnErr result (StartsWith text.new.items text.old.items) }
+        ensures same { OnErr result (self.new ≡ self.old) }
+        ensures front { OnErr result (text.new.items ≡ text.old.items) }
     {
-        refused(why, self.accepted + self.refused + 1, text)?;
+        write_refused(why, self.accepted + self.refused + 1, text)?;
         self.refused += 1;
         self.walks.clear();
         Ok(())
     }
 
-    /// Takes one event, and adds its whole text: the lines of what it did, or of why it is refused. After want of memory the
-    /// world isn't sound, and the text keeps what it held.
+    // Does what an edit, a binding or a chassis asks for that isn't refused. All that may want memory comes first.
+    fn turn(&mut self, event: &Event, text: &mut Vec<u8>) -> Result<(), NoMemory>
+        requires turn { is_turn event.now ≡ true }
+        requires sound { IsSound self.old }
+        requires room { event_count self.old.state < 2 ^ 42 }
+        requires allowed { refusal self.old.state event.now ≡ None }
+        ensures done { OnOk result (IsAccepted self.old event.now text.old.items text.new.items self.new) }
+        ensures sound { OnOk result (IsSound self.new) }
+        ensures same { OnErr result (self.new ≡ self.old) }
+        ensures front { OnErr result (text.new.items ≡ text.old.items) }
+    {
+        exact_flow();
+        let alloc = self.walks.allocator();
+        let number = self.accepted + self.refused + 1;
+        let turn = self.setup.turn(alloc, number, event)?;
+        self.sim.prepare(&turn.sim)?;
+        write_accepted(turn.effects.as_slice(), 0, number, text)?;
+        self.setup.apply(turn.patch);
+        self.sim.apply(turn.sim);
+        self.walks.clear();
+        self.accepted += 1;
+        if self.crossings.is_empty() {
+            self.setup.settle();
+        }
+        Ok(())
+    }
+
+    // Takes an edit, a binding or a chassis.
+    fn take_turn(&mut self, event: &Event, text: &mut Vec<u8>) -> Result<(), StepFault>
+        requires turn { is_turn event.now ≡ true }
+        requires sound { IsSound self.old }
+        requires room { event_count self.old.state < 2 ^ 42 }
+        ensures { Outcome result self.old event.now text.old.items text.new.items self.new }
+    {
+        match self.refusal(event)? {
+            Some(why) => {
+                self.refuse(&why, text)?;
+                Err(StepFault::Refused(why))
+            }
+            None => {
+                self.turn(event, text)?;
+                Ok(())
+            }
+        }
+    }
+
+    /// Takes one event, and adds its whole text: the lines of what it did, or of why it is refused. Without memory an edit, a
+    /// binding and a chassis change neither the world nor the text; after want of memory in any other event the world isn't
+    /// sound, and the text keeps what it held.
     pub fn step<L>(
         &mut self,
         event: &Event,
@@ -188,6 +233,9 @@ impl World {
         requires admitted { IsAdmitted event.now }
         ensures { Outcome result self.old event.now text.old.items text.new.items self.new }
     {
+        if is_turn(event) {
+            return self.take_turn(event, text);
+        }
         self.whole = false;
         match self.take(event, text) {
             Ok(()) => {
@@ -205,8 +253,9 @@ impl World {
         }
     }
 
-    // Takes an event while the world is marked as being changed.
+    // Takes an event of packets while the world is marked as being changed.
     fn take(&mut self, event: &Event, text: &mut Vec<u8>) -> Result<(), StepFault>
+        requires packet { is_turn event.now ≡ false }
         requires taken { IsTaken self.old }
         requires room { event_count self.old.state < 2 ^ 42 }
         requires admitted { IsAdmitted event.now }
@@ -221,7 +270,7 @@ impl World {
             }
             None => {
                 let done = self.accept(alloc, event)?;
-                accepted(done.effects.as_slice(), done.matched, number, text)?;
+                write_accepted(done.effects.as_slice(), done.matched, number, text)?;
                 self.walks = done.walks;
                 Ok(())
             }

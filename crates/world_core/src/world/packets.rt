@@ -73,13 +73,13 @@ impl World {
         if key == UNKNOWN_KEY {
             return Some(Aim::ToGroup(Group::Unknown));
         }
-        let Some(ports) = self.keys.ports(switch) else {
+        let Some(ports) = self.setup.ground().keys.ports(switch) else {
             return None;
         };
         let Some(name) = port_of_key(ports.list.as_slice(), key) else {
             return None;
         };
-        let Some(port) = self.records.switch_port(&name) else {
+        let Some(port) = self.setup.records().switch_port(&name) else {
             return None;
         };
         Some(Aim::ToPort(Identity {
@@ -100,10 +100,10 @@ impl World {
         requires sent { (x : Crossing) × IsSentFrom self.now.state port.now to.now bytes.now x }
         ensures { IfOk result (λ found. (x : Crossing) → IsSentFrom self.now.state port.now to.now bytes.now x → found ≡ x) }
     {
-        let Some(own) = self.records.switch_port(port) else {
+        let Some(own) = self.setup.records().switch_port(port) else {
             unreachable!()
         };
-        let Some(switch) = self.records.switch(&own.switch) else {
+        let Some(switch) = self.setup.records().switch(&own.switch) else {
             unreachable!()
         };
         let Ok(view) = read(bytes) else {

@@ -1,12 +1,11 @@
 //! The steps of a world, one for each kind of event.
-ghost use Rattle.std.specs.Prelude.{cond, ◌≡◌, ◌++◌, ◌+◌, ◌<◌, ◌^◌, [], ◌∷◌, None, Some, false, IfOk, OnOk, OnErr};
-ghost use Rattle.nb_records.specs.declared.change.Op.TheVariants.{Add};
-ghost use Rattle.nb_records.specs.declared.record.Record.TheVariants as record_of;
+ghost use Rattle.std.specs.Prelude.{cond, ◌≡◌, ◌++◌, ◌+◌, ◌<◌, ◌^◌, [], None, false, IfOk};
 ghost use Rattle.edit_reader.specs.declared.event.Event.TheVariants as event_of;
 ghost use Rattle.event_lines.specs.declared.refusal.Refusal.{Refusal};
 ghost use Rattle.world_core.specs.Admitted.{IsAdmitted};
 ghost use Rattle.world_core.specs.StepParts.{IsTaken, IsDone};
 ghost use Rattle.world_core.specs.Outcome.{matched};
+ghost use Rattle.world_core.specs.Turning.{is_turn};
 ghost use Rattle.world_core.specs.Refusing.{refusal, refusal_of_record, refusal_of_edit, refusal_of_entry, too_many_wait};
 ghost use Rattle.net_model.specs.State.{event_count};
 ghost use Rattle.net_model.specs.Config.{is_chassis};
@@ -18,7 +17,6 @@ use edit_reader::event::Event;
 use event_lines::refusal::Refusal;
 use nb_records::change::Op;
 use nb_records::record::Record;
-use nb_records::switch::{Switch, SwitchPort};
 use ovn_base::limits::{MAX_CHASSIS, MAX_DATAPATHS, MAX_WAITING};
 use ovn_base::list::{Bytes, List};
 use ovn_base::memory::NoMemory;
@@ -73,18 +71,18 @@ impl World {
     {
         match row {
             Record::Switch(switch) => {
-                if self.records.switch(&switch.name).is_some()
-                    || self.records.switches().len() >= MAX_DATAPATHS
+                if self.setup.records().switch(&switch.name).is_some()
+                    || self.setup.records().switches().len() >= MAX_DATAPATHS
                 {
                     return Some(Refusal::NotBuilt);
                 }
                 None
             }
             Record::SwitchPort(port) => {
-                if is_unbuilt_port(&self.records, port) {
+                if is_unbuilt_port(self.setup.records(), port) {
                     return Some(Refusal::NotBuilt);
                 }
-                if self.records.switch(&port.switch).is_some() {
+                if self.setup.records().switch(&port.switch).is_some() {
                     return None;
                 }
                 Some(Refusal::NoSuch(port.switch))
@@ -107,7 +105,7 @@ impl World {
     fn refusal_of_bind(&self, port: &Name, chassis: &Name) -> Option<Refusal>
         ensures { result ≡ refusal self.now.state (event_of.Bind port.now chassis.now) }
     {
-        if self.records.switch_port(port).is_none() {
+        if self.setup.records().switch_port(port).is_none() {
             return Some(Refusal::NoSuch(*port));
         }
         if !self.is_chassis(chassis) {
@@ -120,7 +118,9 @@ impl World {
     fn is_chassis(&self, chassis: &Name) -> bool
         ensures { result ≡ is_chassis self.now.state.config chassis.now }
     {
-        self.chassis
+        self.setup
+            .ground()
+            .chassis
             .as_slice()
             .iter()
             .any(|other| *other == *chassis)
@@ -133,7 +133,7 @@ impl World {
         if self.is_chassis(chassis) {
             return Some(Refusal::DuplicateName(*chassis));
         }
-        if self.chassis.len() >= MAX_CHASSIS {
+        if self.setup.ground().chassis.len() >= MAX_CHASSIS {
             return Some(Refusal::LimitChassis);
         }
         None
@@ -150,10 +150,10 @@ impl World {
     fn refusal_of_entry(&self, port: &Name) -> Option<Refusal>
         ensures { result ≡ refusal_of_entry self.now.state port.now }
     {
-        if self.records.switch_port(port).is_none() {
+        if self.setup.records().switch_port(port).is_none() {
             return Some(Refusal::NoSuch(*port));
         }
-        if self.bindings.get(port).is_none() {
+        if self.setup.ground().zones.homes().port(port).is_none() {
             return Some(Refusal::NotBuilt);
         }
         if self.too_many_wait() {
@@ -201,82 +201,6 @@ impl World {
             Event::Unread(fault) => Ok(Some(Refusal::Read(fault.copy()?))),
             Event::NotBuilt => Ok(Some(Refusal::NotBuilt)),
         }
-    }
-
-    // An added switch.
-    fn take_switch(&mut self, alloc: Global, switch: &Switch) -> Result<Done, NoMemory>
-        requires taken { IsTaken self.old }
-        requires room { event_count self.old.state < 2 ^ 42 }
-        requires admitted { refusal_of_record self.old.state.config.net (record_of.Switch switch.now) ≡ None }
-        ensures { IfOk result (λ done. IsDone self.old (event_of.Edit (Add (record_of.Switch switch.now) ∷ [])) done.effects done.walks done.matched self.new) }
-    {
-        let effects = self.add_switch(switch)?;
-        self.finish();
-        let names = self.switch_names(alloc, &switch.name)?;
-        self.recompile(alloc, List::new(alloc), names)?;
-        Ok(done_with(alloc, effects))
-    }
-
-    // An added port.
-    fn take_port(&mut self, alloc: Global, port: &SwitchPort) -> Result<Done, NoMemory>
-        requires taken { IsTaken self.old }
-        requires room { event_count self.old.state < 2 ^ 42 }
-        requires admitted { refusal_of_record self.old.state.config.net (record_of.SwitchPort port.now) ≡ None }
-        ensures { IfOk result (λ done. IsDone self.old (event_of.Edit (Add (record_of.SwitchPort port.now) ∷ [])) done.effects done.walks done.matched self.new) }
-    {
-        let effects = self.add_port(port)?;
-        self.finish();
-        let names = self.port_names(alloc, &port.switch, &port.name)?;
-        self.recompile(alloc, List::new(alloc), names)?;
-        Ok(done_with(alloc, effects))
-    }
-
-    // An edit of one operation.
-    fn take_edit(&mut self, alloc: Global, ops: &[Op]) -> Result<Done, NoMemory>
-        requires taken { IsTaken self.old }
-        requires room { event_count self.old.state < 2 ^ 42 }
-        requires refused { refusal_of_edit self.old.state.config.net ops.now ≡ None }
-        ensures { IfOk result (λ done. IsDone self.old (event_of.Edit ops.now) done.effects done.walks done.matched self.new) }
-    {
-        match ops {
-            [Op::Add(Record::Switch(switch))] => {
-                let done = self.take_switch(alloc, switch)?;
-                Ok(done)
-            }
-            [Op::Add(Record::SwitchPort(port))] => {
-                let done = self.take_port(alloc, port)?;
-                Ok(done)
-            }
-            _ => unreachable!(),
-        }
-    }
-
-    // A chassis.
-    fn take_chassis(&mut self, alloc: Global, chassis: Name) -> Result<Done, NoMemory>
-        requires taken { IsTaken self.old }
-        requires room { event_count self.old.state < 2 ^ 42 }
-        requires admitted { refusal self.old.state (event_of.AddChassis chassis) ≡ None }
-        ensures { IfOk result (λ done. IsDone self.old (event_of.AddChassis chassis) done.effects done.walks done.matched self.new) }
-    {
-        self.add_chassis(chassis)?;
-        self.finish();
-        self.recompile(alloc, List::new(alloc), List::new(alloc))?;
-        Ok(done_with(alloc, List::new(alloc)))
-    }
-
-    // A binding.
-    fn take_binding(&mut self, alloc: Global, port: Name, chassis: Name) -> Result<Done, NoMemory>
-        requires taken { IsTaken self.old }
-        requires room { event_count self.old.state < 2 ^ 42 }
-        requires admitted { refusal self.old.state (event_of.Bind port chassis) ≡ None }
-        ensures { IfOk result (λ done. IsDone self.old (event_of.Bind port chassis) done.effects done.walks done.matched self.new) }
-    {
-        self.bind(alloc, port, chassis)?;
-        self.finish();
-        let mut bound = List::new(alloc);
-        bound.push((port, Some(chassis)))?;
-        self.recompile(alloc, bound, List::new(alloc))?;
-        Ok(done_with(alloc, List::new(alloc)))
     }
 
     // A packet that enters, whose frames wait.
@@ -345,8 +269,9 @@ impl World {
         Ok(done_from(out))
     }
 
-    /// Does what an event asks for that is not refused.
+    /// Does what an event of packets asks for that is not refused.
     pub(super) fn accept(&mut self, alloc: Global, event: &Event) -> Result<Done, NoMemory>
+        requires packet { is_turn event.now ≡ false }
         requires taken { IsTaken self.old }
         requires room { event_count self.old.state < 2 ^ 42 }
         requires refused { refusal self.old.state event.now ≡ None }
@@ -354,16 +279,17 @@ impl World {
         ensures { IfOk result (λ done. IsDone self.old event.now done.effects done.walks done.matched self.new) }
     {
         match event {
-            Event::Edit(ops) => self.take_edit(alloc, ops.as_slice()),
-            Event::Bind { port, chassis } => self.take_binding(alloc, *port, *chassis),
-            Event::AddChassis(chassis) => self.take_chassis(alloc, *chassis),
             Event::Inject { port, frame } => self.take_entry(alloc, port, frame),
             Event::Deliver { frame } => self.take_arrival(alloc, *frame, false),
             Event::Lose { frame } => Ok(self.take_loss(alloc, *frame)),
             Event::Repeat { frame } => self.take_arrival(alloc, *frame, true),
             Event::Drain => self.take_drain(alloc),
             Event::Packet { port, frame } => self.take_packet(alloc, port, frame),
-            Event::Unread(_) | Event::NotBuilt => unreachable!(),
+            Event::Edit(_)
+            | Event::Bind { .. }
+            | Event::AddChassis(_)
+            | Event::Unread(_)
+            | Event::NotBuilt => unreachable!(),
         }
     }
 }

@@ -16,7 +16,7 @@ returns-in-Some-clause-replaced g c =
     let written = c.get_mut.follows.holds c.replace.new.self in
     let updates = written.3 (is_found _ c.in-Some.tables.now (sym c.in-Some.ensures.value)) in
     let after = seen_found flows (c.get_mut.follows.lender c.replace.new.self).entries name c.replace.new.self updates.1 in
-    subst (λ found. AreReplaced (Some c.args.delta) found (at_name (flows_held flows (c.get_mut.follows.lender c.replace.new.self).entries) name)) (sym before) (flows c.replace.new.self, after, c.replace.ensures)
+    subst (λ found. AreReplaced (Some c.args.delta) found (at_name (flows_held flows (c.get_mut.follows.lender c.replace.new.self).entries) name)) (sym before) (flows c.replace.new.self, after, c.replace.ensures, c.flow-first.ensures.once)
 
 pub returns-in-Some-clause-others : goal.returns-in-Some-clause-others
 returns-in-Some-clause-others g c other apart =

@@ -1,0 +1,121 @@
+-- Which units have rows, and what the rows follow from.
+use Rattle.std.specs.Prelude.{◌≡◌, ◌++◌, ℕ, Bool, true, false, List, [], ◌∷◌, map, Option, Some, None, refl}
+use mathlib.Core.Path.{sym, ap, subst, ◌∙◌}
+use mathlib.Core.Logic.{inl, inr}
+use Rattle.std.proofs.lemmas.Bool.{false≢true}
+use Rattle.ovn_base.specs.lists.Among.{Among, here, there}
+use Rattle.ovn_base.specs.lists.Once.{EachOnce}
+use Rattle.ovn_base.specs.names.ByName.{at}
+use Rattle.ovn_base.specs.declared.name.Name.{Name}
+use Rattle.ovn_base.proofs.AmongLaws.{among_append, among_left, among_right, among_map, among_none, map_among}
+use Rattle.ovn_base.proofs.ByNameLaws.{at_among}
+use Rattle.ovn_base.proofs.OnceLaws.{once_append, once_named}
+use Rattle.flow_table.specs.declared.flow.Flow.{Flow}
+use Rattle.nb_records.specs.declared.switch.Switch.{Switch}
+use Rattle.nb_records.specs.declared.switch.SwitchPort.{SwitchPort}
+use Rattle.physical_flows.specs.declared.unit.FlowUnit.{FlowUnit}
+use Rattle.physical_flows.specs.declared.unit.FlowUnit.TheVariants as unit
+use Rattle.physical_flows.specs.Numbers.{datapath_number}
+use Rattle.physical_flows.specs.Stages.{Basis}
+use Rattle.physical_flows.specs.UnitFlows.{HaveRows}
+use Rattle.physical_flows.specs.Units.{switch_everywhere, switch_here, port_everywhere, port_here, rows_everywhere, unit_rows, ChangeOnly, all_units, no_rows}
+use Rattle.physical_flows.specs.Valid.{IsValid}
+
+-- ---- the units of the records
+
+module _ (b : Basis) where
+  abbrev switch_units : List FlowUnit
+  switch_units = map (λ (e : Name × Switch). unit.Switch e.0) b.net.switches
+
+  abbrev port_units : List FlowUnit
+  port_units = map (λ (e : Name × SwitchPort). unit.Port e.0) b.net.switch_ports
+
+  switch_there : (a : Name) (o : Option Switch) → at b.net.switches a ≡ o → (f : Flow) → Among f (switch_everywhere b a o (datapath_number b.keys a) ++ switch_here b a o (datapath_number b.keys a))
+      → Among (unit.Switch a) (all_units b.net)
+  switch_there a None is f m = absurd (among_none f m)
+  switch_there a (Some switch) is f m =
+      there (among_left (unit.Switch a) switch_units port_units (among_map (λ (e : Name × Switch). unit.Switch e.0) (a, switch) b.net.switches (at_among b.net.switches a switch is)))
+
+  port_there : (q : Name) (o : Option SwitchPort) → at b.net.switch_ports q ≡ o → (f : Flow) → Among f (port_everywhere b q o ++ port_here b q o) → Among (unit.Port q) (all_units b.net)
+  port_there q None is f m = absurd (among_none f m)
+  port_there q (Some port) is f m =
+      there (among_right (unit.Port q) switch_units port_units (among_map (λ (e : Name × SwitchPort). unit.Port e.0) (q, port) b.net.switch_ports (at_among b.net.switch_ports q port is)))
+
+  -- a unit that has a row is one of the records
+  pub unit_there : (u : FlowUnit) (f : Flow) → Among f (unit_rows b u) → Among u (all_units b.net)
+  unit_there unit.Common f m = here
+  unit_there (unit.Switch a) f m = switch_there a (at b.net.switches a) refl f m
+  unit_there (unit.Port q) f m = port_there q (at b.net.switch_ports q) refl f m
+
+  -- so all others have none
+  pub all_units_change : ChangeOnly (all_units b.net) no_rows (unit_rows b)
+  all_units_change u out = by (unit_rows b u) refl
+    where
+      by : (rows : List Flow) → unit_rows b u ≡ rows → unit_rows b u ≡ []
+      by [] e = e
+      by (f ∷ rows) e = absurd (out (unit_there u f (subst (λ fs. Among f fs) (sym e) here)))
+
+-- ---- each once
+
+abbrev name_in : FlowUnit → Name
+name_in unit.Common = []
+name_in (unit.Switch a) = a
+name_in (unit.Port q) = q
+
+abbrev is_common : FlowUnit → Bool
+is_common unit.Common = true
+is_common (unit.Switch a) = false
+is_common (unit.Port q) = false
+
+abbrev is_switch : FlowUnit → Bool
+is_switch unit.Common = false
+is_switch (unit.Switch a) = true
+is_switch (unit.Port q) = false
+
+module _ (b : Basis) where
+  is_listed : (u : FlowUnit) → Among u (switch_units b ++ port_units b) → is_common u ≡ false
+  is_listed u m = elim (among_append u (switch_units b) (port_units b) m) [
+    | inl a ↦ ap is_common (map_among (λ (e : Name × Switch). unit.Switch e.0) u b.net.switches a).2
+    | inr p ↦ ap is_common (map_among (λ (e : Name × SwitchPort). unit.Port e.0) u b.net.switch_ports p).2
+  ]
+
+  -- no switch is a port
+  units_apart : (u : FlowUnit) → Among u (switch_units b) → ¬ Among u (port_units b)
+  units_apart u m n =
+      let switch = map_among (λ (e : Name × Switch). unit.Switch e.0) u b.net.switches m in
+      let port = map_among (λ (e : Name × SwitchPort). unit.Port e.0) u b.net.switch_ports n in
+      false≢true (sym (ap is_switch port.2) ∙ ap is_switch switch.2)
+
+  pub all_units_once : IsValid b.net → EachOnce (all_units b.net)
+  all_units_once valid = (
+    λ m. false≢true (sym (is_listed unit.Common m)),
+    once_append (switch_units b) (port_units b)
+        (once_named (λ (e : Name × Switch). unit.Switch e.0) (λ d e same. ap name_in same) b.net.switches valid.switches_sorted)
+        (once_named (λ (e : Name × SwitchPort). unit.Port e.0) (λ d e same. ap name_in same) b.net.switch_ports valid.ports_sorted)
+        units_apart,
+  )
+
+-- where no unit has a row, none is held
+pub none_have : HaveRows no_rows no_rows
+none_have u f = (λ m. m, λ m. m)
+
+-- ---- on every chassis
+
+module _ (b : Basis) (c : Name) where
+  abbrev elsewhere : Basis
+  elsewhere = record b { chassis = c }
+
+  switch_alike : (a : Name) (o : Option Switch) (number : Option ℕ) → switch_everywhere elsewhere a o number ≡ switch_everywhere b a o number
+  switch_alike a None number = refl
+  switch_alike a (Some switch) None = refl
+  switch_alike a (Some switch) (Some dp) = refl
+
+  port_alike : (q : Name) (o : Option SwitchPort) → port_everywhere elsewhere q o ≡ port_everywhere b q o
+  port_alike q None = refl
+  port_alike q (Some port) = refl
+
+  -- these rows don't follow from the chassis
+  pub everywhere_alike : (u : FlowUnit) → rows_everywhere (record b { chassis = c }) u ≡ rows_everywhere b u
+  everywhere_alike unit.Common = refl
+  everywhere_alike (unit.Switch a) = switch_alike a (at b.net.switches a) (datapath_number b.keys a)
+  everywhere_alike (unit.Port q) = port_alike q (at b.net.switch_ports q)

@@ -1,0 +1,243 @@
+-- What the rows of a unit follow from: where that stays the same, so do the rows. And which numbers an event leaves.
+use Rattle.std.specs.Prelude.{◌≡◌, ◌≢◌, ℕ, Bool, true, false, ◌&&◌, ◌||◌, not, cond, nat_lt, List, [], ◌∷◌, ◌++◌, length, map, filter, Option, Some, None, is_some, unwrap_or, refl}
+use Rattle.std.specs.List.{list_any}
+use Rattle.std.specs.Option.{option_map}
+use mathlib.Core.Path.{sym, ap, ◌∙◌}
+use mathlib.Core.Logic.{inl, inr}
+use Rattle.std.proofs.lemmas.Bool.{false≢true}
+use Rattle.std.proofs.lemmas.Option.{none-some, same_Some}
+use Rattle.ovn_base.specs.lists.Among.{Among, here, there}
+use Rattle.ovn_base.specs.names.ByName.{at}
+use Rattle.ovn_base.specs.names.SameName.{bytes_decides, same_name}
+use Rattle.ovn_base.specs.declared.address.Birth.{Birth}
+use Rattle.ovn_base.specs.declared.name.Name.{Name}
+use Rattle.ovn_base.proofs.ByNameLaws.{one_or_two, at_tail}
+use Rattle.conn_zones.specs.Rezoning.{IsRezoned, is_home_on}
+use Rattle.conn_zones.specs.Zoning.{Zoned, IsZoned, home_for, number_on}
+use Rattle.conn_zones.specs.declared.numbers.ZoneUse.{ZoneUse}
+use Rattle.conn_zones.specs.declared.numbers.ZoneUse.TheVariants as zone_use
+use Rattle.flow_table.specs.declared.flow.Flow.{Flow}
+use Rattle.nb_records.specs.declared.switch.Switch.{Switch}
+use Rattle.nb_records.specs.declared.switch.SwitchPort.{SwitchPort}
+use Rattle.tunnel_keys.specs.Edits.{GivesKeysAfter}
+use Rattle.tunnel_keys.specs.Keys.{Keys}
+use Rattle.tunnel_keys.specs.Owners.{name_in}
+use Rattle.tunnel_keys.specs.declared.owner.DatapathKey.{DatapathKey}
+use Rattle.tunnel_keys.specs.declared.owner.KeyOwner.TheVariants.{Datapath, Port}
+use Rattle.tunnel_keys.specs.declared.owner.PortKey.{PortKey}
+use Rattle.tunnel_keys.proofs.OwnerLaws.{not_port, the_one}
+use Rattle.net_model.specs.declared.crossing.Group.{Group}
+use Rattle.net_model.specs.declared.crossing.Group.TheVariants.{Flood, Unknown}
+use Rattle.physical_flows.specs.declared.unit.FlowUnit.{FlowUnit}
+use Rattle.physical_flows.specs.declared.unit.FlowUnit.TheVariants as unit
+use Rattle.physical_flows.specs.Homes.{is_home, is_at, members, other_homes}
+use Rattle.physical_flows.specs.Numbers.{datapath_number, port_number}
+use Rattle.physical_flows.specs.Stages.{Basis, zone_of, member_of, members_here, homes_of, has_unknown}
+use Rattle.physical_flows.specs.TableList.{ingress_rows, egress_rows, group_rows, bound_rows}
+use Rattle.physical_flows.specs.Units.{switch_everywhere, switch_here, keyed_everywhere, keyed_here, port_everywhere, port_here, unit_rows, ChangeOnly}
+use Rattle.physical_flows.proofs.FlowSearch.{is_some_of}
+
+-- ---- lists
+
+-- tests that agree on all elements find the same
+pub any_same : {X : Type 0} (f g : X → Bool) (xs : List X) → ((x : X) → Among x xs → f x ≡ g x) → list_any f xs ≡ list_any g xs
+any_same f g [] same = refl
+any_same f g (x ∷ xs) same =
+    let first = same x here in
+    let rest = any_same f g xs (λ y m. same y (there m)) in
+    λ i. first i || rest i
+
+-- and keep the same, whose images are the same where each has one image
+pub images_same : {X Y : Type 0} (f g : X → Y) (s t : X → Bool) (xs : List X) → ((x : X) → Among x xs → f x ≡ g x) → ((x : X) → Among x xs → s x ≡ t x) → map f (filter s xs) ≡ map g (filter t xs)
+images_same f g s t [] images tests = refl
+images_same f g s t (x ∷ xs) images tests =
+    ap (λ b. map f (cond b (x ∷ filter s xs) (filter s xs))) (tests x here) ∙ by (t x) (images_same f g s t xs (λ y m. images y (there m)) (λ y m. tests y (there m)))
+  where
+    by : (b : Bool) → map f (filter s xs) ≡ map g (filter t xs) → map f (cond b (x ∷ filter s xs) (filter s xs)) ≡ map g (cond b (x ∷ filter t xs) (filter t xs))
+    by true rest = let image = images x here in λ i. image i ∷ rest i
+    by false rest = rest
+
+-- ---- what the rows follow from
+
+-- a port has the number of its key, its home, and the number of its zone on the chassis, as before
+pub record IsSameMember (before after : Basis) (q : Name) : Type 0 where
+  pub number : port_number after.keys q ≡ port_number before.keys q
+  pub home : at after.bindings q ≡ at before.bindings q
+  pub zone : zone_of after q ≡ zone_of before q
+
+-- what the rows of a port follow from is the same: its record, the number of its switch's key, and what it has as a member
+pub record IsSamePort (before after : Basis) (q : Name) : Type 0 where
+  pub chassis : after.chassis ≡ before.chassis
+  pub entry : at after.net.switch_ports q ≡ at before.net.switch_ports q
+  pub beneath : (port : SwitchPort) → at before.net.switch_ports q ≡ Some port → datapath_number after.keys port.switch ≡ datapath_number before.keys port.switch
+  pub own : IsSameMember before after q
+
+-- what the rows of a switch follow from is the same: whether it is there, the number of its key, the members of its groups, what each
+-- of these has, and the other chassis where one of them is at home
+pub record IsSameSwitch (before after : Basis) (a : Name) : Type 0 where
+  pub chassis : after.chassis ≡ before.chassis
+  pub entry : is_some (at after.net.switches a) ≡ is_some (at before.net.switches a)
+  pub number : datapath_number after.keys a ≡ datapath_number before.keys a
+  pub in_group : (group : Group) → members after.net a group ≡ members before.net a group
+  pub each : (group : Group) (q : Name) → Among q (members before.net a group) → IsSameMember before after q
+  pub homes : (group : Group) → other_homes before.net before.bindings after.all a group before.chassis ≡ homes_of before a group
+
+-- ---- ports
+
+module _ (before after : Basis) (q : Name) (same : IsSamePort before after q) where
+  keyed_same : (dp key : Option ℕ) → keyed_here after q dp key ≡ keyed_here before q dp key
+  keyed_same None key = refl
+  keyed_same (Some dp) None = refl
+  keyed_same (Some dp) (Some key) =
+      let chassis = same.chassis in
+      let home = same.own.home in
+      let zone = same.own.zone in
+      λ i. bound_rows (chassis i) (home i) (zone i) dp q key
+
+  abbrev rows_of : Basis → Option SwitchPort → List Flow
+  rows_of b o = port_everywhere b q o ++ port_here b q o
+
+  entry_same : (o : Option SwitchPort) → at before.net.switch_ports q ≡ o → rows_of after o ≡ rows_of before o
+  entry_same None is = refl
+  entry_same (Some port) is =
+      let dp = same.beneath port is in
+      let key = same.own.number in
+      (λ i. keyed_everywhere q port (dp i) (key i) ++ keyed_here after q (dp i) (key i))
+      ∙ ap (λ rows. keyed_everywhere q port (datapath_number before.keys port.switch) (port_number before.keys q) ++ rows) (keyed_same (datapath_number before.keys port.switch) (port_number before.keys q))
+
+  pub port_same : unit_rows after (unit.Port q) ≡ unit_rows before (unit.Port q)
+  port_same = ap (λ o. rows_of after o) same.entry ∙ entry_same (at before.net.switch_ports q) refl
+
+-- ---- switches
+
+module _ (before after : Basis) (a : Name) (same : IsSameSwitch before after a) where
+  module _ (group : Group) where
+    members_same : members_here after a group ≡ members_here before a group
+    members_same =
+        ap (λ ms. map (λ q. member_of after q) (filter (λ q. is_at after.bindings q after.chassis) ms)) (same.in_group group)
+        ∙ images_same (λ q. member_of after q) (λ q. member_of before q) (λ q. is_at after.bindings q after.chassis) (λ q. is_at before.bindings q before.chassis) (members before.net a group)
+        (λ q m. let own = same.each group q m in let number = own.number in let zone = own.zone in λ i. record { key = unwrap_or (number i) 0; zone = unwrap_or (zone i) 0 })
+        (λ q m. let own = same.each group q m in let home = own.home in let chassis = same.chassis in λ i. is_home (home i) (chassis i))
+
+    bound_same : (c : Name) → list_any (λ q. is_at after.bindings q c) (members before.net a group) ≡ list_any (λ q. is_at before.bindings q c) (members before.net a group)
+    bound_same c = any_same (λ q. is_at after.bindings q c) (λ q. is_at before.bindings q c) (members before.net a group) (λ q m. ap (λ o. is_home o c) (same.each group q m).home)
+
+    homes_same : homes_of after a group ≡ homes_of before a group
+    homes_same =
+        let chassis = same.chassis in
+        ap (λ ms. filter (λ c. not (same_name c after.chassis) && list_any (λ q. is_at after.bindings q c) ms) after.all) (same.in_group group)
+        ∙ (λ i. filter (λ c. not (same_name c (chassis i)) && bound_same c i) after.all)
+        ∙ same.homes group
+
+    groups_same : (dp : ℕ) → group_rows dp group (homes_of after a group) (members_here after a group) ≡ group_rows dp group (homes_of before a group) (members_here before a group)
+    groups_same dp = λ i. group_rows dp group (homes_same i) (members_same i)
+
+  abbrev switch_rows_of : Basis → Option Switch → Option ℕ → List Flow
+  switch_rows_of b o number = switch_everywhere b a o number ++ switch_here b a o number
+
+  switches_same : (o p : Option Switch) (number : Option ℕ) → is_some o ≡ is_some p → switch_rows_of after o number ≡ switch_rows_of before p number
+  switches_same None None number e = refl
+  switches_same None (Some p) number e = absurd (false≢true e)
+  switches_same (Some o) None number e = absurd (false≢true (sym e))
+  switches_same (Some o) (Some p) None e = refl
+  switches_same (Some o) (Some p) (Some dp) e =
+      let taken : has_unknown after a ≡ has_unknown before a = ap (λ ms. nat_lt 0 (length ms)) (same.in_group Unknown) in
+      λ i. (ingress_rows dp (taken i) ++ egress_rows dp) ++ groups_same Flood dp i ++ groups_same Unknown dp i
+
+  pub switch_same : unit_rows after (unit.Switch a) ≡ unit_rows before (unit.Switch a)
+  switch_same =
+      ap (λ n. switch_rows_of after (at after.net.switches a) n) same.number
+      ∙ switches_same (at after.net.switches a) (at before.net.switches a) (datapath_number before.keys a) same.entry
+
+-- ---- all units
+
+-- it is enough that this stays so for the switches and the ports that aren't among the units
+pub only_these : (before after : Basis) (units : List FlowUnit) → ((a : Name) → (¬ Among (unit.Switch a) units) → IsSameSwitch before after a)
+    → ((q : Name) → (¬ Among (unit.Port q) units) → IsSamePort before after q) → ChangeOnly units (unit_rows before) (unit_rows after)
+only_these before after units switches ports = λ u out. by u out
+  where
+    by : (u : FlowUnit) → (¬ Among u units) → unit_rows after u ≡ unit_rows before u
+    by unit.Common out = refl
+    by (unit.Switch a) out = switch_same before after a (switches a out)
+    by (unit.Port q) out = port_same before after q (ports q out)
+
+-- ---- the numbers of zones, where a port is bound
+
+-- who isn't at home on a chassis has no number there
+none_elsewhere : (zoned : Zoned) → IsZoned zoned → (c : Name) (zone : ZoneUse) → (¬ (home_for zoned.homes zone ≡ Some c)) → number_on zoned.numbers c zone ≡ None
+none_elsewhere zoned hold c zone away = by (number_on zoned.numbers c zone) refl
+  where
+    by : (o : Option ℕ) → number_on zoned.numbers c zone ≡ o → number_on zoned.numbers c zone ≡ None
+    by None is = is
+    by (Some n) is = absurd (away ((hold.at_home c zone).1 (is_some_of (number_on zoned.numbers c zone) n is)))
+
+module _ (before after : Zoned) (q home : Name) (hold : IsZoned before) (rezoned : IsRezoned before (record { ports = (q, Some home) ∷ []; routers = [] }) after) (p : Name) (apart : p ≢ q) where
+  abbrev new_home : Name × Option Name
+  new_home = (q, Some home)
+
+  home_kept : at after.homes.ports p ≡ at before.homes.ports p
+  home_kept = rezoned.homes.ports.homes p ∙ ap (λ o. unwrap_or o (at before.homes.ports p)) (at_tail new_home [] p apart)
+
+  module _ (c : Name) where
+    neither : (¬ (at after.homes.ports p ≡ Some c)) → number_on after.numbers c (zone_use.Port p) ≡ number_on before.numbers c (zone_use.Port p)
+    neither away = none_elsewhere after rezoned.zoned c (zone_use.Port p) away ∙ sym (none_elsewhere before hold c (zone_use.Port p) (λ was. away (home_kept ∙ was)))
+
+    stays : at after.homes.ports p ≡ Some c → (is_home_on (at before.homes.ports p) c && true) ≡ true
+    stays is = ap (λ o. is_home_on o c && true) (sym home_kept ∙ is) ∙ ap (λ b. b && true) ((bytes_decides c c).1 refl)
+
+    -- the zones of the other ports keep their numbers on each chassis
+    pub number_kept : number_on after.numbers c (zone_use.Port p) ≡ number_on before.numbers c (zone_use.Port p)
+    number_kept = by (at after.homes.ports p) refl
+      where
+        by : (o : Option Name) → at after.homes.ports p ≡ o → number_on after.numbers c (zone_use.Port p) ≡ number_on before.numbers c (zone_use.Port p)
+        by None is = neither (λ has. none-some c (sym is ∙ has))
+        by (Some h) is = elim (one_or_two h c) [
+          | inl same ↦ let has = is ∙ ap (λ n. Some n) same in rezoned.stay c (zone_use.Port p) has (stays has)
+          | inr other ↦ neither (λ has. other (same_Some h c (sym is ∙ has)))
+        ]
+
+-- ---- the numbers of keys, where a switch or a port gets one
+
+-- a look-up that finds what it found, and nothing else
+same_found : {X : Type 0} (o p : Option X) → ((x : X) → o ≡ Some x → p ≡ Some x) → ((x : X) → p ≡ Some x → o ≡ Some x) → p ≡ o
+same_found (Some x) p kept no_other = kept x refl
+same_found None None kept no_other = refl
+same_found None (Some x) kept no_other = absurd (none-some x (no_other x refl))
+
+module _ (keys after : Keys) (a : Name) (birth : Birth) (gives : GivesKeysAfter keys (Datapath a birth ∷ []) after) where
+  -- a switch that gets a key leaves the numbers of the other switches
+  pub switch_leaves_datapaths : (x : Name) → x ≢ a → datapath_number after x ≡ datapath_number keys x
+  switch_leaves_datapaths x apart =
+      ap (λ (o : Option DatapathKey). option_map (λ d. d.key) o)
+      (same_found (at keys.datapaths x) (at after.datapaths x) (λ d is. gives.datapath_kept x d is) (λ d is. elim (gives.datapath_cases x d is) [
+        | inl old ↦ old
+        | inr new ↦ absurd (apart (ap name_in (the_one (Datapath x d.birth) (Datapath a birth) new)))
+      ]))
+
+  -- and those of all ports
+  pub switch_leaves_ports : (p : Name) → port_number after p ≡ port_number keys p
+  switch_leaves_ports p =
+      ap (λ (o : Option PortKey). option_map (λ k. k.key) o)
+      (same_found (at keys.ports p) (at after.ports p) (λ k is. gives.port_kept p k is) (λ k is. elim (gives.port_cases p k is) [
+        | inl old ↦ old
+        | inr new ↦ absurd (not_port a birth k.datapath p k.birth (sym (the_one (Port k.datapath p k.birth) (Datapath a birth) new)))
+      ]))
+
+module _ (keys after : Keys) (s q : Name) (birth : Birth) (gives : GivesKeysAfter keys (Port s q birth ∷ []) after) where
+  -- a port that gets a key leaves the numbers of all switches
+  pub port_leaves_datapaths : (x : Name) → datapath_number after x ≡ datapath_number keys x
+  port_leaves_datapaths x =
+      ap (λ (o : Option DatapathKey). option_map (λ d. d.key) o)
+      (same_found (at keys.datapaths x) (at after.datapaths x) (λ d is. gives.datapath_kept x d is) (λ d is. elim (gives.datapath_cases x d is) [
+        | inl old ↦ old
+        | inr new ↦ absurd (not_port x d.birth s q birth (the_one (Datapath x d.birth) (Port s q birth) new))
+      ]))
+
+  -- and those of the other ports
+  pub port_leaves_ports : (p : Name) → p ≢ q → port_number after p ≡ port_number keys p
+  port_leaves_ports p apart =
+      ap (λ (o : Option PortKey). option_map (λ k. k.key) o)
+      (same_found (at keys.ports p) (at after.ports p) (λ k is. gives.port_kept p k is) (λ k is. elim (gives.port_cases p k is) [
+        | inl old ↦ old
+        | inr new ↦ absurd (apart (ap name_in (the_one (Port k.datapath p k.birth) (Port s q birth) new)))
+      ]))

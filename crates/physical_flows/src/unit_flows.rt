@@ -1,0 +1,114 @@
+//! The flows of one chassis, unit by unit.
+ghost use Rattle.std.specs.Prelude.{◌≡◌, List, IfOk};
+ghost use Rattle.std.specs.List.{AllByRecursion};
+ghost use Rattle.std.specs.Map.{keys_of};
+ghost use Rattle.ovn_base.specs.lists.Once.{EachOnce};
+ghost use Rattle.flow_table.specs.declared.flow.Flow.{Flow};
+ghost use Rattle.physical_flows.specs.declared.unit.FlowUnit.{FlowUnit};
+ghost use Rattle.physical_flows.specs.Compiling.{basis_of};
+ghost use Rattle.physical_flows.specs.RecordKeys.{HaveKeys};
+ghost use Rattle.flow_refs.specs.Store.{IsPreparedFor};
+ghost use Rattle.physical_flows.specs.UnitFlows.{HaveRows, IsTablePatch, rows_held, same_flow, unit_order};
+ghost use Rattle.physical_flows.specs.Units.{ChangeOnly, no_rows, rows_everywhere, unit_rows};
+ghost use Rattle.physical_flows.specs.Valid.{IsValid};
+
+use crate::compile::Maps;
+use crate::unit::{FlowUnit, exact_unit};
+use flow_refs::patch::Patch;
+use flow_refs::shared::Shared;
+use flow_table::exact::{exact_flow, exact_flow_clone};
+use flow_table::flow::Flow;
+use ovn_base::delta::Delta;
+use ovn_base::list::List;
+use ovn_base::memory::NoMemory;
+use std::alloc::Global;
+use std::marker::Model;
+
+/// The flows of one chassis, each with the units that have it.
+#[derive(Drop)]
+pub struct UnitFlows {
+    store: Shared<Flow, FlowUnit>,
+}
+
+impl Model for UnitFlows {
+    ghost use Rattle.physical_flows.specs.UnitFlows.{UnitStore};
+
+    ghost Value = { UnitStore };
+
+    ghost view = { λ s. s.store };
+}
+
+/// New rows of some units on one chassis, made by [`UnitFlows::prepare`] and put into force by [`UnitFlows::apply`].
+#[derive(Drop)]
+pub struct TablePatch {
+    patch: Patch<Flow, FlowUnit>,
+}
+
+impl Model for TablePatch {
+    ghost use Rattle.flow_refs.specs.Store.{Prepared};
+    ghost use Rattle.flow_table.specs.declared.flow.Flow.{Flow};
+    ghost use Rattle.physical_flows.specs.declared.unit.FlowUnit.{FlowUnit};
+
+    ghost Value = { Prepared Flow FlowUnit };
+
+    ghost view = { λ p. p.patch };
+}
+
+impl TablePatch {
+    /// The flows that come and that go: the delta that `apply` will answer.
+    pub fn delta(&self) -> &Delta<Flow>
+        ensures { result.now ≡ self.now.delta }
+    {
+        self.patch.delta()
+    }
+}
+
+impl UnitFlows {
+    /// No unit has a flow.
+    pub fn new(alloc: Global) -> Result<UnitFlows, NoMemory>
+        ensures { IfOk result (λ held. rows_held held ≡ no_rows) }
+    {
+        Ok(UnitFlows {
+            store: Shared::new(alloc)?,
+        })
+    }
+
+    /// Makes all ready for some units to have their rows on the chassis of the maps. `everywhere` are these units, each with
+    /// those of its rows that are the same on every chassis. What each unit has stays.
+    pub fn prepare(
+        &mut self,
+        alloc: Global,
+        maps: &Maps<'_>,
+        everywhere: &[(FlowUnit, List<Flow>)],
+    ) -> Result<TablePatch, NoMemory>
+        requires valid { IsValid (basis_of maps.now).net }
+        requires keys { HaveKeys (basis_of maps.now).net (basis_of maps.now).keys }
+        requires once { EachOnce (keys_of everywhere.now) }
+        requires everywhere { AllByRecursion (λ e. e.1 ≡ rows_everywhere (basis_of maps.now) e.0) everywhere.now }
+        ensures kept { rows_held self.new ≡ rows_held self.old }
+        ensures prepared { IfOk result (λ patch. (before : FlowUnit → List Flow) → HaveRows before (rows_held self.old)
+            → ChangeOnly (keys_of everywhere.now) before (unit_rows (basis_of maps.now)) → IsTablePatch before (unit_rows (basis_of maps.now)) self.new patch) }
+    {
+        exact_flow();
+        exact_flow_clone();
+        exact_unit();
+        let mut changes = List::new(alloc);
+        'units: for (unit, rows) in everywhere {
+            let all = maps.rows_of(alloc, unit, rows)?;
+            changes.push((*unit, all))?;
+        }
+        let patch = self.store.prepare(changes)?;
+        Ok(TablePatch { patch })
+    }
+
+    /// Gives the units of a patch their rows, which was prepared for what is held. Answers the flows that come and that go. It
+    /// takes no memory.
+    pub fn apply(&mut self, patch: TablePatch) -> Delta<Flow>
+        requires { IsPreparedFor same_flow unit_order self.old patch }
+        ensures leads { (before after : FlowUnit → List Flow) → IsTablePatch before after self.old patch → HaveRows after (rows_held self.new) }
+        ensures shown { result ≡ patch.delta }
+    {
+        let TablePatch { patch } = patch;
+        self.store.apply(patch)
+    }
+}

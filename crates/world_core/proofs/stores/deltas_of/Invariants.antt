@@ -1,0 +1,6 @@
+use Rattle.std.proofs.Common.{◌≡◌, map, take}
+use Rattle.world_core.proofs.stores.deltas_of.Given as goal
+
+-- the deltas so far
+abbrev pub invariant-patches : goal.invariant-patches
+invariant-patches l = l.deltas ≡ map (λ p. (p.0, p.1.delta)) (take l.name-index l.patches)

@@ -1,0 +1,67 @@
+-- What is prepared for an event that is a turn of the configuration: an edit, a binding or a chassis.
+use Rattle.std.specs.Prelude.{◌≡◌, ◌+◌, ◌<◌, ◌^◌, ℕ, Bool, true, false, List, None, map}
+use Rattle.ovn_base.specs.declared.name.Name.{Name}
+use Rattle.ovn_base.specs.names.ByName.{at}
+use Rattle.ovn_base.specs.names.SameName.{same_name}
+use Rattle.chassis_sim.specs.Changing.{given_name}
+use Rattle.chassis_sim.specs.Settings.{AreSet, set_in_turn}
+use Rattle.chassis_sim.specs.State.{SimState, same_pair}
+use Rattle.chassis_sim.specs.declared.change.SimChange.{SimChange}
+use Rattle.conn_zones.specs.Zoning.{Zoned}
+use Rattle.edit_reader.specs.declared.event.Event.{Event}
+use Rattle.edit_reader.specs.declared.event.Event.TheVariants.{Edit, Bind, AddChassis, Inject, Deliver, Lose, Repeat, Drain, Packet, Unread, NotBuilt}
+use Rattle.net_model.specs.State.{State, event_count, finished}
+use Rattle.sim_laws.specs.Consistent.{IsConsistent}
+use Rattle.sim_laws.specs.Held.{HaveOwnersNames, frame_of_crossing}
+use Rattle.switch_engine.specs.declared.effect.NetEffect.{NetEffect}
+use Rattle.tuple_space.specs.declared.space.TupleSpace.{TupleSpace}
+use Rattle.world_core.specs.Ground.{GroundView, changed, ground_of}
+use Rattle.world_core.specs.Refusing.{refusal}
+use Rattle.world_core.specs.Setup.{SetupView, IsSetupPatch, IsTurnOfTables}
+use Rattle.world_core.specs.Step.{Does}
+use Rattle.world_core.specs.Untracked.{untracked}
+use Rattle.world_core.specs.Zones.{Rezones}
+use Rattle.world_core.specs.declared.setup.Turn.{Turn}
+
+-- the event is a turn of the configuration
+abbrev pub is_turn : Event → Bool
+is_turn (Edit ops) = true
+is_turn (Bind port chassis) = true
+is_turn (AddChassis chassis) = true
+is_turn (Inject port frame) = false
+is_turn (Deliver n) = false
+is_turn (Lose n) = false
+is_turn (Repeat n) = false
+is_turn Drain = false
+is_turn (Packet port frame) = false
+is_turn (Unread fault) = false
+is_turn NotBuilt = false
+
+-- the event may turn the state, whose ground this is
+pub record MayTurn (g : GroundView) (n : ℕ) (event : Event) (m : State) : Type 0 where
+  pub ground : ground_of m g.zones ≡ g
+  pub number : n ≡ event_count m + 1
+  pub untracked_lists : m.lists ≡ untracked m.config
+  pub consistent : IsConsistent m g.zones
+  pub few : event_count m < 2 ^ 42
+  pub allowed : refusal m event ≡ None
+
+-- the event turns the state: what it does to the network, with the ground after it, and what the simulated chassis are told
+pub record IsTurned (m : State) (homes : Zoned) (event : Event) (effects : List NetEffect) (change : SimChange TupleSpace) (after : GroundView) : Type 0 where
+  pub mid : State
+  pub does : Does m event effects mid
+  pub ground : ground_of mid after.zones ≡ after
+  pub consistent : IsConsistent (finished mid) after.zones
+  pub zones : Rezones event homes after.zones
+  -- the frames that wait are spelled as before
+  pub frames : map (frame_of_crossing mid.keys) m.waiting ≡ map (frame_of_crossing m.keys) m.waiting
+  pub waiting : mid.waiting ≡ m.waiting
+  pub next : mid.next ≡ m.next
+  pub bindings : (q : Name) → set_in_turn same_name change.bound q (at m.config.bindings q) ≡ at mid.config.bindings q
+  pub names : (old new : SimState) → HaveOwnersNames m.keys old → AreSet same_pair (map given_name change.names) old.names new.names → HaveOwnersNames mid.keys new
+
+-- the turn was prepared for this setup, and does what the event asks for
+pub record IsTurn (before : GroundView) (s : SetupView) (n : ℕ) (event : Event) (turn : Turn) : Type 0 where
+  pub patch : IsSetupPatch s turn.patch
+  pub tables : IsTurnOfTables before (changed turn.patch.change before) turn.sim
+  pub turned : (m : State) → MayTurn before n event m → IsTurned m before.zones event turn.effects turn.sim (changed turn.patch.change before)

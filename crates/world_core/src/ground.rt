@@ -1,0 +1,123 @@
+//! What the tables of the chassis follow from.
+ghost use Rattle.std.specs.Prelude.{◌≡◌, IfOk};
+ghost use Rattle.physical_flows.specs.Compiling.{basis_of};
+ghost use Rattle.tunnel_keys.specs.Keys.{settled};
+ghost use Rattle.net_model.specs.State.{empty};
+ghost use Rattle.world_core.specs.Ground.{basis_in, changed, ground_of, IsChangeOf};
+ghost use Rattle.world_core.specs.Zones.{no_zones};
+
+use conn_zones::zones::{ConnZones, ZonePatch};
+use nb_records::records::Records;
+use ovn_base::limits::{MAX_DATAPATH_KEY, MAX_PORT_KEY};
+use ovn_base::list::List;
+use ovn_base::memory::NoMemory;
+use ovn_base::name::Name;
+use physical_flows::compile::Maps;
+use std::alloc::Global;
+use std::marker::Model;
+use tunnel_keys::store::{KeyPlan, KeyStore};
+
+/// The records, the chassis, the keys, and where ports are at home, with the numbers of their zones there.
+#[derive(Drop)]
+pub(crate) struct Ground {
+    pub(crate) records: Records,
+    // In order of name.
+    pub(crate) chassis: List<Name>,
+    pub(crate) keys: KeyStore,
+    // Ports are at home where they are bound.
+    pub(crate) zones: ConnZones,
+}
+
+impl Model for Ground {
+    ghost use Rattle.match_language.specs.contracts.expr.Expr as expr;
+    ghost use Rattle.std.specs.Coded.{codes};
+    ghost use Rattle.world_core.specs.Ground.{GroundView};
+
+    ghost Value = { GroundView };
+
+    ghost coded = { Prim.hlevel (codes, expr.the_row.coded) };
+
+    ghost view = { λ g. record { config = record { net = g.records; chassis = g.chassis; bindings = g.zones.homes.ports }; keys = g.keys; zones = g.zones } };
+}
+
+/// What an event makes of the ground; what it leaves as it is is `None`.
+#[derive(Drop)]
+pub(crate) struct GroundChange {
+    pub(crate) records: Option<Records>,
+    pub(crate) chassis: Option<List<Name>>,
+    pub(crate) keys: Option<KeyPlan>,
+    pub(crate) zones: Option<ZonePatch>,
+}
+
+impl Ground {
+    /// No record, no chassis, no key, and nobody at home anywhere.
+    pub(crate) fn new(alloc: Global) -> Result<Ground, NoMemory>
+        ensures { IfOk result (λ g. g ≡ ground_of empty no_zones) }
+    {
+        Ok(Ground {
+            records: Records::new(alloc)?,
+            chassis: List::new(alloc),
+            keys: KeyStore::with_ranges(alloc, MAX_DATAPATH_KEY, MAX_PORT_KEY)?,
+            zones: ConnZones::new(alloc)?,
+        })
+    }
+
+    /// What the flows of the chassis follow from after the change.
+    pub(crate) fn maps<'a>(&'a self, change: &'a GroundChange, chassis: Name) -> Maps<'a>
+        ensures { basis_of result ≡ basis_in (changed change.now self.now) chassis }
+    {
+        let (homes, numbers) = match &change.zones {
+            Some(zones) => (zones.homes(), zones.numbers()),
+            None => (self.zones.homes(), self.zones.numbers()),
+        };
+        Maps {
+            chassis,
+            all: match &change.chassis {
+                Some(chassis) => chassis,
+                None => &self.chassis,
+            },
+            records: match &change.records {
+                Some(records) => records,
+                None => &self.records,
+            },
+            homes,
+            keys: match &change.keys {
+                Some(plan) => plan.after(),
+                None => &self.keys,
+            },
+            zones: numbers,
+        }
+    }
+
+    /// Puts a change into force. No memory is taken.
+    pub(crate) fn apply(&mut self, change: GroundChange)
+        requires { IsChangeOf self.old change }
+        ensures { self.new ≡ changed change self.old }
+    {
+        let GroundChange {
+            records,
+            chassis,
+            keys,
+            zones,
+        } = change;
+        if let Some(records) = records {
+            self.records = records;
+        }
+        if let Some(chassis) = chassis {
+            self.chassis = chassis;
+        }
+        if let Some(plan) = keys {
+            self.keys.apply(plan);
+        }
+        if let Some(patch) = zones {
+            self.zones.apply(patch);
+        }
+    }
+
+    /// Frees all retired keys.
+    pub(crate) fn settle(&mut self)
+        ensures { self.new ≡ record self.old { keys = settled self.old.keys } }
+    {
+        self.keys.settle();
+    }
+}
