@@ -1,6 +1,6 @@
 //! A world, and a simulation over any classifier that is given what the chassis of the world hold. Both take the same events.
 
-use crate::proper::is_admitted;
+use crate::admitted::is_admitted;
 use crate::sims::{Empty, arrive, bind, come, drain, enter, follow};
 use chassis_sim::out::{SimFault, SimOut};
 use chassis_sim::sim::Sim;

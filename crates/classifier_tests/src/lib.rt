@@ -2,11 +2,11 @@
 #![tactic(auto)]
 
 #[cfg(test)]
+mod admitted;
+#[cfg(test)]
 mod events;
 #[cfg(test)]
 mod lines;
-#[cfg(test)]
-mod proper;
 #[cfg(test)]
 mod sims;
 #[cfg(test)]

@@ -3,10 +3,10 @@ ghost use Rattle.std.specs.Prelude.{◌≡◌, ◌∷◌, [], IfOk, OnOk};
 ghost use Rattle.ovn_base.specs.lists.Once.{EachOnce};
 ghost use Rattle.switch_engine.specs.Proper.{IsProper};
 
-use crate::proper::is_proper;
 use chassis_sim::change::SimChange;
 use chassis_sim::out::{SimFault, SimOut};
 use chassis_sim::sim::Sim;
+use engine_tests::proper::is_proper;
 use flow_table::exact::{exact_flow, exact_flow_clone};
 use flow_table::flow::Flow;
 use flow_table::lookup::Lookup;

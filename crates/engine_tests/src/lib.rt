@@ -5,6 +5,7 @@
 mod actions;
 #[cfg(test)]
 mod groups;
+pub mod proper;
 #[cfg(test)]
 mod strays;
 #[cfg(test)]

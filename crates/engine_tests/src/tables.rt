@@ -1,8 +1,8 @@
 //! Tables of proper flows, and what comes of a packet in them.
-ghost use Rattle.std.specs.Prelude.{IsTrue, IfOk};
-ghost use Rattle.std.specs.List.{AllByRecursion};
-ghost use Rattle.switch_engine.specs.Proper.{IsEntry, IsProper, IsProperFlow, Rises};
+ghost use Rattle.std.specs.Prelude.{IfOk};
+ghost use Rattle.switch_engine.specs.Proper.{IsEntry, IsProper, IsProperFlow};
 
+use crate::proper::is_proper;
 use flow_table::flow::{Flow, FlowOp};
 use flow_table::lookup::Lookup;
 use flow_table::tables::Tables;
@@ -70,36 +70,6 @@ pub fn row<const N: usize>(
     })
 }
 
-// Whether the action may stand in a flow of the table.
-fn rises(table: u8, op: &FlowOp) -> bool
-    ensures { IsTrue result → Rises table op.now }
-{
-    match op {
-        FlowOp::Set { reg, value } => match reg {
-            Reg::Dp => *value < 1 << 24,
-            Reg::InPort => *value < 1 << 15,
-            Reg::OutPort | Reg::ZIn | Reg::ZOut | Reg::ZDnat | Reg::ZSnat => *value < 1 << 16,
-            _ => *value < 2,
-        },
-        FlowOp::Go(next) => *next > table,
-        FlowOp::Copies(_) => table < 34,
-        FlowOp::Drop(_) | FlowOp::Header | FlowOp::Frame(_) | FlowOp::Output(_) => true,
-        _ => false,
-    }
-}
-
-// Whether all of them may.
-fn all_rise(table: u8, ops: &[FlowOp]) -> bool
-    ensures { IsTrue result → AllByRecursion (Rises table) ops.now }
-{
-    'ops: for op in ops {
-        if !rises(table, op) {
-            return false;
-        }
-    }
-    true
-}
-
 // Adds a proper flow.
 fn put(tables: &mut Tables, flow: Flow) -> Result<(), NoMemory>
     requires tables { IsProper tables.old.flows }
@@ -122,7 +92,7 @@ fn put_all(alloc: Global, flows: Vec<Flow>) -> Result<Tables, NoMemory>
 {
     let mut tables = Tables::new(alloc)?;
     'flows: for flow in flows {
-        if all_rise(flow.table, flow.ops.as_slice()) {
+        if is_proper(&flow) {
             put(&mut tables, flow)?;
         }
     }
