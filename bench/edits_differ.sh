@@ -5,14 +5,14 @@
 set -euo pipefail
 source "$(dirname "$0")/loops.sh"
 
-make_program ovn_base inet_packet match_language match_cubes conn_table flow_table nb_records nb_rules net_model tunnel_keys nb_edits event_reader serde_json hex <<'PROGRAM'
+make_program ovn_base inet_packet match_language match_cubes conn_table flow_table nb_records nb_rules net_model tunnel_keys nb_edits edit_reader serde_json hex <<'PROGRAM'
 //! Makes the edits of its lines on records that are empty at first, and writes the lines of which the answer is another than the wanted
 //! one. A line is a word, an event and an answer, with tabs between them: `do` makes the edit, `try` only plans it, and `show` asks for
 //! all records. Numbers of events count the lines of the first two.
 #![tactic(auto)]
 
-use event_reader::event::Event;
-use event_reader::read::read_event;
+use edit_reader::event::Event;
+use edit_reader::read::read_event;
 use match_language::field::Direction;
 use match_language::printer::print;
 use nb_edits::edit::{apply, plan};

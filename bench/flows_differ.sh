@@ -5,7 +5,7 @@
 set -euo pipefail
 source "$(dirname "$0")/loops.sh"
 
-make_program ovn_base inet_packet match_language match_cubes conn_table flow_table nb_records nb_rules net_model tunnel_keys nb_edits event_reader \
+make_program ovn_base inet_packet match_language match_cubes conn_table flow_table nb_records nb_rules net_model tunnel_keys nb_edits edit_reader \
   logical_flows stage_rows acl_stages switch_stages serde_json hex <<'PROGRAM'
 //! Makes the edits of its lines on records that are empty at first, and writes in what the rows of switches differ from the wanted ones.
 //! A line is a word and what belongs to it, with tabs between them: `do` has an edit, and `flows` all rows that are wanted. A row is the
@@ -13,8 +13,8 @@ make_program ovn_base inet_packet match_language match_cubes conn_table flow_tab
 #![tactic(auto)]
 
 use acl_stages::rule_unit::RuleUnit;
-use event_reader::event::Event;
-use event_reader::read::read_event;
+use edit_reader::event::Event;
+use edit_reader::read::read_event;
 use logical_flows::print_flow::print_flow;
 use logical_flows::stage_unit::StageUnit;
 use nb_edits::edit::{apply, plan};

@@ -4,12 +4,12 @@
 set -euo pipefail
 source "$(dirname "$0")/loops.sh"
 
-build_loop ovn_base match_language nb_records event_reader serde_json <<'EOF'
+build_loop ovn_base match_language nb_records edit_reader serde_json <<'EOF'
 //! Reads one line again and again.
 #![tactic(auto)]
 
-use event_reader::event::Event;
-use event_reader::read::read_event;
+use edit_reader::event::Event;
+use edit_reader::read::read_event;
 use serde_json::Value;
 use std::alloc::{AllocError, Global};
 use std::{env, io};

@@ -5,13 +5,13 @@
 set -euo pipefail
 source "$(dirname "$0")/loops.sh"
 
-make_program ovn_base match_language nb_records event_reader <<'PROGRAM'
+make_program ovn_base match_language nb_records edit_reader <<'PROGRAM'
 //! Reads the lines of its lines, and writes those of which the answer is another than the wanted one. A line is the bytes of a line in
 //! hexadecimal digits, and behind a tab what reading gives.
 #![tactic(auto)]
 
-use event_reader::event::{Event, ReadError, ReadRefusal};
-use event_reader::read::read_event;
+use edit_reader::event::{Event, ReadError, ReadRefusal};
+use edit_reader::read::read_event;
 use match_language::expr::Expr;
 use match_language::fault::MatchFault;
 use match_language::field::Direction;

@@ -1,11 +1,11 @@
 //! A world, and a simulation over any classifier that is given what the chassis of the world hold. Both take the same events.
+ghost use Rattle.edit_reader.specs.Fitting.{IsEventInGrammar};
 
-use crate::admitted::is_admitted;
 use crate::sims::{Empty, arrive, bind, come, drain, enter, follow};
 use chassis_sim::out::{SimFault, SimOut};
 use chassis_sim::sim::Sim;
 use edit_reader::event::Event;
-use edit_reader::read::read_event;
+use edit_reader::read::{read_event, read_is_in_grammar};
 use event_lines::lines::{accepted, refused};
 use event_lines::refusal::{Refusal, StepFault};
 use flow_table::flow::Flow;
@@ -91,8 +91,10 @@ fn follow_all<T: Empty>(alloc: Global, world: &World, sim: &mut Sim<T>) -> Resul
 }
 
 // Has the world take the event.
-fn step(world: &mut World, event: &Event, text: &mut Vec<u8>) -> Result<(), NoMemory> {
-    if !world.is_sound() || world.events() >= 1 << 42 || !is_admitted(event) {
+fn step(world: &mut World, event: &Event, text: &mut Vec<u8>) -> Result<(), NoMemory>
+    requires { IsEventInGrammar event.now }
+{
+    if !world.is_sound() || world.events() >= 1 << 42 {
         return Err(NoMemory);
     }
     let mut steps: Steps<Events> = Steps::new();
@@ -109,7 +111,9 @@ fn pass<T: Empty>(
     sim: &mut Sim<T>,
     event: &Event,
     texts: &mut Texts,
-) -> Result<(), NoMemory> {
+) -> Result<(), NoMemory>
+    requires { IsEventInGrammar event.now }
+{
     step(world, event, &mut texts.world)?;
     take(alloc, sim, event, world.events(), &mut texts.sim)
 }
@@ -120,7 +124,9 @@ fn change<T: Empty>(
     world: &mut World,
     sim: &mut Sim<T>,
     event: &Event,
-) -> Result<(), NoMemory> {
+) -> Result<(), NoMemory>
+    requires { IsEventInGrammar event.now }
+{
     let mut skipped = Vec::new(alloc);
     step(world, event, &mut skipped)?;
     match event {
@@ -138,7 +144,9 @@ fn take_event<T: Empty>(
     sim: &mut Sim<T>,
     event: &Event,
     texts: &mut Texts,
-) -> Result<(), NoMemory> {
+) -> Result<(), NoMemory>
+    requires { IsEventInGrammar event.now }
+{
     if is_of_packets(event) {
         pass(alloc, world, sim, event, texts)
     } else {
@@ -157,6 +165,7 @@ pub fn take_line<T: Empty>(
     let Ok(event) = read_event(alloc, line.as_bytes()) else {
         return Err(NoMemory);
     };
+    read_is_in_grammar();
     take_event(alloc, world, sim, &event, texts)
 }
 

@@ -1,7 +1,13 @@
--- Lemmas.
-pub mod Entries
-pub mod FaultSearch
-pub mod Pieces
-pub mod Shapes
-pub mod OneEvent
-pub mod NoForm
+-- Lemmas on reading.
+mod Counts
+mod Exits
+mod FramesFit
+mod Lines
+mod Loops
+mod NamesOnce
+mod ReadGrammar
+mod ReadSteps
+mod RecordsFit
+mod TablesFit
+mod TextsFit
+mod VipsFit

@@ -1,3 +1,10 @@
 -- Definitions that contracts cite.
-pub mod Finds
-pub mod Reads
+pub mod Outcomes
+pub mod Fields
+pub mod Grammars
+pub mod Vips
+pub mod Tables
+pub mod Records
+pub mod Operations
+pub mod Events
+pub mod Fitting

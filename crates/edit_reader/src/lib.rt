@@ -1,10 +1,18 @@
 //! Events, and the lines of JSON that they are read from.
 #![tactic(auto)]
 
-mod entry;
+mod addresses;
+mod changes;
 pub mod event;
-mod forms;
-mod members;
+mod events;
+mod field;
+mod field_names;
+mod form;
+mod object;
+mod operations;
 pub mod read;
-#[cfg(test)]
-mod tests;
+mod router_records;
+mod switch_records;
+mod values;
+mod vips;
+mod words;

@@ -1,3 +1,5 @@
 -- Lemmas.
 pub mod Pieces
+pub mod Feeds
+pub mod RefusalFeeds
 pub mod PickLines

@@ -1,156 +1,28 @@
 -- The picks that are read off the lines of effects are those of the effects.
-use Rattle.std.proofs.Common.{◌≡◌, ◌≢◌, ◌+◌, ◌/◌, ◌%◌, ◌<◌, ◌≤◌, ◌^◌, ◌++◌, ◌==◌, ◌&&◌, ℕ, zero, suc, Bool, true, false, List, [], ◌∷◌, length, nat_lt, codes, decimal, slice_index, flat_map, if◌then◌else◌, refl, sym, ap, ◌∙◌, subst, inl, inr, arith, append_assoc, append-nil}
-use Rattle.std.specs.Fmt.{digits, digits_onto, digit_glyph}
+use Rattle.std.proofs.Common.{◌≡◌, ◌<◌, ◌^◌, ◌++◌, ◌==◌, ◌&&◌, ℕ, Bool, true, false, List, [], ◌∷◌, codes, decimal, flat_map, if◌then◌else◌, refl, sym, ap, ◌∙◌, inl, inr, arith, append_assoc, append-nil}
 use Rattle.std.specs.List.{AllByRecursion, onto_first}
-use Rattle.std.specs.Str.{all_ascii_digits}
 use Rattle.std.specs.Str.Parse.{digits_value}
-use Rattle.std.specs.Char.{is_ascii_digit}
-use Rattle.std.proofs.lemmas.Bool.{cases_Bool, false≢true}
+use Rattle.std.proofs.lemmas.Bool.{cases_Bool}
 use borrow.Author.Tests.{eqb-true}
 use Rattle.std.proofs.lemmas.Fmt.{decimal_is_IsNumeral}
 use Rattle.std.proofs.lemmas.Grind.{flat_map-append}
-use Rattle.std.proofs.lemmas.List.Elements.{All-from_recursion, recursion_from_All}
+use Rattle.std.proofs.lemmas.List.Elements.{All-from_recursion}
 use Rattle.std.proofs.lemmas.List.Splits.{slice_split_at, slice_split_none}
-use Rattle.hex.specs.Hex.{encode_with, lower_digits, encode_lower}
+use Rattle.hex.specs.Hex.{encode_lower}
 use Rattle.ovn_base.specs.lines.Lines.{ended_lines, onto_ended, HasNoFeed}
-use Rattle.ovn_base.specs.names.NameText.{IsName, name_byte}
 use Rattle.ovn_base.proofs.LineLaws.{ended_lines-feed}
 use Rattle.flow_table.specs.declared.flow.Cause.{Cause}
 use Rattle.flow_table.specs.declared.flow.Cause.TheVariants as cause
 use Rattle.flow_table.specs.Causes.{cause_name}
-use Rattle.edit_reader.specs.declared.event.ReadRefusal.TheVariants.{TooLong, BadJson}
 use Rattle.inet_packet.specs.Frame.{frame_of}
 use Rattle.switch_engine.specs.declared.effect.NetEffect.{NetEffect}
 use Rattle.switch_engine.specs.declared.effect.NetEffect.TheVariants.{DatapathKey, PortKey, Tunnel, Out, Drop, Lost}
 use Rattle.event_lines.specs.declared.refusal.Refusal.{Refusal}
-use Rattle.event_lines.specs.declared.refusal.Refusal.TheVariants.{Read, NoSuch, DuplicateName, LimitChassis, NoFrame, TooManyFrames, NotBuilt}
-use Rattle.event_lines.specs.Lines.{route_words, words_of, line_of, ok_line, accepted_lines, refusal_words, refused_line, end_line}
-use Rattle.event_lines.specs.Picks.{Pick, words_in, is_word, is_number, key_of, named_by, picks_in, picks_of, IsNamedEffect, AreNamed, IsNamedRefusal, AreWholeLines}
-
--- ---- bytes that end neither a word nor a line
-
-pub record IsInWord (b : ℕ) : Type 0 where
-  pub no_feed : b ≢ 10
-  pub no_blank : b ≢ 32
-
-abbrev AreInWord : List ℕ → Type 0
-AreInWord bytes = AllByRecursion IsInWord bytes
-
-abbrev IsNoFeed : ℕ → Type 0
-IsNoFeed b = b ≢ 10
-
-abbrev HaveNoFeed : List ℕ → Type 0
-HaveNoFeed bytes = AllByRecursion IsNoFeed bytes
-
--- of bytes that are written out a test says it
-abbrev have_none : List ℕ → Bool
-have_none [] = true
-have_none (b ∷ bs) = if b == 10 then false else have_none bs
-
-tested : (bs : List ℕ) → have_none bs ≡ true → HaveNoFeed bs
-tested [] h = tt
-tested (b ∷ bs) h = elim (cases_Bool (b == 10)) [
-  | inl feed ↦ absurd (false≢true (sym (ap (λ (t : Bool). if t then false else have_none bs) feed) ∙ h))
-  | inr other ↦
-      (λ e. false≢true (sym other ∙ ap (λ n. n == 10) e), tested bs (sym (ap (λ (t : Bool). if t then false else have_none bs) other) ∙ h))
-]
-
-no_feed_joined : (xs ys : List ℕ) → HaveNoFeed xs → HaveNoFeed ys → HaveNoFeed (xs ++ ys)
-no_feed_joined [] ys h k = k
-no_feed_joined (x ∷ xs) ys h k = (h.0, no_feed_joined xs ys h.1 k)
-
-no_feed_in : (xs : List ℕ) → AreInWord xs → HaveNoFeed xs
-no_feed_in [] h = tt
-no_feed_in (x ∷ xs) h = (h.0.no_feed, no_feed_in xs h.1)
-
--- ---- the digits of a number
-
-abbrev IsDigit : ℕ → Type 0
-IsDigit b = (48 ≤ b) × (b ≤ 57)
-
-glyph_digit : (n : ℕ) → n < 10 → IsDigit (digit_glyph false n)
-glyph_digit n small = elim (cases_Bool (nat_lt n 10)) [
-  | inl is ↦ subst (λ (t : Bool). IsDigit (if t then 48 + n else 87 + n)) (sym is) (omega arith, omega arith)
-  | inr other ↦ absurd (false≢true (sym other ∙ below))
-]
-  where
-    below : nat_lt n 10 ≡ true
-    below = grind (arith, small)
-
-digits_put : (k n : ℕ) (acc : List ℕ) → AllByRecursion IsDigit acc → AllByRecursion IsDigit (digits_onto k 10 false n acc)
-digits_put zero n acc h = h
-digits_put (suc k) n acc h =
-    let glyph : IsDigit (digit_glyph false (n % 10)) = glyph_digit (n % 10) (omega arith) in
-    by (n / 10 == 0) (glyph, h) (digits_put k (n / 10) (digit_glyph false (n % 10) ∷ acc) (glyph, h))
-  where
-    by : (t : Bool) → AllByRecursion IsDigit (digit_glyph false (n % 10) ∷ acc) → AllByRecursion IsDigit (digits_onto k 10 false (n / 10) (digit_glyph false (n % 10) ∷ acc))
-        → AllByRecursion IsDigit (if t then digit_glyph false (n % 10) ∷ acc else digits_onto k 10 false (n / 10) (digit_glyph false (n % 10) ∷ acc))
-    by true one rest = one
-    by false one rest = rest
-
-digits_grow : (k n : ℕ) (acc : List ℕ) → length acc ≤ length (digits_onto k 10 false n acc)
-digits_grow zero n acc = omega arith
-digits_grow (suc k) n acc = by (n / 10 == 0) (digits_grow k (n / 10) (digit_glyph false (n % 10) ∷ acc))
-  where
-    by : (t : Bool) → suc (length acc) ≤ length (digits_onto k 10 false (n / 10) (digit_glyph false (n % 10) ∷ acc))
-        → length acc ≤ length (if t then digit_glyph false (n % 10) ∷ acc else digits_onto k 10 false (n / 10) (digit_glyph false (n % 10) ∷ acc))
-    by true rest = omega arith
-    by false rest = omega (arith, rest)
-
-digits_some : (k n : ℕ) → 0 < length (digits_onto (suc k) 10 false n [])
-digits_some k n = by (n / 10 == 0)
-  where
-    by : (t : Bool) → 0 < length (if t then digit_glyph false (n % 10) ∷ [] else digits_onto k 10 false (n / 10) (digit_glyph false (n % 10) ∷ []))
-    by true = omega arith
-    by false = let rest : 1 ≤ length (digits_onto k 10 false (n / 10) (digit_glyph false (n % 10) ∷ [])) = digits_grow k (n / 10) (digit_glyph false (n % 10) ∷ []) in omega (arith, rest)
-
-decimal_digits : (n : ℕ) → AllByRecursion IsDigit (decimal n)
-unfolding digits
-decimal_digits n = digits_put 64 n [] tt
-
-decimal_some : (n : ℕ) → 0 < length (decimal n)
-unfolding digits
-decimal_some n = digits_some 63 n
-
-digits_in_word : (xs : List ℕ) → AllByRecursion IsDigit xs → AreInWord xs
-digits_in_word [] h = tt
-digits_in_word (x ∷ xs) h = (record { no_feed = λ e. omega (arith, h.0.0); no_blank = λ e. omega (arith, h.0.0) }, digits_in_word xs h.1)
-
-digits_told : (xs : List ℕ) → AllByRecursion IsDigit xs → all_ascii_digits xs ≡ true
-digits_told [] h = refl
-digits_told (x ∷ xs) h =
-    let one : is_ascii_digit x ≡ true = grind (arith, h.0.0, h.0.1) in
-    ap (λ (t : Bool). t && all_ascii_digits xs) one ∙ digits_told xs h.1
-
-decimal_in_word : (n : ℕ) → AreInWord (decimal n)
-decimal_in_word n = digits_in_word (decimal n) (decimal_digits n)
-
-decimal_is_number : (n : ℕ) → is_number (decimal n) ≡ true
-decimal_is_number n =
-    let some : nat_lt 0 (length (decimal n)) ≡ true = grind (arith, decimal_some n) in
-    ap (λ (t : Bool). t && all_ascii_digits (decimal n)) some ∙ digits_told (decimal n) (decimal_digits n)
-
--- ---- names, and the digits of a frame
-
-name_in_word : (name : List ℕ) → AllByRecursion (λ b. name_byte b ≡ true) name → AreInWord name
-name_in_word [] h = tt
-name_in_word (b ∷ bs) h = (
-  record { no_feed = λ e. false≢true (ap name_byte (sym e) ∙ h.0); no_blank = λ e. false≢true (ap name_byte (sym e) ∙ h.0) },
-  name_in_word bs h.1,
-)
-
-name_is_word : (name : List ℕ) → IsName name → AreInWord name
-name_is_word name is = name_in_word name (recursion_from_All (λ b. name_byte b ≡ true) name is.bytes)
-
-at_no_feed : (xs : List ℕ) → HaveNoFeed xs → (i : ℕ) → IsNoFeed (slice_index xs i)
-at_no_feed [] h i = λ e. omega arith
-at_no_feed (x ∷ xs) h zero = h.0
-at_no_feed (x ∷ xs) h (suc i) = at_no_feed xs h.1 i
-
-hex_no_feed : (bytes : List ℕ) → HaveNoFeed (encode_with lower_digits bytes)
-unfolding encode_with
-hex_no_feed [] = tt
-hex_no_feed (b ∷ bytes) = (at_no_feed lower_digits (tested lower_digits refl) (b / 16), (at_no_feed lower_digits (tested lower_digits refl) (b % 16), hex_no_feed bytes))
+use Rattle.event_lines.specs.Lines.{route_words, words_of, line_of, ok_line, accepted_lines, refused_line, end_line}
+use Rattle.event_lines.specs.Refusals.{refusal_words}
+use Rattle.event_lines.specs.Picks.{Pick, words_in, is_word, is_number, key_of, named_by, picks_in, picks_of, IsNamedEffect, AreNamed, AreWholeLines}
+use Rattle.event_lines.proofs.Feeds.{AreInWord, IsNoFeed, HaveNoFeed, have_none, tested, no_feed_joined, no_feed_in, decimal_in_word, decimal_is_number, name_is_word, hex_no_feed}
+use Rattle.event_lines.proofs.RefusalFeeds.{refusal_no_feed}
 
 -- ---- words
 
@@ -298,22 +170,10 @@ accepted number walks (effect ∷ effects) are =
     ∙ ap (λ ps. one_pick effect ++ ps) (accepted number walks effects are.1)
     ∙ sym (picks_cons effect effects)
 
-refusal_no_feed : (why : Refusal) → IsNamedRefusal why → HaveNoFeed (refusal_words why)
-refusal_no_feed (Read TooLong) is = tested (codes "TooLong") refl
-refusal_no_feed (Read BadJson) is = tested (codes "BadJson") refl
-refusal_no_feed (NoSuch name) is = no_feed_joined (codes "NoSuch ") name (tested (codes "NoSuch ") refl) (no_feed_in name (name_is_word name is))
-refusal_no_feed (DuplicateName name) is =
-    no_feed_joined (codes "DuplicateName ") name (tested (codes "DuplicateName ") refl) (no_feed_in name (name_is_word name is))
-refusal_no_feed LimitChassis is = tested (codes "Limit chassis") refl
-refusal_no_feed (NoFrame frame) is =
-    no_feed_joined (codes "NoFrame ") (decimal frame) (tested (codes "NoFrame ") refl) (no_feed_in (decimal frame) (decimal_in_word frame))
-refusal_no_feed TooManyFrames is = tested (codes "TooManyFrames") refl
-refusal_no_feed NotBuilt is = tested (codes "NotBuilt") refl
-
-pub refused : (number : ℕ) (why : Refusal) → IsNamedRefusal why → picks_in (refused_line number why) ≡ []
-refused number why is =
+pub refused : (number : ℕ) (why : Refusal) → picks_in (refused_line number why) ≡ []
+refused number why =
     sym (ap picks_in (append-nil (refused_line number why)))
-    ∙ event_line number (codes "refused " ++ refusal_words why) [] (no_feed_joined (codes "refused ") (refusal_words why) (tested (codes "refused ") refl) (refusal_no_feed why is))
+    ∙ event_line number (codes "refused " ++ refusal_words why) [] (no_feed_joined (codes "refused ") (refusal_words why) (tested (codes "refused ") refl) (refusal_no_feed why))
     ∙ append-nil _ ∙ other_words (decimal number) (codes "refused") (words_in (refusal_words why)) refl
 
 -- ---- whole lines

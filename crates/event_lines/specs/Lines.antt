@@ -4,11 +4,10 @@ use Rattle.hex.specs.Hex.{encode_lower}
 use Rattle.ovn_base.specs.declared.name.Name.{Name}
 use Rattle.inet_packet.specs.Frame.{frame_of}
 use Rattle.flow_table.specs.Causes.{cause_name}
-use Rattle.edit_reader.specs.declared.event.ReadRefusal.TheVariants.{TooLong, BadJson}
 use Rattle.switch_engine.specs.declared.effect.NetEffect.{NetEffect}
 use Rattle.switch_engine.specs.declared.effect.NetEffect.TheVariants.{DatapathKey, PortKey, Tunnel, Out, Drop, Lost}
 use Rattle.event_lines.specs.declared.refusal.Refusal.{Refusal}
-use Rattle.event_lines.specs.declared.refusal.Refusal.TheVariants.{Read, NoSuch, DuplicateName, LimitChassis, NoFrame, TooManyFrames, NotBuilt}
+use Rattle.event_lines.specs.Refusals.{refusal_words}
 
 -- from one chassis to another, and the bytes in hexadecimal digits
 abbrev pub route_words : Name → Name → List ℕ → List ℕ
@@ -34,17 +33,6 @@ ok_line number walks = line_of number (codes "ok walks=" ++ decimal walks)
 -- the lines of an accepted event
 abbrev pub accepted_lines : ℕ → List NetEffect → ℕ → List ℕ
 accepted_lines number effects walks = flat_map (λ effect. line_of number (words_of effect)) effects ++ ok_line number walks
-
--- the name of a refusal, and what it is about
-abbrev pub refusal_words : Refusal → List ℕ
-refusal_words (Read TooLong) = codes "TooLong"
-refusal_words (Read BadJson) = codes "BadJson"
-refusal_words (NoSuch name) = codes "NoSuch " ++ name
-refusal_words (DuplicateName name) = codes "DuplicateName " ++ name
-refusal_words LimitChassis = codes "Limit chassis"
-refusal_words (NoFrame frame) = codes "NoFrame " ++ decimal frame
-refusal_words TooManyFrames = codes "TooManyFrames"
-refusal_words NotBuilt = codes "NotBuilt"
 
 -- the line of a refused event
 abbrev pub refused_line : ℕ → Refusal → List ℕ

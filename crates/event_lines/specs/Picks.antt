@@ -10,8 +10,6 @@ use Rattle.ovn_base.specs.names.NameText.{IsName}
 use Rattle.ovn_base.specs.declared.name.Name.{Name}
 use Rattle.switch_engine.specs.declared.effect.NetEffect.{NetEffect}
 use Rattle.switch_engine.specs.declared.effect.NetEffect.TheVariants as effect
-use Rattle.event_lines.specs.declared.refusal.Refusal.{Refusal}
-use Rattle.event_lines.specs.declared.refusal.Refusal.TheVariants.{Read, NoSuch, DuplicateName, LimitChassis, NoFrame, TooManyFrames, NotBuilt}
 
 -- what was picked: the tunnel key of a datapath, or of a port
 pub data Pick : Type 0 where
@@ -64,16 +62,6 @@ IsNamedEffect (effect.Lost frame) = Unit {0}
 
 abbrev pub AreNamed : List NetEffect → Type 0
 AreNamed effects = AllByRecursion IsNamedEffect effects
-
--- the name in the refusal is a name
-abbrev pub IsNamedRefusal : Refusal → Type 0
-IsNamedRefusal (Read fault) = Unit {0}
-IsNamedRefusal (NoSuch name) = IsName name
-IsNamedRefusal (DuplicateName name) = IsName name
-IsNamedRefusal LimitChassis = Unit {0}
-IsNamedRefusal (NoFrame frame) = Unit {0}
-IsNamedRefusal TooManyFrames = Unit {0}
-IsNamedRefusal NotBuilt = Unit {0}
 
 -- the text is made of whole lines: it is empty, or a line feed ends it
 abbrev pub AreWholeLines : List ℕ → Type 0

@@ -5,5 +5,6 @@ pub mod lines;
 pub mod picks;
 mod put;
 pub mod refusal;
+mod refusals;
 #[cfg(test)]
 mod tests;

@@ -1,25 +1,16 @@
 //! The lines of events.
 ghost use Rattle.std.specs.Prelude.{◌≡◌, ◌++◌, codes, decimal, OnOk, OnErr};
 ghost use Rattle.flow_table.specs.Causes.{cause_name};
-ghost use Rattle.event_lines.specs.Lines.{route_words, words_of, line_of, ok_line, accepted_lines, refusal_words, refused_line, end_line};
+ghost use Rattle.event_lines.specs.Lines.{route_words, words_of, line_of, ok_line, accepted_lines, refused_line, end_line};
 ghost use Rattle.event_lines.specs.Text.{StartsWith};
 
-use crate::put::{put, put_frame, put_hex, put_number, put_wide};
+use crate::put::{put, put_count, put_frame, put_hex, put_number, put_wide};
 use crate::refusal::Refusal;
-use edit_reader::event::ReadRefusal;
+use crate::refusals::put_refusal;
 use flow_table::flow::Cause;
 use ovn_base::memory::NoMemory;
 use ovn_base::name::Name;
 use switch_engine::effect::NetEffect;
-
-// What is counted, and the count.
-fn put_count(counted: &[u8], count: u128, out: &mut Vec<u8>) -> Result<(), NoMemory>
-    ensures ok { OnOk result (out.new.items ≡ out.old.items ++ (counted.now ++ decimal count)) }
-    ensures err { OnErr result (StartsWith out.new.items out.old.items) }
-{
-    put(counted, out)?;
-    put_wide(count, out)
-}
 
 fn put_cause(cause: Cause, out: &mut Vec<u8>) -> Result<(), NoMemory>
     ensures ok { OnOk result (out.new.items ≡ out.old.items ++ cause_name cause) }
@@ -134,31 +125,6 @@ pub fn accepted(
         line(effect, number, out)?;
     }
     put_ok(walks, number, out)
-}
-
-fn put_refusal(refusal: &Refusal, out: &mut Vec<u8>) -> Result<(), NoMemory>
-    ensures ok { OnOk result (out.new.items ≡ out.old.items ++ refusal_words refusal.now) }
-    ensures err { OnErr result (StartsWith out.new.items out.old.items) }
-{
-    match refusal {
-        Refusal::Read(ReadRefusal::TooLong) => put(b"TooLong", out),
-        Refusal::Read(ReadRefusal::BadJson) => put(b"BadJson", out),
-        Refusal::NoSuch(name) => {
-            put(b"NoSuch ", out)?;
-            put(name.text(), out)
-        }
-        Refusal::DuplicateName(name) => {
-            put(b"DuplicateName ", out)?;
-            put(name.text(), out)
-        }
-        Refusal::LimitChassis => put(b"Limit chassis", out),
-        Refusal::NoFrame(frame) => {
-            put(b"NoFrame ", out)?;
-            put_wide(*frame, out)
-        }
-        Refusal::TooManyFrames => put(b"TooManyFrames", out),
-        Refusal::NotBuilt => put(b"NotBuilt", out),
-    }
 }
 
 /// Adds the line of a refused event of this number. Without memory the text keeps what it held, and may have a part of the

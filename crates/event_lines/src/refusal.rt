@@ -2,6 +2,8 @@
 ghost use Rattle.std.specs.Prelude.{◌≡◌, IfOk};
 
 use edit_reader::event::ReadRefusal;
+use nb_rules::fault::SchemaFault;
+use ovn_base::address::Backend;
 use ovn_base::memory::NoMemory;
 use ovn_base::name::Name;
 
@@ -10,12 +12,30 @@ use ovn_base::name::Name;
 pub enum Refusal {
     /// The line was not read.
     Read(ReadRefusal),
-    /// There is no switch, port or chassis of the name.
+    /// Something is wrong with the edit, or with the records that it would leave.
+    Schema(SchemaFault),
+    /// More datapaths are added than keys of the range are neither live nor retired.
+    NoDatapathKey,
+    /// More ports are added to the datapath than keys of the range are neither live nor retired on it.
+    NoPortKey(Name),
+    /// There is no port, chassis or balancer of the name.
     NoSuch(Name),
+    /// No vip of the balancer lists the backend.
+    NoSuchBackend(Backend),
+    /// The port is bound to no chassis.
+    NotBound(Name),
     /// There is a chassis of the name already.
     DuplicateName(Name),
     /// There are 64 chassis already.
     LimitChassis,
+    /// The ranges of keys stay from the first accepted event on.
+    KeysFixed,
+    /// The frame has fewer than 14 bytes.
+    TooShort,
+    /// The frame has more than 9,216 bytes.
+    TooBig,
+    /// Version, header length, total length or sum of the IPv4 header is wrong (RFC 791 section 3.1).
+    BadIp4,
     /// No frame of the number waits.
     NoFrame(u128),
     /// 65,536 frames or more wait already.
@@ -31,9 +51,18 @@ impl Refusal {
     {
         match self {
             Refusal::Read(refusal) => Ok(Refusal::Read(refusal.copy()?)),
+            Refusal::Schema(fault) => Ok(Refusal::Schema(*fault)),
+            Refusal::NoDatapathKey => Ok(Refusal::NoDatapathKey),
+            Refusal::NoPortKey(datapath) => Ok(Refusal::NoPortKey(*datapath)),
             Refusal::NoSuch(name) => Ok(Refusal::NoSuch(*name)),
+            Refusal::NoSuchBackend(backend) => Ok(Refusal::NoSuchBackend(*backend)),
+            Refusal::NotBound(port) => Ok(Refusal::NotBound(*port)),
             Refusal::DuplicateName(name) => Ok(Refusal::DuplicateName(*name)),
             Refusal::LimitChassis => Ok(Refusal::LimitChassis),
+            Refusal::KeysFixed => Ok(Refusal::KeysFixed),
+            Refusal::TooShort => Ok(Refusal::TooShort),
+            Refusal::TooBig => Ok(Refusal::TooBig),
+            Refusal::BadIp4 => Ok(Refusal::BadIp4),
             Refusal::NoFrame(frame) => Ok(Refusal::NoFrame(*frame)),
             Refusal::TooManyFrames => Ok(Refusal::TooManyFrames),
             Refusal::NotBuilt => Ok(Refusal::NotBuilt),

@@ -3,7 +3,9 @@ use crate::refusal::Refusal;
 use edit_reader::event::ReadRefusal;
 use flow_table::flow::Cause;
 use inet_packet::packet::{Body, Packet};
-use ovn_base::address::Mac;
+use match_language::fault::MatchFault;
+use nb_rules::fault::{Address, Limited, SchemaFault};
+use ovn_base::address::{Backend, Ip4, Mac};
 use ovn_base::list::List;
 use ovn_base::memory::NoMemory;
 use ovn_base::name::Name;
@@ -119,24 +121,80 @@ fn writes_each_cause(rt: HostRuntime) -> Result<(), Fail> {
     Ok(())
 }
 
+// The lines of the refusals, each of event 8.
+fn refused_lines(alloc: Global, refusals: &[Refusal]) -> Result<Vec<u8>, NoMemory> {
+    let mut text = Vec::new(alloc);
+    for refusal in refusals {
+        refused(&refusal.copy()?, 8, &mut text)?;
+    }
+    Ok(text)
+}
+
+// A field is written only where it is a name.
 #[test]
-fn writes_each_refusal(rt: HostRuntime) -> Result<(), Fail> {
-    let mut text = Vec::new(rt.alloc());
+fn writes_what_was_not_read(rt: HostRuntime) -> Result<(), Fail> {
+    let alloc = rt.alloc();
     let refusals = [
         Refusal::Read(ReadRefusal::TooLong),
-        Refusal::Read(ReadRefusal::BadJson),
-        Refusal::NotBuilt,
-        Refusal::NoSuch(name(&rt, b"s0")),
-        Refusal::DuplicateName(name(&rt, b"hv1")),
-        Refusal::NoFrame(1),
-        Refusal::LimitChassis,
-        Refusal::TooManyFrames,
+        Refusal::Read(ReadRefusal::NotObject),
+        Refusal::Read(ReadRefusal::OutOfRange(List::from_slice(alloc, b"edit")?)),
+        Refusal::Read(ReadRefusal::WrongKind(List::from_slice(alloc, b"frame")?)),
+        Refusal::Read(ReadRefusal::UnknownField(List::from_slice(alloc, b"a b")?)),
+        Refusal::Read(ReadRefusal::BadMatch(MatchFault::MixedAndOr(11))),
     ];
-    for refusal in &refusals {
-        refused(&refusal.copy()?, 1235, &mut text)?;
-    }
+    let text = refused_lines(alloc, &refusals)?;
     let wanted =
-        b"1235 refused TooLong\n1235 refused BadJson\n1235 refused NotBuilt\n1235 refused NoSuch s0\n1235 refused DuplicateName hv1\n1235 refused NoFrame 1\n1235 refused Limit chassis\n1235 refused TooManyFrames\n";
+        b"8 refused TooLong\n8 refused NotObject\n8 refused OutOfRange edit\n8 refused WrongKind frame\n8 refused UnknownField ?\n8 refused BadMatch MixedAndOr 11\n";
+    assert_eq!(rt; text.as_slice(), wanted.as_slice());
+    Ok(())
+}
+
+#[test]
+fn writes_what_is_wrong_with_edits(rt: HostRuntime) -> Result<(), Fail> {
+    let alloc = rt.alloc();
+    let holder = name(&rt, b"p2");
+    let refusals = [
+        Refusal::Schema(SchemaFault::NoSuch(name(&rt, b"zz"))),
+        Refusal::Schema(SchemaFault::TooWide(196608)),
+        Refusal::Schema(SchemaFault::Limit(Limited::Cubes)),
+        Refusal::Schema(SchemaFault::DuplicateAddress {
+            address: Address::Ether(Mac([10, 0, 0, 0, 0, 0xfe])),
+            holder,
+        }),
+        Refusal::Schema(SchemaFault::DuplicateAddress {
+            address: Address::Ip(Ip4(0x0a00_0002)),
+            holder,
+        }),
+    ];
+    let text = refused_lines(alloc, &refusals)?;
+    let wanted =
+        b"8 refused NoSuch zz\n8 refused TooWide 196608\n8 refused Limit cubes\n8 refused DuplicateAddress 0a:00:00:00:00:fe p2\n8 refused DuplicateAddress 10.0.0.2 p2\n";
+    assert_eq!(rt; text.as_slice(), wanted.as_slice());
+    Ok(())
+}
+
+#[test]
+fn writes_what_an_event_lacks(rt: HostRuntime) -> Result<(), Fail> {
+    let alloc = rt.alloc();
+    let backend = Backend {
+        ip: Ip4(0x0a00_0002),
+        port: 8080,
+    };
+    let refusals = [
+        Refusal::NoPortKey(name(&rt, b"s0")),
+        Refusal::NoSuch(name(&rt, b"p9")),
+        Refusal::NoSuchBackend(backend),
+        Refusal::NotBound(name(&rt, b"p1")),
+        Refusal::DuplicateName(name(&rt, b"hv1")),
+        Refusal::LimitChassis,
+        Refusal::KeysFixed,
+        Refusal::TooShort,
+        Refusal::BadIp4,
+        Refusal::NoFrame(1),
+    ];
+    let text = refused_lines(alloc, &refusals)?;
+    let wanted =
+        b"8 refused NoPortKey s0\n8 refused NoSuch p9\n8 refused NoSuch 10.0.0.2:8080\n8 refused NotBound p1\n8 refused DuplicateName hv1\n8 refused Limit chassis\n8 refused KeysFixed\n8 refused TooShort\n8 refused BadIp4\n8 refused NoFrame 1\n";
     assert_eq!(rt; text.as_slice(), wanted.as_slice());
     Ok(())
 }

@@ -1,14 +1,13 @@
--- Names stay names: in the records, on the way, in effects and in refusals.
+-- Names stay names: in the records, on the way and in effects.
 use Rattle.std.proofs.lemmas.Option.{none-some}
 use Rattle.chassis_sim.specs.State.{numbered}
-use Rattle.world_core.specs.Admitted.{IsAdmitted}
 use Rattle.sim_laws.specs.Consistent.{IsConsistent}
 use Rattle.world_core.proofs.StepByStep.{enters_back, arrives_back, drains_back, sends_back, loses_back, can_enter}
 use Rattle.std.specs.BTreeSet.{insert_key}
 use Rattle.std.specs.Prelude.{◌≡◌, ◌≤◌, ◌<◌, ◌+◌, ◌++◌, ◌^◌, ◌&&◌, ℕ, zero, suc, Bool, true, false, not, List, [], ◌∷◌, Some, None, Option, is_some, cond, map, filter, nat_le, length, unwrap_or, refl}
 use Rattle.std.specs.BTreeMap.{is_at}
 use Rattle.std.specs.Cmp.Lexicographic.{slice_cmp}
-use Rattle.std.specs.List.{AllByRecursion}
+use Rattle.std.specs.List.{AllByRecursion, filter_map}
 use Rattle.std.specs.Option.{option_map}
 use Rattle.std.specs.Ordering.{is_eq, match_ordering, nat_cmp}
 use Rattle.std.specs.declared.cmp.Ordering.{Ordering}
@@ -28,21 +27,16 @@ use Rattle.chassis_sim.proofs.UnderlayLaws.{all_found, all_left}
 use Rattle.conn_zones.specs.Zoning.{Zoned}
 use Rattle.inet_packet.specs.declared.packet.Packet as inet
 use Rattle.flow_table.specs.declared.flow.Cause.TheVariants.{Loopback}
-use Rattle.nb_records.specs.Network.{Network, with_record}
-use Rattle.nb_records.specs.declared.change.Op.{Op}
-use Rattle.nb_records.specs.declared.change.Op.TheVariants.{Add, Set, Remove, Health}
-use Rattle.nb_records.specs.declared.record.Record.{Record}
-use Rattle.nb_records.specs.declared.record.Record.TheVariants as record_of
+use Rattle.nb_records.specs.Network.{Network}
 use Rattle.nb_records.specs.declared.switch.SwitchPort.{SwitchPort}
 use Rattle.edit_reader.specs.declared.event.Event.{Event}
-use Rattle.edit_reader.specs.declared.event.Event.TheVariants.{Edit, Bind, AddChassis, Inject, Deliver, Lose, Repeat, Drain, Packet, Unread, NotBuilt}
-use Rattle.event_lines.specs.declared.refusal.Refusal.{Refusal}
-use Rattle.event_lines.specs.declared.refusal.Refusal.TheVariants as why
-use Rattle.event_lines.specs.Picks.{IsNamedEffect, AreNamed, IsNamedRefusal}
+use Rattle.edit_reader.specs.declared.event.Event.TheVariants as event_of
+use Rattle.edit_reader.specs.Fitting.{IsEventInGrammar}
+use Rattle.event_lines.specs.Picks.{IsNamedEffect, AreNamed}
 use Rattle.switch_engine.specs.declared.effect.NetEffect.{NetEffect}
 use Rattle.tunnel_keys.specs.Edits.{GivesKeysAfter}
 use Rattle.tunnel_keys.specs.Keys.{Keys, retire}
-use Rattle.tunnel_keys.specs.Owners.{datapaths_in, ports_in}
+use Rattle.tunnel_keys.specs.Owners.{datapaths_in, is_listed, ports_in}
 use Rattle.tunnel_keys.specs.declared.owner.DatapathKey.{DatapathKey}
 use Rattle.tunnel_keys.specs.declared.owner.KeyOwner.{KeyOwner}
 use Rattle.tunnel_keys.specs.declared.owner.KeyOwner.TheVariants.{Datapath, Port}
@@ -50,19 +44,32 @@ use Rattle.tunnel_keys.specs.declared.owner.PortKey.{PortKey}
 use Rattle.tunnel_keys.proofs.Lists.{in_order_among}
 use Rattle.tunnel_keys.proofs.OwnerLaws.{in_datapaths, in_ports}
 use Rattle.net_model.specs.Journey.{numbered_from}
-use Rattle.world_core.specs.Editing.{owner_of, owners_of, datapath_effect, port_effect, added_ports, key_effects}
-use Rattle.nb_records.specs.Editing.{accepted, born}
+use Rattle.nb_edits.proofs.EditValidity.{Fits, valid_fit}
+use Rattle.nb_edits.proofs.KindLists.{kept_at}
+use Rattle.nb_edits.proofs.OwnerLaws.{among_owns}
+use Rattle.nb_records.specs.Grammar.{IsSwitchPort}
+use Rattle.nb_records.specs.declared.kinds.Kind.TheVariants as kind
+use Rattle.nb_records.specs.declared.record.Record.TheVariants as row
+use Rattle.nb_records.specs.declared.router.Router.{Router}
+use Rattle.nb_records.specs.declared.router.RouterPort.{RouterPort}
+use Rattle.nb_records.specs.declared.switch.Switch.{Switch}
+use Rattle.nb_rules.specs.Valid as rules
+use Rattle.net_model.specs.Owners.{owners_of, owners_only_in}
+use Rattle.physical_flows.proofs.FlowSearch.{some_of}
+use Rattle.sim_laws.proofs.PlainRecords.{plain_valid}
+use Rattle.world_core.proofs.OneStep.{edited_sound}
+use Rattle.world_core.proofs.Refusals.{neither, no_arp_in, waits_so}
+use Rattle.world_core.specs.Editing.{next_net}
+use Rattle.world_core.specs.KeyLines.{added_ports, as_place, datapath_effect, key_effects, port_effect}
 use Rattle.sim_laws.specs.Effects.{effects_of}
 use Rattle.net_model.specs.Trail.{crossings_in, picks_backend, picks_port}
 use Rattle.physical_flows.specs.Homes.{is_at as is_bound_to, is_group_member, members, members_at, other_homes}
 use Rattle.physical_flows.specs.Numbers.{datapath_number, port_number}
-use Rattle.world_core.specs.Refusing.{cause_of_entry, is_built_entry, refusal, refusal_of_entry, refusal_of_record, too_many_wait}
+use Rattle.world_core.specs.Refusing.{no_frame, refusal, too_many_wait}
 use Rattle.net_model.specs.State.{State, empty, event_count, finished, settled_where_none_waits}
-use Rattle.net_model.specs.Config.{is_chassis}
 use Rattle.world_core.specs.Step.{NetworkStep, Does}
 use Rattle.sim_laws.specs.PacketSteps.{Enters, Arrives, Drains, most_arrivals}
 use Rattle.sim_laws.specs.PlainJourneys.{sent_on, with_kept}
-use Rattle.world_core.specs.Unbuilt.{is_unbuilt_port}
 use Rattle.net_model.specs.Trail.{End, leaves, is_dropped, crosses, is_lost}
 use Rattle.sim_laws.specs.Visit.{Target, HasTarget, SentFrom, crossing_to, sent_home, sent_to, Goes, Visit, arrival, is_gone, is_same_port, reached}
 use Rattle.net_model.specs.declared.crossing.Aim.{Aim}
@@ -72,29 +79,6 @@ use Rattle.net_model.specs.declared.crossing.Group.{Group}
 use Rattle.net_model.specs.declared.crossing.Group.TheVariants.{Flood, Unknown}
 
 -- ---- what is named
-
--- the names in a record that is built, and in an event, are names
-abbrev pub IsNamedRecord : Record → Type 0
-IsNamedRecord (record_of.Switch switch) = IsName switch.name
-IsNamedRecord (record_of.SwitchPort port) = IsName port.name × IsName port.switch
-IsNamedRecord _ = ⊥
-
-abbrev pub IsNamedOp : Op → Type 0
-IsNamedOp (Add row) = IsNamedRecord row
-IsNamedOp _ = ⊥
-
-abbrev pub IsNamedEvent : Event → Type 0
-IsNamedEvent (Edit ops) = AllByRecursion IsNamedOp ops
-IsNamedEvent (Bind port chassis) = IsName port × IsName chassis
-IsNamedEvent (AddChassis chassis) = IsName chassis
-IsNamedEvent (Inject port frame) = IsName port
-IsNamedEvent (Deliver n) = Unit {0}
-IsNamedEvent (Lose n) = Unit {0}
-IsNamedEvent (Repeat n) = Unit {0}
-IsNamedEvent Drain = Unit {0}
-IsNamedEvent (Packet port frame) = IsName port
-IsNamedEvent (Unread fault) = Unit {0}
-IsNamedEvent NotBuilt = Unit {0}
 
 abbrev pub IsNamedPort : Name × SwitchPort → Type 0
 IsNamedPort e = IsName e.0 × IsName e.1.switch
@@ -182,17 +166,26 @@ abbrev IsNamedOwner : KeyOwner → Type 0
 IsNamedOwner (Datapath name birth) = IsName name
 IsNamedOwner (Port datapath name birth) = IsName name
 
-owner_named : (row : Record) (n : ℕ) → IsNamedRecord row → AllByRecursion IsNamedOwner (owner_of row n)
-owner_named (record_of.Switch switch) n named = (named, tt)
-owner_named (record_of.SwitchPort port) n named = (named.0, tt)
-owner_named _ n named = absurd named
+-- the ports of valid records are in names
+ports_named : (net : Network) → rules.IsValid net → AllByRecursion IsNamedPort net.switch_ports
+ports_named net valid = all_so net.switch_ports ((valid_fit net valid).each kind.SwitchPort).each
+  where
+    all_so : (es : List (Name × SwitchPort)) → AllByRecursion (λ (e : Name × SwitchPort). (e.1.name ≡ e.0) × IsSwitchPort e.1) es → AllByRecursion IsNamedPort es
+    all_so [] h = tt
+    all_so (e ∷ es) h = ((subst IsName h.0.0 h.0.1.name, h.0.1.switch), all_so es h.1)
 
-owners_named : (ops : List Op) (n : ℕ) → AllByRecursion IsNamedOp ops → AllByRecursion IsNamedOwner (owners_of ops n)
-owners_named [] n named = tt
-owners_named (Add row ∷ ops) n named = all_joined IsNamedOwner (owner_of row n) (owners_of ops n) (owner_named row n named.0) (owners_named ops n named.1)
-owners_named (_ ∷ ops) n named = absurd named.0
+-- so are their owners of keys
+owners_named : (net : Network) → rules.IsValid net → (o : KeyOwner) → Among o (owners_of net) → IsNamedOwner o
+owners_named net valid (Datapath name birth) m = elim (among_owns net valid.in_order (Datapath name birth) m) [
+  | inl r ↦ let is = kept_at (λ (r : Switch). r.name) (λ r. Fits (row.Switch r)) net.switches ((valid_fit net valid).each kind.Switch) name r.0 r.1 in subst IsName is.0 is.1
+  | inr r ↦ let is = kept_at (λ (r : Router). r.name) (λ r. Fits (row.Router r)) net.routers ((valid_fit net valid).each kind.Router) name r.0 r.1 in subst IsName is.0 is.1.name
+]
+owners_named net valid (Port datapath name birth) m = elim (among_owns net valid.in_order (Port datapath name birth) m) [
+  | inl r ↦ let is = kept_at (λ (r : RouterPort). r.name) (λ r. Fits (row.RouterPort r)) net.router_ports ((valid_fit net valid).each kind.RouterPort) name r.0 r.1 in subst IsName is.0 is.1.name
+  | inr r ↦ let is = kept_at (λ (r : SwitchPort). r.name) (λ r. Fits (row.SwitchPort r)) net.switch_ports ((valid_fit net valid).each kind.SwitchPort) name r.0 r.1 in subst IsName is.0 is.1.name
+]
 
-module _ (between after : Keys) (owners : List KeyOwner) (ranged : AreRanged between) (named : AllByRecursion IsNamedOwner owners) (gives : GivesKeysAfter between owners after) where
+module _ (between after : Keys) (owners : List KeyOwner) (ranged : AreRanged between) (named : (o : KeyOwner) → Among o owners → IsNamedOwner o) (gives : GivesKeysAfter between owners after) where
   datapath_line : (o : Name × Birth) → Among o (in_order (datapaths_in owners)) → IsNamedEffect (datapath_effect after o)
   datapath_line o among =
       let owner : Among (Datapath o.0 o.1) owners = in_datapaths owners o.0 o.1 (in_order_among (datapaths_in owners) o.0 o.1 among) in
@@ -200,38 +193,28 @@ module _ (between after : Keys) (owners : List KeyOwner) (ranged : AreRanged bet
       let number : unwrap_or (datapath_number after o.0) 0 ≡ given.0 = ap (λ (k : Option DatapathKey). unwrap_or (option_map (λ d. d.key) k) 0) given.1 in
       let high : given.0 ≤ between.datapath_range = given.2.high in
       let range : between.datapath_range < 2 ^ 64 = ranged.datapaths in
-      (among_all IsNamedOwner (Datapath o.0 o.1) owners named owner, omega (arith, number, high, range))
+      (named (Datapath o.0 o.1) owner, omega (arith, number, high, range))
 
-  port_line : (o : Name × Birth) → Among o (added_ports owners after) → IsNamedEffect (port_effect after o)
+  port_line : (o : Name × Birth) → Among o (added_ports owners) → IsNamedEffect (port_effect after o)
   port_line o among =
-      let d = flat_map_among (λ (d : Name × DatapathKey). in_order (ports_in d.0 owners)) o after.datapaths among in
+      let d = flat_map_among (λ (d : Name × Birth). in_order (ports_in d.0 owners)) o (in_order (filter_map as_place owners)) among in
       let owner : Among (Port d.0.0 o.0 o.1) owners = in_ports owners d.0.0 o.0 o.1 (in_order_among (ports_in d.0.0 owners) o.0 o.1 d.2) in
       let given = gives.port_given d.0.0 o.0 o.1 owner in
       let number : unwrap_or (port_number after o.0) 0 ≡ given.0 = ap (λ (k : Option PortKey). unwrap_or (option_map (λ p. p.key) k) 0) given.2 in
       let high : given.0 ≤ between.port_range = given.4.high in
       let range : between.port_range < 2 ^ 64 = ranged.ports in
-      (among_all IsNamedOwner (Port d.0.0 o.0 o.1) owners named owner, omega (arith, number, high, range))
+      (named (Port d.0.0 o.0 o.1) owner, omega (arith, number, high, range))
 
   keys_named : AreNamed (key_effects owners after)
   keys_named =
-      all_joined IsNamedEffect (map (datapath_effect after) (in_order (datapaths_in owners))) (map (port_effect after) (added_ports owners after))
-      (all_images IsNamedEffect (datapath_effect after) (in_order (datapaths_in owners)) datapath_line) (all_images IsNamedEffect (port_effect after) (added_ports owners after) port_line)
+      all_joined IsNamedEffect (map (datapath_effect after) (in_order (datapaths_in owners))) (map (port_effect after) (added_ports owners))
+      (all_images IsNamedEffect (datapath_effect after) (in_order (datapaths_in owners)) datapath_line) (all_images IsNamedEffect (port_effect after) (added_ports owners) port_line)
 
   still_ranged : AreRanged after
   still_ranged = record {
     datapaths = subst (λ n. n < 2 ^ 64) (sym gives.datapath_range) ranged.datapaths;
     ports = subst (λ n. n < 2 ^ 64) (sym gives.port_range) ranged.ports;
   }
-
-with_named : (net : Network) (row : Record) (n : ℕ) → AllByRecursion IsNamedPort net.switch_ports → IsNamedRecord row → AllByRecursion IsNamedPort (with_record net (born n row)).switch_ports
-with_named net (record_of.Switch switch) n named fine = named
-with_named net (record_of.SwitchPort port) n named fine = all_put IsNamedPort net.switch_ports port.name (record port { birth = record { 0 = n } }) named fine
-with_named net _ n named fine = absurd fine
-
-accepted_named : (net : Network) (ops : List Op) (n : ℕ) → AllByRecursion IsNamedPort net.switch_ports → AllByRecursion IsNamedOp ops → AllByRecursion IsNamedPort (accepted net ops n).switch_ports
-accepted_named net [] n named fine = named
-accepted_named net (Add row ∷ ops) n named fine = accepted_named (with_record net (born n row)) ops n (with_named net row n named fine.0) fine.1
-accepted_named net (_ ∷ ops) n named fine = absurd fine.0
 
 -- ---- packets
 
@@ -375,58 +358,64 @@ drains_named (suc most) m effects after named (inr h) =
     let first = arrives_named m h.n false h.own h.mid named h.arrives in
     both_named effects h.own h.more h.mid after h.all first (drains_named most h.mid h.more after first.state h.others)
 
-found : {X : Type 0} (o : Option X) (x y : Option Refusal) (cause : Refusal) → y ≡ Some cause → cond (is_some o) x y ≡ None → (w : X) × (o ≡ Some w)
-found None x y cause is h = absurd (none-some cause (sym h ∙ is))
-found (Some w) x y cause is h = (w, refl)
+-- what waits is found
+found : (m : State) (n : ℕ) → no_frame m n ≡ None → (x : Crossing) × (numbered m.waiting n ≡ Some x)
+found m n h = some_of (numbered m.waiting n) (waits_so m n h)
 
-does_named : (m : State) (zones : Zoned) → IsConsistent m zones → (event : Event) → IsAdmitted event → refusal m event ≡ None → (effects : List NetEffect) (after : State) → IsNamedState m → IsNamedEvent event → Does m event effects after
-    → AreStepNamed effects after
-does_named m zones old (Edit ops) admitted allowed effects after named fine h =
-    let owners = owners_of ops (event_count m + 1) in
-    let between : AreRanged (retire m.keys []) = record { datapaths = named.keys.datapaths; ports = named.keys.ports } in
-    let have = owners_named ops (event_count m + 1) fine in
+does_named : (m : State) (zones : Zoned) → IsConsistent m zones → (event : Event) → IsEventInGrammar event → refusal m event ≡ None → (effects : List NetEffect) (after : State) → IsNamedState m → Does m event effects after → AreStepNamed effects after
+does_named m zones old (event_of.Edit ops) fine allowed effects after named h =
+    let next = next_net m ops in
+    let valid = (edited_sound m ops (record { valid = old.valid; built = old.built }) fine allowed).valid in
+    let owners = owners_only_in next m.config.net in
+    let gone = owners_only_in m.config.net next in
+    let between : AreRanged (retire m.keys gone) = record { datapaths = named.keys.datapaths; ports = named.keys.ports } in
+    let have : (o : KeyOwner) → Among o owners → IsNamedOwner o = λ o among. owners_named next valid o (filter_among (λ x. not (is_listed (owners_of m.config.net) x)) o (owners_of next) among).0 in
     record {
-      effects_are = subst AreNamed (sym h.effects_are) (keys_named (retire m.keys []) h.keys owners between have h.given);
+      effects_are = subst AreNamed (sym h.effects_are) (keys_named (retire m.keys gone) h.keys owners between have h.rekeys.given);
       state = subst IsNamedState (sym h.state) (record {
-        ports = accepted_named m.config.net ops (event_count m + 1) named.ports fine;
+        ports = ports_named next valid;
         chassis = named.chassis;
         bindings = all_filtered HasNamedHome _ m.config.bindings named.bindings;
         waiting = named.waiting;
-        keys = still_ranged (retire m.keys []) h.keys owners between have h.given;
+        keys = still_ranged (retire m.keys gone) h.keys owners between have h.rekeys.given;
       });
     }
-does_named m zones old (Bind p chassis) admitted allowed effects after named fine h = nothing_else effects after _ h.0 h.1 (record {
+does_named m zones old (event_of.Bind p chassis) fine allowed effects after named h = nothing_else effects after _ h.0 h.1 (record {
   ports = named.ports;
   chassis = named.chassis;
   bindings = all_put HasNamedHome m.config.bindings p chassis named.bindings fine.1;
   waiting = named.waiting;
   keys = named.keys;
 })
-does_named m zones old (AddChassis chassis) admitted allowed effects after named fine h = nothing_else effects after _ h.0 h.1 (record {
+does_named m zones old (event_of.Unbind p) fine allowed effects after named h = cc
+does_named m zones old (event_of.AddChassis chassis) fine allowed effects after named h = nothing_else effects after _ h.0 h.1 (record {
   ports = named.ports;
   chassis = all_with IsName m.config.chassis chassis named.chassis fine;
   bindings = named.bindings;
   waiting = named.waiting;
   keys = named.keys;
 })
-does_named m zones old (Inject p frame) admitted allowed effects after named fine h =
-    enters_named m p frame effects after named (enters_back m old.valid p frame effects after admitted (can_enter m zones old.bound p allowed) h)
-does_named m zones old (Deliver n) admitted allowed effects after named fine h =
-    let x = found (numbered m.waiting n) None (Some (why.NoFrame n)) (why.NoFrame n) refl allowed in
-    arrives_named m n false effects after named (arrives_back m old.valid n false x.0 effects after x.1 h)
-does_named m zones old (Lose n) admitted allowed effects after named fine h =
-    let lost = loses_back m old.valid n effects after h in
+does_named m zones old (event_of.RemoveChassis chassis) fine allowed effects after named h = cc
+does_named m zones old (event_of.Keys datapaths ports) fine allowed effects after named h = cc
+does_named m zones old (event_of.Health balancer backend online) fine allowed effects after named h = cc
+does_named m zones old (event_of.Clock seconds) fine allowed effects after named h = cc
+does_named m zones old (event_of.Inject p frame) fine allowed effects after named h =
+    enters_named m p frame effects after named (enters_back m (plain_valid m.config.net old.valid old.built) p frame effects after (no_arp_in m p frame allowed) (can_enter m zones old.bound p frame allowed) h)
+does_named m zones old (event_of.Deliver n) fine allowed effects after named h =
+    let x = found m n allowed in
+    arrives_named m n false effects after named (arrives_back m (plain_valid m.config.net old.valid old.built) n false x.0 effects after x.1 h)
+does_named m zones old (event_of.Lose n) fine allowed effects after named h =
+    let lost = loses_back m (plain_valid m.config.net old.valid old.built) n effects after h in
     nothing_else effects after (with_kept false m n) lost.0 lost.1 (kept_named false m n named)
-does_named m zones old (Repeat n) admitted allowed effects after named fine h =
-    let x = found (numbered m.waiting n) (cond (too_many_wait m) (Some why.TooManyFrames) None) (Some (why.NoFrame n)) (why.NoFrame n) refl allowed in
-    arrives_named m n true effects after named (arrives_back m old.valid n true x.0 effects after x.1 h)
-does_named m zones old Drain admitted allowed effects after named fine h = drains_named most_arrivals m effects after named (drains_back m old.valid effects after h)
-does_named m zones old (Packet p frame) admitted allowed effects after named fine h =
-    let s = sends_back m old.valid p frame effects after admitted (can_enter m zones old.bound p allowed) h in
+does_named m zones old (event_of.Repeat n) fine allowed effects after named h =
+    let x = found m n (neither (no_frame m n) (too_many_wait m) allowed).0 in
+    arrives_named m n true effects after named (arrives_back m (plain_valid m.config.net old.valid old.built) n true x.0 effects after x.1 h)
+does_named m zones old event_of.Drain fine allowed effects after named h = drains_named most_arrivals m effects after named (drains_back m (plain_valid m.config.net old.valid old.built) effects after h)
+does_named m zones old (event_of.Packet p frame) fine allowed effects after named h =
+    let s = sends_back m (plain_valid m.config.net old.valid old.built) p frame effects after (no_arp_in m p frame allowed) (can_enter m zones old.bound p frame allowed) h in
     let first = enters_named m p frame s.own s.mid named s.enters in
     both_named effects s.own s.more s.mid after s.all first (drains_named most_arrivals s.mid s.more after first.state s.drains)
-does_named m zones old (Unread fault) admitted allowed effects after named fine h = absurd h
-does_named m zones old NotBuilt admitted allowed effects after named fine h = absurd h
+does_named m zones old (event_of.Unread fault) fine allowed effects after named h = absurd h
 
 settled_ranged : (waiting : List (ℕ × Crossing)) (keys : Keys) → AreRanged keys → AreRanged (settled_where_none_waits waiting keys)
 settled_ranged [] keys ranged = record { datapaths = ranged.datapaths; ports = ranged.ports }
@@ -436,60 +425,10 @@ finished_named : (m : State) → IsNamedState m → IsNamedState (finished m)
 finished_named m named = record { ports = named.ports; chassis = named.chassis; bindings = named.bindings; waiting = named.waiting; keys = settled_ranged m.waiting m.keys named.keys }
 
 -- the effects of a step are in names, and the state after it too
-pub step_named : (m : State) (zones : Zoned) → IsConsistent m zones → (event : Event) → IsAdmitted event → refusal m event ≡ None → (effects : List NetEffect) (after : State) → IsNamedState m → IsNamedEvent event
-    → NetworkStep m event effects after → AreNamed effects × IsNamedState after
-step_named m zones old event admitted allowed effects after named fine h =
-    let does = does_named m zones old event admitted allowed effects h.mid named fine h.does in
+pub step_named : (m : State) (zones : Zoned) → IsConsistent m zones → (event : Event) → IsEventInGrammar event → refusal m event ≡ None → (effects : List NetEffect) (after : State) → IsNamedState m → NetworkStep m event effects after → AreNamed effects × IsNamedState after
+step_named m zones old event fine allowed effects after named h =
+    let does = does_named m zones old event fine allowed effects h.mid named h.does in
     (does.effects_are, subst IsNamedState (sym h.state) (finished_named h.mid does.state))
-
--- ---- refusals
-
-abbrev IsNamedCause : Option Refusal → Type 0
-IsNamedCause None = Unit {0}
-IsNamedCause (Some cause) = IsNamedRefusal cause
-
-test_named : (t : Bool) (x y : Option Refusal) → IsNamedCause x → IsNamedCause y → IsNamedCause (cond t x y)
-test_named true x y h k = h
-test_named false x y h k = k
-
-record_cause_named : (net : Network) (row : Record) → IsNamedRecord row → IsNamedCause (refusal_of_record net row)
-record_cause_named net (record_of.Switch switch) named = test_named _ None (Some why.NotBuilt) tt tt
-record_cause_named net (record_of.SwitchPort port) named =
-    test_named (not (is_unbuilt_port net port)) (cond (is_some (at net.switches port.switch)) None (Some (why.NoSuch port.switch))) (Some why.NotBuilt)
-    (test_named (is_some (at net.switches port.switch)) None (Some (why.NoSuch port.switch)) tt named.1) tt
-record_cause_named net _ named = tt
-
-entry_cause_named : (m : State) (port : Name) → IsName port → IsNamedCause (refusal_of_entry m port)
-entry_cause_named m port named =
-    test_named (is_built_entry m port) (cause_of_entry m port) (Some why.NotBuilt)
-    (test_named (is_some (at m.config.net.switch_ports port)) (cond (too_many_wait m) (Some why.TooManyFrames) None) (Some (why.NoSuch port)) (test_named (too_many_wait m) (Some why.TooManyFrames) None tt tt) named) tt
-
-cause_named : (m : State) (event : Event) → IsNamedEvent event → IsNamedCause (refusal m event)
-cause_named m (Edit []) named = tt
-cause_named m (Edit (Add row ∷ [])) named = record_cause_named m.config.net row named.0
-cause_named m (Edit (Set k name change ∷ [])) named = tt
-cause_named m (Edit (Remove k name ∷ [])) named = tt
-cause_named m (Edit (Health balancer backend online ∷ [])) named = tt
-cause_named m (Edit (op ∷ next ∷ ops)) named = tt
-cause_named m (Bind port chassis) named =
-    test_named (is_some (at m.config.net.switch_ports port)) (cond (is_chassis m.config chassis) None (Some (why.NoSuch chassis))) (Some (why.NoSuch port))
-    (test_named (is_chassis m.config chassis) None (Some (why.NoSuch chassis)) tt named.1) named.0
-cause_named m (AddChassis chassis) named =
-    test_named (is_chassis m.config chassis) (Some (why.DuplicateName chassis)) (cond (nat_le 64 (length m.config.chassis)) (Some why.LimitChassis) None) named
-    (test_named (nat_le 64 (length m.config.chassis)) (Some why.LimitChassis) None tt tt)
-cause_named m (Inject port frame) named = entry_cause_named m port named
-cause_named m (Deliver n) named = test_named _ None (Some (why.NoFrame n)) tt tt
-cause_named m (Lose n) named = test_named _ None (Some (why.NoFrame n)) tt tt
-cause_named m (Repeat n) named =
-    test_named _ (cond (too_many_wait m) (Some why.TooManyFrames) None) (Some (why.NoFrame n)) (test_named (too_many_wait m) (Some why.TooManyFrames) None tt tt) tt
-cause_named m Drain named = tt
-cause_named m (Packet port frame) named = entry_cause_named m port named
-cause_named m (Unread fault) named = tt
-cause_named m NotBuilt named = tt
-
--- the name in a refusal is that of the event
-pub refusal_named : (m : State) (event : Event) (cause : Refusal) → IsNamedEvent event → refusal m event ≡ Some cause → IsNamedRefusal cause
-refusal_named m event cause named e = subst IsNamedCause e (cause_named m event named)
 
 -- where nothing is there, no name is none
 pub none_named : IsNamedState empty

@@ -2,7 +2,7 @@
 use Rattle.std.proofs.Common.{◌≡◌, ◌+◌, ◌++◌, ℕ, zero, suc, Bool, true, false, List, [], inl, inr, refl, sym, ap, ◌∙◌, subst, take, drop, take-append-drop, arith, Option, Result, Ok, Err, IsErrAnd, IfErr}
 use Rattle.std.specs.Io.KnownBytes.{append_known}
 use Rattle.edit_reader.specs.declared.event.Event.{Event}
-use Rattle.edit_reader.specs.declared.event.Event.TheVariants.{Edit, Bind, AddChassis, Inject, Deliver, Lose, Repeat, Drain, Packet, Unread, NotBuilt}
+use Rattle.edit_reader.specs.declared.event.Event.TheVariants.{Edit, Bind, Unbind, AddChassis, RemoveChassis, Keys, Health, Clock, Inject, Deliver, Lose, Repeat, Drain, Packet, Unread}
 use Rattle.event_lines.specs.declared.refusal.Refusal.{Refusal}
 use Rattle.switch_engine.specs.declared.effect.NetEffect.{NetEffect}
 use Rattle.event_lines.specs.Lines.{accepted_lines}
@@ -26,7 +26,12 @@ counts_kept m after next e h = subst (λ (s : State). HasCounts s m.accepted m.r
 does_counts : (m : State) (event : Event) (effects : List NetEffect) (after : State) → Does m event effects after → HasCounts after m.accepted m.refused
 does_counts m (Edit ops) effects after h = counts_kept m after _ h.state (record { accepted_are = refl; refused_are = refl })
 does_counts m (Bind port chassis) effects after h = counts_kept m after _ h.1 (record { accepted_are = refl; refused_are = refl })
+does_counts m (Unbind port) effects after h = counts_kept m after _ h.1 (record { accepted_are = refl; refused_are = refl })
 does_counts m (AddChassis chassis) effects after h = counts_kept m after _ h.1 (record { accepted_are = refl; refused_are = refl })
+does_counts m (RemoveChassis chassis) effects after h = counts_kept m after _ h.1 (record { accepted_are = refl; refused_are = refl })
+does_counts m (Keys datapaths ports) effects after h = counts_kept m after _ h.1 (record { accepted_are = refl; refused_are = refl })
+does_counts m (Health balancer backend online) effects after h = counts_kept m after _ h.1 (record { accepted_are = refl; refused_are = refl })
+does_counts m (Clock seconds) effects after h = counts_kept m after _ h.1 (record { accepted_are = refl; refused_are = refl })
 does_counts m (Inject port frame) effects after h = counts_kept m after _ h.moves.travels.state (record { accepted_are = refl; refused_are = refl })
 does_counts m (Deliver n) effects after h = counts_kept m after _ h.travels.state (record { accepted_are = refl; refused_are = refl })
 does_counts m (Lose n) effects after h = counts_kept m after _ h.travels.state (record { accepted_are = refl; refused_are = refl })
@@ -34,7 +39,6 @@ does_counts m (Repeat n) effects after h = counts_kept m after _ h.travels.state
 does_counts m Drain effects after h = counts_kept m after _ h.travels.state (record { accepted_are = refl; refused_are = refl })
 does_counts m (Packet port frame) effects after h = counts_kept m after _ h.moves.travels.state (record { accepted_are = refl; refused_are = refl })
 does_counts m (Unread fault) effects after h = absurd h
-does_counts m NotBuilt effects after h = absurd h
 
 -- a step counts one event that was accepted
 pub step_counts : (m : State) (event : Event) (effects : List NetEffect) (after : State) → NetworkStep m event effects after → (after.accepted ≡ m.accepted + 1) × (after.refused ≡ m.refused)

@@ -1,13 +1,9 @@
 -- The picks of a run are those that are read off its text.
-use Rattle.ovnsim.proofs.Admits.{all_admitted}
+use Rattle.ovnsim.proofs.Admits.{Fits, all_admitted}
 use Rattle.world_core.proofs.EmptyWorld.{new_sound}
-use Rattle.world_core.specs.Admitted.{IsAdmitted}
+use Rattle.edit_reader.specs.Fitting.{IsEventInGrammar}
 use Rattle.std.proofs.Common.{◌≡◌, ◌+◌, ◌++◌, ℕ, List, [], ◌∷◌, inl, inr, sym, ap, ◌∙◌, subst, append_assoc, append-nil, codes}
 use Rattle.std.specs.List.{AllByRecursion}
-use Rattle.serde_json.specs.Data.{Data}
-use Rattle.nb_records.specs.declared.record.Record.{Record}
-use Rattle.nb_records.specs.declared.record.Record.TheVariants as kind
-use Rattle.edit_reader.specs.Reads.{Adds, IsForm, Reads, edits, adds_chassis, binds, sends, injects, delivers, loses, repeats, drains, is_form, is_none}
 use Rattle.edit_reader.specs.declared.event.Event.{Event}
 use Rattle.event_lines.specs.Picks.{Pick, picks_in, AreWholeLines}
 use Rattle.event_lines.proofs.PickLines as read
@@ -15,41 +11,9 @@ use Rattle.world_core.specs.Outcome.{matched}
 use Rattle.world_core.specs.StepParts.{new_world}
 use Rattle.world_core.specs.WorldView.{WorldView, IsSound}
 use Rattle.net_model.specs.State.{event_count}
-use Rattle.ovnsim.specs.Events.{AreEvents, AsksFor, is_too_long, is_no_json, is_read}
+use Rattle.ovnsim.specs.Events.{AreEvents}
 use Rattle.ovnsim.specs.Runs.{Runs, Takes, accepts, refuses}
-use Rattle.ovnsim.proofs.NameLaws.{IsNamedRecord, IsNamedEvent, IsNamedState, none_named, refusal_named, step_named}
-
--- ---- the names in what a line asks for
-
-record_named : (d : Data) (row : Record) → Adds d row → IsNamedRecord row
-record_named d (kind.Switch switch) h = h.is_name
-record_named d (kind.SwitchPort port) h = (h.has_port.is_name, h.has_port.is_switch_name)
-record_named d _ h = absurd h
-
-form_named : (d : Data) (event : Event) → IsForm d event → IsNamedEvent event
-form_named d event (edits row h e) = subst IsNamedEvent (sym e) (record_named h.op row h.adds, tt)
-form_named d event (adds_chassis name h e) = subst IsNamedEvent (sym e) h.is_name
-form_named d event (binds port chassis h e) = subst IsNamedEvent (sym e) (h.is_port_name, h.is_chassis_name)
-form_named d event (sends port frame h e) = subst IsNamedEvent (sym e) h.has_frame.is_port_name
-form_named d event (injects port frame h e) = subst IsNamedEvent (sym e) h.has_frame.is_port_name
-form_named d event (delivers n h e) = subst IsNamedEvent (sym e) tt
-form_named d event (loses n h e) = subst IsNamedEvent (sym e) tt
-form_named d event (repeats n h e) = subst IsNamedEvent (sym e) tt
-form_named d event (drains h e) = subst IsNamedEvent (sym e) tt
-
-value_named : (d : Data) (event : Event) → Reads d event → IsNamedEvent event
-value_named d event (is_form h) = form_named d event h
-value_named d event (is_none none e) = subst IsNamedEvent (sym e) tt
-
-line_named : (line : List ℕ) (event : Event) → AsksFor line event → IsNamedEvent event
-line_named line event (is_too_long long e) = subst IsNamedEvent (sym e) tt
-line_named line event (is_no_json short blank none e) = subst IsNamedEvent (sym e) tt
-line_named line event (is_read short blank reads) = value_named reads.value event reads.event_of
-
-pub events_named : (lines : List (List ℕ)) (events : List Event) → AreEvents lines events → AllByRecursion IsNamedEvent events
-events_named [] events h = subst (λ es. AllByRecursion IsNamedEvent es) (sym h) tt
-events_named (line ∷ lines) events (inl h) = events_named lines events h.1
-events_named (line ∷ lines) events (inr h) = subst (λ es. AllByRecursion IsNamedEvent es) (sym h.all) (line_named line h.first h.asks, events_named lines h.others h.after)
+use Rattle.ovnsim.proofs.NameLaws.{IsNamedState, none_named, step_named}
 
 -- ---- the text of an event
 
@@ -63,12 +27,12 @@ pub record IsReadOff (own : List Pick) (text : List ℕ) (new : WorldView) : Typ
   pub picks : picks_in text ≡ own
   pub named : IsNamedState new.state
 
-takes_read : (old : WorldView) → IsSound old → (event : Event) → IsAdmitted event → (own : List Pick) (text : List ℕ) (new : WorldView) → IsNamedState old.state → IsNamedEvent event → Takes old event own text new → IsReadOff own text new
-takes_read old sound event admitted own text new named fine (accepts h e) =
-    let step = step_named old.state old.zones sound.consistent event admitted h.admitted h.effects new.state named fine h.step in
+takes_read : (old : WorldView) → IsSound old → (event : Event) → IsEventInGrammar event → (own : List Pick) (text : List ℕ) (new : WorldView) → IsNamedState old.state → Takes old event own text new → IsReadOff own text new
+takes_read old sound event admitted own text new named (accepts h e) =
+    let step = step_named old.state old.zones sound.consistent event admitted h.admitted h.effects new.state named h.step in
     record { picks = ap picks_in h.text ∙ read.accepted (event_count old.state + 1) (matched new.walks) h.effects step.0 ∙ sym e; named = step.1 }
-takes_read old sound event admitted own text new named fine (refuses why h e) = record {
-  picks = ap picks_in h.text ∙ read.refused (event_count old.state + 1) why (refusal_named old.state event why fine h.first) ∙ sym e;
+takes_read old sound event admitted own text new named (refuses why h e) = record {
+  picks = ap picks_in h.text ∙ read.refused (event_count old.state + 1) why ∙ sym e;
   named = subst (λ (w : WorldView). IsNamedState w.state) (sym h.kept) (record { ports = named.ports; chassis = named.chassis; bindings = named.bindings; waiting = named.waiting; keys = named.keys });
 }
 
@@ -83,15 +47,15 @@ run_whole old [] picks text last h = inl h.1
 run_whole old (event ∷ events) picks text last h =
     subst AreWholeLines (sym h.whole) (whole_joined h.first h.rest (takes_whole old event h.own h.first h.mid h.takes) (run_whole h.mid events h.left h.rest last h.others))
 
-run_read : (old : WorldView) → IsSound old → (events : List Event) → AllByRecursion IsAdmitted events → (picks : List Pick) (text : List ℕ) (last : WorldView) → IsNamedState old.state → AllByRecursion IsNamedEvent events → Runs old events picks text last → picks_in text ≡ picks
-run_read old sound [] admitted picks text last named fine h = ap picks_in h.1 ∙ sym h.0
-run_read old sound (event ∷ events) admitted picks text last named fine h =
-    let one = takes_read old sound event admitted.0 h.own h.first h.mid named fine.0 h.takes in
+run_read : (old : WorldView) → IsSound old → (events : List Event) → AllByRecursion IsEventInGrammar events → (picks : List Pick) (text : List ℕ) (last : WorldView) → IsNamedState old.state → Runs old events picks text last → picks_in text ≡ picks
+run_read old sound [] admitted picks text last named h = ap picks_in h.1 ∙ sym h.0
+run_read old sound (event ∷ events) admitted picks text last named h =
+    let one = takes_read old sound event admitted.0 h.own h.first h.mid named h.takes in
     ap picks_in h.whole ∙ read.joined h.first h.rest (takes_whole old event h.own h.first h.mid h.takes)
     ∙ ap (λ ps. ps ++ picks_in h.rest) one.picks
-    ∙ ap (λ ps. h.own ++ ps) (run_read h.mid h.sound events admitted.1 h.left h.rest last one.named fine.1 h.others)
+    ∙ ap (λ ps. h.own ++ ps) (run_read h.mid h.sound events admitted.1 h.left h.rest last one.named h.others)
     ∙ sym h.picked
 
 -- what was picked is what is read off the text
-pub read_off : (lines : List (List ℕ)) (events : List Event) (picks : List Pick) (text : List ℕ) (last : WorldView) → AreEvents lines events → Runs new_world events picks text last → picks_in text ≡ picks
-read_off lines events picks text last are run = run_read new_world new_sound events (all_admitted lines events are) picks text last none_named (events_named lines events are) run
+pub read_off : Fits → (lines : List (List ℕ)) (events : List Event) (picks : List Pick) (text : List ℕ) (last : WorldView) → AreEvents lines events → Runs new_world events picks text last → picks_in text ≡ picks
+read_off fits lines events picks text last are run = run_read new_world new_sound events (all_admitted fits lines events are) picks text last none_named run

@@ -13,6 +13,7 @@ use Rattle.ovnsim.specs.Events.{AreEvents, AsksFor, IsPassedOver, GivesNext}
 use Rattle.ovnsim.specs.Runs.{Runs, RunsLines, Takes}
 use Rattle.ovnsim.specs.Taking.{GainsText}
 use Rattle.event_lines.specs.Picks.{Pick, picks_in}
+use Rattle.ovnsim.proofs.Admits.{Fits}
 use Rattle.ovnsim.proofs.ReadOff.{read_off}
 
 -- Some first lines of the input were taken and their texts given, and the lines of the unread bytes are the others.
@@ -76,15 +77,15 @@ pub lines_passed : (done : List (List ℕ)) (text line : List ℕ) (world : Worl
 lines_passed done text line world h p = record { events = h.events; are = events_passed done h.events line h.are p; run = h.run }
 
 -- the event of a line is taken
-pub lines_more : (done : List (List ℕ)) (text line : List ℕ) (event : Event) (own : List Pick) (piece : List ℕ) (world last : WorldView) → RunsLines done (picks_in text) text world → AsksFor line event
+pub lines_more : Fits → (done : List (List ℕ)) (text line : List ℕ) (event : Event) (own : List Pick) (piece : List ℕ) (world last : WorldView) → RunsLines done (picks_in text) text world → AsksFor line event
     → Takes world event own piece last → IsSound last → RunsLines (done ++ line ∷ []) (picks_in (text ++ piece)) (text ++ piece) last
-lines_more done text line event own piece world last h a t s =
+lines_more fits done text line event own piece world last h a t s =
     let are = events_more done h.events line event h.are a in
     let run = runs_more new_world h.events (picks_in text) text world event own piece last h.run t s in
     record {
       events = h.events ++ event ∷ [];
       are = are;
-      run = subst (λ ps. Runs new_world (h.events ++ event ∷ []) ps (text ++ piece) last) (sym (read_off (done ++ line ∷ []) (h.events ++ event ∷ []) (picks_in text ++ own) (text ++ piece) last are run)) run;
+      run = subst (λ ps. Runs new_world (h.events ++ event ∷ []) ps (text ++ piece) last) (sym (read_off fits (done ++ line ∷ []) (h.events ++ event ∷ []) (picks_in text ++ own) (text ++ piece) last are run)) run;
     }
 
 -- the lines that are left after a line more
@@ -108,14 +109,14 @@ ran_passed m k world before sent input ahead line after more h g p = record {
   gone = h.gone;
 }
 
-ran_more : (m k : Reading) (world last : WorldView) (before sent now : Option (List ℕ)) (input ahead line after : List ℕ) (event : Event) (ok : Bool) → m.given < k.given
+ran_more : Fits → (m k : Reading) (world last : WorldView) (before sent now : Option (List ℕ)) (input ahead line after : List ℕ) (event : Event) (ok : Bool) → m.given < k.given
     → Ran m world before sent input ahead → GivesLine line m k ahead after → AsksFor line event → GainsText ok world event sent now last → Ran k last before now input after
-ran_more m k world last before sent now input ahead line after event ok more h g a t = record {
+ran_more fits m k world last before sent now input ahead line after event ok more h g a t = record {
   done = h.done ++ line ∷ [];
   text = h.text ++ t.text;
   lines = lines_on m k world before sent input ahead line after more h g;
   count = h.count ∙ g.count;
-  run = lines_more h.done h.text line event t.taken.picks t.text world last h.run a t.taken.takes t.taken.sound;
+  run = lines_more fits h.done h.text line event t.taken.picks t.text world last h.run a t.taken.takes t.taken.sound;
   gone = t.gone ∙ ap (λ x. append_known x t.text) h.gone ∙ append_twice before h.text t.text;
 }
 
@@ -145,7 +146,7 @@ turn_passed X Y Z before sent m k world more h g =
     told_then X Y Z (Ran m world before sent) (GivesNext Blank m k) (Ran k world before sent) h g (λ x y z p q. ran_passed m k world before sent x y q.0 z more p q.1 q.2)
 
 -- a line that asks for an event
-pub turn_event : (X Y Z before sent now : Option (List ℕ)) (m k : Reading) (world last : WorldView) (event : Event) (ok : Bool) → m.given < k.given → WhereTold X Y (Ran m world before sent)
+pub turn_event : Fits → (X Y Z before sent now : Option (List ℕ)) (m k : Reading) (world last : WorldView) (event : Event) (ok : Bool) → m.given < k.given → WhereTold X Y (Ran m world before sent)
     → WhereTold Y Z (GivesNext (Found event) m k) → GainsText ok world event sent now last → WhereTold X Z (Ran k last before now)
-turn_event X Y Z before sent now m k world last event ok more h g t =
-    told_then X Y Z (Ran m world before sent) (GivesNext (Found event) m k) (Ran k last before now) h g (λ x y z p q. ran_more m k world last before sent now x y q.0 z event ok more p q.1 q.2 t)
+turn_event fits X Y Z before sent now m k world last event ok more h g t =
+    told_then X Y Z (Ran m world before sent) (GivesNext (Found event) m k) (Ran k last before now) h g (λ x y z p q. ran_more fits m k world last before sent now x y q.0 z event ok more p q.1 q.2 t)

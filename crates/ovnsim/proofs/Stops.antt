@@ -24,6 +24,7 @@ use Rattle.ovnsim.specs.declared.run.Stop.TheVariants.{ReadFault, WriteFault, Me
 use Rattle.event_lines.specs.Picks.{picks_in, AreWholeLines}
 use Rattle.event_lines.proofs.PickLines as read
 use Rattle.ovnsim.proofs.ReadOff.{run_whole}
+use Rattle.ovnsim.proofs.Admits.{Fits}
 use Rattle.ovnsim.proofs.RunSteps.{Ran, fresh, lines_more, lines_on}
 
 -- the bytes that are left of the limit
@@ -81,16 +82,16 @@ cut_text : (t piece front more z : List ℕ) → piece ≡ front ++ more → (t 
 cut_text t piece front more z e =
     append_assoc t piece z ∙ ap (λ x. t ++ (x ++ z)) e ∙ ap (λ x. t ++ x) (append_assoc front more z) ∙ sym (append_assoc t front (more ++ z))
 
-front_of : (m k : Reading) (world : WorldView) (before sent now : Option (List ℕ)) (input ahead line after : List ℕ) (event : Event) → m.given < k.given → IsBelowLimit k → Ran m world before sent input ahead
+front_of : Fits → (m k : Reading) (world : WorldView) (before sent now : Option (List ℕ)) (input ahead line after : List ℕ) (event : Event) → m.given < k.given → IsBelowLimit k → Ran m world before sent input ahead
     → GivesLine line m k ahead after → AsksFor line event → GainsCut world event sent now → GainsFront before now input
-front_of m k world before sent now input ahead line after event more w h g a t =
+front_of fits m k world before sent now input ahead line after event more w h g a t =
     let rest = lines_within (left_of k) after in record {
       done = h.done ++ line ∷ [];
       rest = rest;
       text = h.text ++ t.text;
       last = t.new;
       all = lines_on m k world before sent input ahead line after more h g (left_of k) (2 ^ 40) (left_is k w) (left_some k w);
-      run = lines_more h.done h.text line event t.taken.picks t.text world t.new h.run a t.taken.takes t.taken.sound;
+      run = lines_more fits h.done h.text line event t.taken.picks t.text world t.new h.run a t.taken.takes t.taken.sound;
       front = h.text ++ t.cut.0;
       more = t.cut.1 ++ then_last rest input t.new;
       cut = cut_text h.text t.text t.cut.0 t.cut.1 (then_last rest input t.new) t.cut.2;
@@ -98,13 +99,13 @@ front_of m k world before sent now input ahead line after event more w h g a t =
     }
 
 -- some first bytes of the text of an event
-at_give : (X Y Z before sent now : Option (List ℕ)) (m k : Reading) (world : WorldView) (event : Event) → m.given < k.given → IsBelowLimit k → WhereTold X Y (Ran m world before sent)
+at_give : Fits → (X Y Z before sent now : Option (List ℕ)) (m k : Reading) (world : WorldView) (event : Event) → m.given < k.given → IsBelowLimit k → WhereTold X Y (Ran m world before sent)
     → WhereTold Y Z (GivesNext (Found event) m k) → GainsCut world event sent now → IfSome X (GainsFront before now)
-at_give X Y Z before sent now m k world event more w h g t =
+at_give fits X Y Z before sent now m k world event more w h g t =
     let R : List ℕ → List ℕ → Type 0 = λ x z. GainsFront before now x in
     told_some X Z R (GainsFront before now) (
     told_then X Y Z (Ran m world before sent) (GivesNext (Found event) m k) R h g (
-    λ x y z p q. front_of m k world before sent now x y q.0 z event more w p q.1 q.2 t)) (λ x z p. p)
+    λ x y z p q. front_of fits m k world before sent now x y q.0 z event more w p q.1 q.2 t)) (λ x z p. p)
 
 -- the lines of the input within the bytes that were taken
 stop_lines : (m k : Reading) (world : WorldView) (before sent : Option (List ℕ)) (input ahead left : List ℕ) → m.ended ≡ false → (h : Ran m world before sent input ahead) → Stops m k ahead left
@@ -152,12 +153,12 @@ next_stands Memory X Y Z before sent m k world w h s = at_memory X Y before sent
 next_stands WriteFault X Y Z before sent m k world w h s = absurd s
 
 -- where the text of an event was not given
-pub give_stands : (stop : Stop) (X Y Z left before sent now : Option (List ℕ)) (m k : Reading) (world : WorldView) (event : Event) → m.given < k.given → IsBelowLimit m → IsBelowLimit k → WhereTold X Y (Ran m world before sent)
+pub give_stands : Fits → (stop : Stop) (X Y Z left before sent now : Option (List ℕ)) (m k : Reading) (world : WorldView) (event : Event) → m.given < k.given → IsBelowLimit m → IsBelowLimit k → WhereTold X Y (Ran m world before sent)
     → WhereTold Y Z (GivesNext (Found event) m k) → CutsShort stop (GainsCut world event) sent now → StandsAt stop X left before now
-give_stands ReadFault X Y Z left before sent now m k world event more w v h g t = absurd t
-give_stands InputTooLong X Y Z left before sent now m k world event more w v h g t = absurd t
-give_stands Memory X Y Z left before sent now m k world event more w v h g t = at_memory X Y before sent now m world w h t
-give_stands WriteFault X Y Z left before sent now m k world event more w v h g t = at_give X Y Z before sent now m k world event more v h g t
+give_stands fits ReadFault X Y Z left before sent now m k world event more w v h g t = absurd t
+give_stands fits InputTooLong X Y Z left before sent now m k world event more w v h g t = absurd t
+give_stands fits Memory X Y Z left before sent now m k world event more w v h g t = at_memory X Y before sent now m world w h t
+give_stands fits WriteFault X Y Z left before sent now m k world event more w v h g t = at_give fits X Y Z before sent now m k world event more v h g t
 
 -- with the end seen, nothing is left
 pub stays_at_end : (b c : Bool) (X Z : Option (List ℕ)) → (b ≡ true → IsAtEnd X) → (b ≡ true → Z ≡ X) → (b ≡ false → c ≡ true → IsAtEnd Z) → c ≡ true → IsAtEnd Z

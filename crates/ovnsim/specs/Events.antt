@@ -1,14 +1,14 @@
 -- The events of an input.
-use Rattle.std.specs.Prelude.{◌≡◌, ◌<◌, ◌≤◌, ◌==◌, ◌||◌, ◌⊎◌, ℕ, Bool, List, [], ◌∷◌, length}
+use Rattle.std.specs.Prelude.{◌≡◌, ◌≤◌, ◌==◌, ◌||◌, ◌⊎◌, ℕ, Bool, List, [], ◌∷◌, length, nat_lt, if◌then◌else◌, Ok, Err}
 use Rattle.std.specs.List.{AllPass}
 use Rattle.ovn_base.specs.declared.limits.TheConstants.{MAX_LINE}
-use Rattle.serde_json.specs.Data.{Data}
 use Rattle.ovn_base.specs.lines.Reading.{Reading, Gives, GivesLine}
 use Rattle.ovn_base.specs.declared.next_line.Line.TheVariants as line
-use Rattle.edit_reader.specs.Reads.{ReadsLine, IsReading}
+use Rattle.edit_reader.specs.Events.{reading_of}
+use Rattle.edit_reader.specs.Outcomes.{Read}
 use Rattle.edit_reader.specs.declared.event.Event.{Event}
 use Rattle.edit_reader.specs.declared.event.Event.TheVariants.{Unread}
-use Rattle.edit_reader.specs.declared.event.ReadRefusal.TheVariants.{TooLong, BadJson}
+use Rattle.edit_reader.specs.declared.event.ReadRefusal.TheVariants.{TooLong}
 use Rattle.ovnsim.specs.declared.next_event.Next.{Next}
 use Rattle.ovnsim.specs.declared.next_event.Next.TheVariants.{Found, Blank, End}
 
@@ -21,11 +21,19 @@ pub record IsPassedOver (line : List ℕ) : Type 0 where
   pub short : length line ≤ MAX_LINE
   pub blank : AllPass is_line_blank line
 
--- what a line that isn't passed over asks for: over 1,048,576 bytes it is too long, whatever its bytes, and one that is no JSON isn't read
-pub data AsksFor (line : List ℕ) (event : Event) : Type 0 where
-  is_too_long : MAX_LINE < length line → event ≡ Unread TooLong → AsksFor line event
-  is_no_json : length line ≤ MAX_LINE → ¬ AllPass is_line_blank line → ((d : Data) → ¬ IsReading line d) → event ≡ Unread BadJson → AsksFor line event
-  is_read : length line ≤ MAX_LINE → ¬ AllPass is_line_blank line → ReadsLine line event → AsksFor line event
+-- an event that is read, or the first fault of its line
+abbrev pub read_as : Read Event → Event
+read_as (Ok event) = event
+read_as (Err fault) = Unread fault
+
+-- what a line asks for: one of over 1,048,576 bytes is too long, whatever its bytes
+abbrev pub asked_by : List ℕ → Event
+asked_by line = if nat_lt MAX_LINE (length line) then Unread TooLong else read_as (reading_of line)
+
+-- what is asked for by a line that isn't passed over
+pub record AsksFor (line : List ℕ) (event : Event) : Type 0 where
+  pub not_passed : ¬ IsPassedOver line
+  pub asked : event ≡ asked_by line
 
 -- the line is the first event's, and the others are those of the lines after it
 pub record HasFirst (line : List ℕ) (events : List Event) (Others : List Event → Type 0) : Type 0 where

@@ -3,7 +3,7 @@ use Rattle.std.specs.Prelude.{◌≡◌, ◌<◌, ◌≤◌, ◌^◌, ℕ, List,
 use Rattle.ovn_base.specs.declared.limits.TheConstants.{MAX_INPUT}
 use Rattle.ovn_base.specs.lines.Reading.{Reading, Stops, bytes_taken}
 use Rattle.ovn_base.specs.streams.WhereTold.{WhereTold}
-use Rattle.world_core.specs.Admitted.{IsAdmitted}
+use Rattle.edit_reader.specs.Fitting.{IsEventInGrammar}
 use Rattle.ovnsim.specs.declared.next_event.Next.{Next}
 use Rattle.ovnsim.specs.declared.next_event.Next.TheVariants.{Found, Blank, End}
 use Rattle.ovnsim.specs.declared.run.Stop.{Stop}
@@ -11,7 +11,7 @@ use Rattle.ovnsim.specs.declared.run.Stop.TheVariants.{ReadFault, WriteFault, Me
 
 -- an event that was found is one that a world takes
 abbrev pub IsAdmittedNext : Next → Type 0
-IsAdmittedNext (Found event) = IsAdmitted event
+IsAdmittedNext (Found event) = IsEventInGrammar event
 IsAdmittedNext Blank = Unit {0}
 IsAdmittedNext End = Unit {0}
 

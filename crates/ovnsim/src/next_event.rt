@@ -10,7 +10,7 @@ ghost use Rattle.ovnsim.specs.Next.{GoesOn, IsAdmittedNext, IsBelowLimit, StopsI
 
 use crate::run::Stop;
 use edit_reader::event::{Event, ReadError, ReadRefusal};
-use edit_reader::read::read_event;
+use edit_reader::read::{read_event, read_is_in_grammar};
 use ovn_base::limits::MAX_LINE;
 use ovn_base::line_buf::LineBuf;
 use ovn_base::memory::NoMemory;
@@ -46,6 +46,7 @@ fn next_of(alloc: Global, line: &[u8]) -> Result<Next, NoMemory>
     if is_blank_line(line) {
         return Ok(Next::Blank);
     }
+    read_is_in_grammar();
     match read_event(alloc, line) {
         Ok(event) => Ok(Next::Found(event)),
         Err(ReadError::Refused(refusal)) => Ok(Next::Found(Event::Unread(refusal))),

@@ -4,7 +4,7 @@ ghost use Rattle.ovn_base.specs.streams.Causes.{Rose};
 ghost use Rattle.std.specs.Io.KnownBytes.{append_known, IsAtEnd};
 ghost use Rattle.std.specs.Prelude.{◌≡◌, ◌<◌, ◌≤◌, ◌+◌, ◌^◌, [], cond, false, Err, IfErr, IfOk, IfSome, OnOk};
 ghost use Rattle.event_lines.specs.Lines.{end_line};
-ghost use Rattle.world_core.specs.Admitted.{IsAdmitted};
+ghost use Rattle.edit_reader.specs.Fitting.{IsEventInGrammar};
 ghost use Rattle.world_core.specs.StepParts.{new_world};
 ghost use Rattle.world_core.specs.WorldView.{IsSound, WorldView};
 ghost use Rattle.net_model.specs.State.{event_count};
@@ -14,6 +14,7 @@ ghost use Rattle.ovnsim.specs.Taking.{GainsCut, GainsText, TakesWith, WasCut};
 
 use crate::next_event::{Next, next_event};
 use edit_reader::event::Event;
+use edit_reader::read::read_is_in_grammar;
 use event_lines::lines::end;
 use event_lines::refusal::StepFault;
 use ovn_base::line_buf::LineBuf;
@@ -88,7 +89,7 @@ struct Events;
 fn step(event: &Event, world: &mut World, text: &mut Vec<u8>) -> Result<bool, NoMemory>
     requires sound { IsSound world.old }
     requires room { event_count world.old.state < 2 ^ 42 }
-    requires admitted { IsAdmitted event.now }
+    requires admitted { IsEventInGrammar event.now }
     ensures { IfOk result (λ is_accepted. TakesWith is_accepted world.old event.now text.new.items world.new) }
 {
     let mut steps: Steps<Events> = Steps::new();
@@ -104,7 +105,7 @@ fn step(event: &Event, world: &mut World, text: &mut Vec<u8>) -> Result<bool, No
 fn take_event(event: Event, world: &mut World, text: &mut Vec<u8>) -> Result<bool, NoMemory>
     requires sound { IsSound world.old }
     requires room { event_count world.old.state < 2 ^ 42 }
-    requires admitted { IsAdmitted event }
+    requires admitted { IsEventInGrammar event }
     ensures { IfOk result (λ is_accepted. TakesWith is_accepted world.old event text.new.items world.new) }
 {
     step(&event, world, text)
@@ -119,7 +120,7 @@ fn run_event<K: Sink>(
 ) -> Result<bool, Stop>
     requires sound { IsSound world.old }
     requires room { event_count world.old.state < 2 ^ 42 }
-    requires admitted { IsAdmitted event }
+    requires admitted { IsEventInGrammar event }
     ensures ok { IfOk result (λ is_accepted.
         GainsText is_accepted world.old event (K.gone sink.old) (K.gone sink.new) world.new) }
     ensures stopped { IfErr result (λ stop.
@@ -154,6 +155,7 @@ fn run_lines<S: Source, K: Sink>(
         StandsAt stop (S.left source.old) (S.left source.new) (K.gone sink.old) (K.gone sink.new)) }
     ensures causes { HasCauses (S.faults source.old) (S.faults source.new) (K.faults sink.old) (K.faults sink.new) result }
 {
+    read_is_in_grammar();
     let mut counts = Counts {
         accepted: 0,
         refused: 0,

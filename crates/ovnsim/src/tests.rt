@@ -203,30 +203,65 @@ const DRAIN_OUTPUT: &[u8] =
 end events=10 accepted=10 refused=0 waiting=0
 ";
 
-// Names and frames that aren't there, a chassis that is, and what isn't built.
-const REFUSED: &[u8] = b"{\"inject\":{\"port\":\"p9\",\"frame\":\"0a00000000020a000000000188b5\"}}
-{\"bind\":{\"port\":\"p9\",\"chassis\":\"hv9\"}}
+// Names and frames that aren't there, a chassis that is, frames with a fault, and what isn't built.
+const REFUSED: &[u8] = b"{\"inject\":{\"port\":\"p1\",\"frame\":\"00000000000000000000000000\"}}
+{\"inject\":{\"port\":\"p1\",\"frame\":\"0a00000000020a000000000108004500001c00010000401166cf0a0000010a0000021388138900080000\"}}
+{\"inject\":{\"port\":\"p9\",\"frame\":\"0a00000000020a000000000188b56869\"}}
 {\"bind\":{\"port\":\"p1\",\"chassis\":\"hv9\"}}
 {\"chassis\":{\"add\":\"hv1\"}}
 {\"repeat\":{\"frame\":0}}
-{\"deliver\":{\"frame\":-1}}
-{\"inject\":{\"port\":\"p1\",\"frame\":\"0a00000000020a00000000010806\"}}
-{\"edit\":[{\"add\":\"switch_port\",\"name\":\"p3\",\"switch\":\"s0\",\"addresses\":[\"0a:00:00:00:00:02\"]}]}
+{\"unbind\":{\"port\":\"p1\"}}
+{\"edit\":[{\"add\":\"switch\",\"name\":\"s1\"},{\"set\":\"switch_port\",\"name\":\"p1\",\"enabled\":false}]}
 ";
 
-const REFUSED_OUTPUT: &[u8] = b"8 refused NoSuch p9
-9 refused NoSuch p9
-10 refused NoSuch hv9
-11 refused DuplicateName hv1
-12 refused NoFrame 0
-13 refused NotBuilt
+const REFUSED_OUTPUT: &[u8] = b"8 refused TooShort
+9 refused BadIp4
+10 refused NoSuch p9
+11 refused NoSuch hv9
+12 refused DuplicateName hv1
+13 refused NoFrame 0
 14 refused NotBuilt
 15 refused NotBuilt
 end events=15 accepted=7 refused=8 waiting=0
 ";
 
+// Lines that can't be read, and a rule's match that can't.
+const UNREAD: &[u8] = b"{
+[]
+{\"edit\":[]}
+{\"lose\":{\"frame\":-1}}
+{\"edit\":[{\"add\":\"switch\",\"name\":\"a b\"}]}
+{\"edit\":[{\"add\":\"acl\",\"name\":\"x\",\"switch\":\"s0\",\"direction\":\"from-lport\",\"priority\":1000,\"match\":\"ip4 && tcp || udp\",\"action\":\"drop\"}]}
+";
+
+const UNREAD_OUTPUT: &[u8] = b"8 refused BadJson
+9 refused NotObject
+10 refused OutOfRange edit
+11 refused WrongKind frame
+12 refused OutOfRange name
+13 refused BadMatch MixedAndOr 11
+end events=13 accepted=7 refused=6 waiting=0
+";
+
+// Edits of two operations: one is refused for its second, and then the keys come as if it hadn't been there.
+const EDITS: &[u8] =
+    b"{\"edit\":[{\"add\":\"switch\",\"name\":\"s1\"},{\"set\":\"switch_port\",\"name\":\"zz\"}]}
+{\"packet\":{\"port\":\"p1\",\"frame\":\"0a00000000020a000000000188b56869\"}}
+{\"edit\":[{\"add\":\"switch_port\",\"name\":\"q1\",\"switch\":\"s1\"},{\"add\":\"switch\",\"name\":\"s1\"}]}
+";
+
+const EDITS_OUTPUT: &[u8] = b"8 refused NoSuch zz
+9 tunnel 1 hv1 hv2 024065580000010001028001000100020a00000000020a000000000188b56869
+9 out p2 0a00000000020a000000000188b56869
+9 ok walks=17
+10 key datapath s1 2
+10 key port q1 1
+10 ok walks=0
+end events=10 accepted=9 refused=1 waiting=0
+";
+
 // What these events are, behind those of the two chassis, with the status and the output behind theirs.
-const BEHIND_TWO_CHASSIS: [(&str, &[u8], u8, &[u8]); 8] = [
+const BEHIND_TWO_CHASSIS: [(&str, &[u8], u8, &[u8]); 10] = [
     ("a frame to another chassis", TUNNEL, 0, TUNNEL_OUTPUT),
     ("a packet for its own port", LOOPBACK, 0, LOOPBACK_OUTPUT),
     (
@@ -245,6 +280,8 @@ const BEHIND_TWO_CHASSIS: [(&str, &[u8], u8, &[u8]); 8] = [
         3,
         REFUSED_OUTPUT,
     ),
+    ("what can't be read", UNREAD, 3, UNREAD_OUTPUT),
+    ("edits of two operations", EDITS, 3, EDITS_OUTPUT),
 ];
 
 // ---- runs

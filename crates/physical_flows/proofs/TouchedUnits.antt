@@ -1,36 +1,35 @@
 -- Which units' rows an event changes.
-use Rattle.std.specs.Prelude.{◌≡◌, ◌≢◌, Bool, true, false, ◌&&◌, ◌||◌, not, cond, List, [], ◌∷◌, filter, Option, Some, None, is_some, refl}
-use Rattle.std.specs.BTreeMap.{is_at as is_key_at}
+use Rattle.std.specs.Prelude.{◌≡◌, ◌≢◌, ◌⊎◌, Bool, true, false, ◌&&◌, ◌||◌, not, cond, List, [], ◌∷◌, filter, Option, Some, None, is_some, refl}
 use Rattle.std.specs.BTreeSet.{insert_key}
 use Rattle.std.specs.Cmp.Lexicographic.{slice_cmp}
 use Rattle.std.specs.List.{list_any}
 use Rattle.std.specs.Map.{keys_of}
-use Rattle.std.specs.Ordering.{nat_cmp, is_eq, match_ordering}
+use Rattle.std.specs.Ordering.{nat_cmp, match_ordering}
 use Rattle.std.specs.declared.cmp.Ordering.{Ordering}
 use Rattle.std.specs.declared.cmp.Ordering.TheVariants.{Less, Equal, Greater}
 use mathlib.Core.Path.{sym, ap, subst, ◌∙◌}
 use mathlib.Core.Logic.{inl, inr}
-use Rattle.std.proofs.lemmas.Bool.{cases_Bool, cond-true, cond-false, false≢true}
-use Rattle.std.proofs.lemmas.Option.{none-some, same_Some}
+use Rattle.std.proofs.lemmas.Bool.{cases_Bool, false≢true}
+use Rattle.std.proofs.lemmas.Option.{same_Some}
 use Rattle.ovn_base.specs.lists.Among.{Among, there}
 use Rattle.ovn_base.specs.names.ByName.{at, put, IsByName}
 use Rattle.ovn_base.specs.names.SameName.{bytes_decides, same_name}
 use Rattle.ovn_base.specs.declared.name.Name.{Name}
 use Rattle.ovn_base.proofs.AmongLaws.{among_same, map_among, filter_among}
 use Rattle.ovn_base.proofs.ByNameLaws.{among_at, put_other}
+use Rattle.ovn_base.proofs.SameEntries.{same_found}
 use Rattle.conn_zones.specs.Zoning.{GivenNumbers}
 use Rattle.nb_records.specs.Network.{Network}
-use Rattle.nb_records.specs.declared.switch.Switch.{Switch}
 use Rattle.nb_records.specs.declared.switch.SwitchPort.{SwitchPort}
 use Rattle.tunnel_keys.specs.Keys.{Keys}
+use Rattle.tunnel_keys.proofs.Lists.{at_filter, filter_at, filter_sorted}
 use Rattle.net_model.specs.declared.crossing.Group.{Group}
+use Rattle.physical_flows.specs.declared.unit.FlowUnit.{FlowUnit}
 use Rattle.physical_flows.specs.declared.unit.FlowUnit.TheVariants as unit
 use Rattle.physical_flows.specs.Homes.{is_home, is_at, is_group_member, members}
 use Rattle.physical_flows.specs.Numbers.{datapath_number, port_number}
 use Rattle.physical_flows.specs.Stages.{Basis, zone_of}
 use Rattle.physical_flows.specs.Units.{unit_rows, ChangeOnly}
-use Rattle.physical_flows.specs.Valid.{IsValid}
-use Rattle.physical_flows.proofs.FlowSearch.{some_of}
 use Rattle.physical_flows.proofs.UnitReads.{IsSameMember, only_these}
 
 -- ---- tests
@@ -164,100 +163,74 @@ pub chassis_touches : (before after : Basis) (c : Name) → after ≡ record bef
     → ((q home : Name) → at before.bindings q ≡ Some home → Among home before.all) → ChangeOnly [] (unit_rows before) (unit_rows after)
 chassis_touches before after c is new homes = subst (λ b. ChangeOnly [] (unit_rows before) (unit_rows b)) (sym is) (with_chassis_touches before c new homes)
 
--- ---- a switch is added
+-- ---- records are edited
 
-module _ (before : Basis) (a : Name) (s : Switch) (keys : Keys) where
-  abbrev with_switch : Basis
-  with_switch = record before { net = record before.net { switches = put before.net.switches a s }; keys = keys }
+-- the records of the switches and ports that aren't among the units stay, and so do the numbers of their keys
+pub record IsSameBeside (units : List FlowUnit) (net next : Network) (keys keys_after : Keys) : Type 0 where
+  pub switches : (a : Name) → ¬ Among (unit.Switch a) units → at next.switches a ≡ at net.switches a
+  pub datapaths : (a : Name) → ¬ Among (unit.Switch a) units → datapath_number keys_after a ≡ datapath_number keys a
+  pub ports : (q : Name) → ¬ Among (unit.Port q) units → at next.switch_ports q ≡ at net.switch_ports q
+  pub numbers : (q : Name) → ¬ Among (unit.Port q) units → port_number keys_after q ≡ port_number keys q
+  -- the switch of a port that stays keeps its key
+  pub beneath : (q : Name) (port : SwitchPort) → ¬ Among (unit.Port q) units → at net.switch_ports q ≡ Some port → datapath_number keys_after port.switch ≡ datapath_number keys port.switch
+  -- with a port go the switches that it was on and is on
+  pub on : (q : Name) (port : SwitchPort) → Among (unit.Port q) units → (at net.switch_ports q ≡ Some port) ⊎ (at next.switch_ports q ≡ Some port) → Among (unit.Switch port.switch) units
 
-  module _ (valid : IsValid before.net) (new : at before.net.switches a ≡ None) (datapaths : (x : Name) → x ≢ a → datapath_number keys x ≡ datapath_number before.keys x)
-      (ports : (p : Name) → port_number keys p ≡ port_number before.keys p) where
-    switch_member : (p : Name) → IsSameMember before with_switch p
-    switch_member p = record { number = ports p; home = refl; zone = refl }
+module _ (before : Basis) (units : List FlowUnit) (next : Network) (keys : Keys) where
+  abbrev edited : Basis
+  edited = record before { net = next; keys = keys }
 
-    -- no port is on it yet
-    on_others : (p : Name) (port : SwitchPort) → at before.net.switch_ports p ≡ Some port → port.switch ≢ a
-    on_others p port is same =
-        let beneath = some_of (at before.net.switches port.switch) (valid.on_switch p port is) in
-        none-some beneath.0 (sym new ∙ ap (λ n. at before.net.switches n) (sym same) ∙ beneath.1)
+  module _ (sorted : IsByName before.net.switch_ports) (sorted_after : IsByName next.switch_ports) (same : IsSameBeside units before.net next before.keys keys) where
+    port_kept : (q : Name) → (¬ Among (unit.Port q) units) → IsSameMember before edited q
+    port_kept q out = record { number = same.numbers q out; home = refl; zone = refl }
 
-    not_new : (x : Name) → (¬ Among (unit.Switch x) (unit.Switch a ∷ [])) → x ≢ a
-    not_new x out e = out (among_same (unit.Switch x) (unit.Switch a) [] (ap (λ n. unit.Switch n) e))
+    module _ (a : Name) (out : ¬ Among (unit.Switch a) units) where
+      -- a port that is or was on another switch than those of the units isn't among them
+      untouched : (q : Name) (port : SwitchPort) → (at before.net.switch_ports q ≡ Some port) ⊎ (at next.switch_ports q ≡ Some port) → port.switch ≡ a → ¬ Among (unit.Port q) units
+      untouched q port is on m = out (subst (λ n. Among (unit.Switch n) units) on (same.on q port m is))
 
-    with_switch_touches : ChangeOnly (unit.Switch a ∷ []) (unit_rows before) (unit_rows with_switch)
-    with_switch_touches =
-        only_these before with_switch (unit.Switch a ∷ [])
-        (λ x out. record {
-          chassis = refl;
-          entry = ap (λ o. is_some o) (put_other before.net.switches a s x (not_new x out));
-          number = datapaths x (not_new x out);
-          in_group = λ group. refl;
-          each = λ group p m. switch_member p;
-          homes = λ group. refl;
-        })
-        (λ p out. record { chassis = refl; entry = refl; beneath = λ port is. datapaths port.switch (on_others p port is); own = switch_member p })
+      module _ (group : Group) where
+        abbrev of_group : Name × SwitchPort → Bool
+        of_group e = same_name e.1.switch a && is_group_member group e.1
 
--- a switch that is added changes its own rows alone: no port is on it yet
-pub switch_touches : (before after : Basis) (a : Name) (s : Switch) (keys : Keys) → after ≡ record before { net = record before.net { switches = put before.net.switches a s }; keys = keys }
-    → IsValid before.net → at before.net.switches a ≡ None → ((x : Name) → x ≢ a → datapath_number keys x ≡ datapath_number before.keys x)
-    → ((p : Name) → port_number keys p ≡ port_number before.keys p) → ChangeOnly (unit.Switch a ∷ []) (unit_rows before) (unit_rows after)
-switch_touches before after a s keys is valid new datapaths ports =
-    subst (λ b. ChangeOnly (unit.Switch a ∷ []) (unit_rows before) (unit_rows b)) (sym is) (with_switch_touches before a s keys valid new datapaths ports)
+        passes_on : (port : SwitchPort) → (same_name port.switch a && is_group_member group port) ≡ true → port.switch ≡ a
+        passes_on port passes = (bytes_decides port.switch a).0 (and_first (same_name port.switch a) (is_group_member group port) passes)
 
--- ---- a port is added
+        was_in : (q : Name) (port : SwitchPort) → at (filter of_group next.switch_ports) q ≡ Some port → at (filter of_group before.net.switch_ports) q ≡ Some port
+        was_in q port is =
+            let f = filter_at of_group next.switch_ports sorted_after q port is in
+            let kept = same.ports q (untouched q port (inr f.0) (passes_on port f.1)) in
+            at_filter of_group before.net.switch_ports sorted q port (sym kept ∙ f.0) f.1
 
-kept_by_entry : {X : Type 0} (test : Name × X → Bool) (es : List (Name × X)) (q : Name) (v : X) → test (q, v) ≡ false → at es q ≡ None → filter test (put es q v) ≡ filter test es
-kept_by_entry test [] q v e new = ap (λ b. cond b ((q, v) ∷ []) []) e
-kept_by_entry test (f ∷ es) q v e new = by (slice_cmp nat_cmp q f.0) refl (kept_by_entry test es q v e)
-  where
-    by : (o : Ordering) → slice_cmp nat_cmp q f.0 ≡ o → (at es q ≡ None → filter test (put es q v) ≡ filter test es)
-        → filter test (match_ordering o ((q, v) ∷ f ∷ es) ((f.0, v) ∷ es) (f ∷ put es q v)) ≡ filter test (f ∷ es)
-    by Less is rest = ap (λ b. cond b ((q, v) ∷ filter test (f ∷ es)) (filter test (f ∷ es))) e
-    by Equal is rest = absurd (none-some f.1 (sym new ∙ cond-true (is_key_at (slice_cmp nat_cmp q) f.0) (Some f.1) (at es q) (ap is_eq is)))
-    by Greater is rest = ap (λ fs. cond (test f) (f ∷ fs) fs) (rest (sym (cond-false (is_key_at (slice_cmp nat_cmp q) f.0) (Some f.1) (at es q) (ap is_eq is)) ∙ new))
+        stays_in : (q : Name) (port : SwitchPort) → at (filter of_group before.net.switch_ports) q ≡ Some port → at (filter of_group next.switch_ports) q ≡ Some port
+        stays_in q port is =
+            let f = filter_at of_group before.net.switch_ports sorted q port is in
+            let kept = same.ports q (untouched q port (inl f.0) (passes_on port f.1)) in
+            at_filter of_group next.switch_ports sorted_after q port (kept ∙ f.0) f.1
 
-module _ (before : Basis) (q : Name) (port : SwitchPort) (keys : Keys) where
-  abbrev with_port : Basis
-  with_port = record before { net = record before.net { switch_ports = put before.net.switch_ports q port }; keys = keys }
+        members_kept : members next a group ≡ members before.net a group
+        members_kept =
+            ap (λ (es : List (Name × SwitchPort)). keys_of es)
+            (same_found (filter of_group next.switch_ports) (filter of_group before.net.switch_ports) (filter_sorted of_group next.switch_ports sorted_after) (filter_sorted of_group before.net.switch_ports sorted) was_in stays_in)
 
-  module _ (valid : IsValid before.net) (new : at before.net.switch_ports q ≡ None) (datapaths : (x : Name) → datapath_number keys x ≡ datapath_number before.keys x)
-      (ports : (p : Name) → p ≢ q → port_number keys p ≡ port_number before.keys p) where
-    port_member : (p : Name) → p ≢ q → IsSameMember before with_port p
-    port_member p apart = record { number = ports p apart; home = refl; zone = refl }
+        each_kept : (q : Name) → Among q (members before.net a group) → IsSameMember before edited q
+        each_kept q m = let on = member_on before.net sorted a group q m in port_kept q (untouched q on.0 (inl on.1) on.2)
 
-    members_kept : (a : Name) → a ≢ port.switch → (group : Group) → members with_port.net a group ≡ members before.net a group
-    members_kept a apart group =
-        let other = other_names port.switch a (λ e. apart (sym e)) in
-        ap (λ (es : List (Name × SwitchPort)). keys_of es)
-        (kept_by_entry (λ (e : Name × SwitchPort). same_name e.1.switch a && is_group_member group e.1) before.net.switch_ports q port (ap (λ b. b && is_group_member group port) other) new)
-
-    member_apart : (a : Name) (group : Group) (p : Name) → Among p (members before.net a group) → p ≢ q
-    member_apart a group p m same =
-        let on = member_on before.net valid.ports_sorted a group p m in
-        none-some on.0 (sym new ∙ ap (λ n. at before.net.switch_ports n) (sym same) ∙ on.1)
-
-    with_port_touches : ChangeOnly (unit.Switch port.switch ∷ unit.Port q ∷ []) (unit_rows before) (unit_rows with_port)
-    with_port_touches =
-        only_these before with_port (unit.Switch port.switch ∷ unit.Port q ∷ [])
+    edited_touches : ChangeOnly units (unit_rows before) (unit_rows edited)
+    edited_touches =
+        only_these before edited units
         (λ a out. record {
           chassis = refl;
-          entry = refl;
-          number = datapaths a;
-          in_group = members_kept a (not_switch port.switch q a out);
-          each = λ group p m. port_member p (member_apart a group p m);
+          entry = ap (λ o. is_some o) (same.switches a out);
+          number = same.datapaths a out;
+          in_group = members_kept a out;
+          each = each_kept a out;
           homes = λ group. refl;
         })
-        (λ p out. record {
-          chassis = refl;
-          entry = put_other before.net.switch_ports q port p (not_port_of port.switch q p out);
-          beneath = λ r is. datapaths r.switch;
-          own = port_member p (not_port_of port.switch q p out);
-        })
+        (λ q out. record { chassis = refl; entry = same.ports q out; beneath = λ port is. same.beneath q port out is; own = port_kept q out })
 
--- a port that is added changes its own rows and those of its switch
-pub port_touches : (before after : Basis) (q : Name) (port : SwitchPort) (keys : Keys)
-    → after ≡ record before { net = record before.net { switch_ports = put before.net.switch_ports q port }; keys = keys } → IsValid before.net → at before.net.switch_ports q ≡ None
-    → ((x : Name) → datapath_number keys x ≡ datapath_number before.keys x) → ((p : Name) → p ≢ q → port_number keys p ≡ port_number before.keys p)
-    → ChangeOnly (unit.Switch port.switch ∷ unit.Port q ∷ []) (unit_rows before) (unit_rows after)
-port_touches before after q port keys is valid new datapaths ports =
-    subst (λ b. ChangeOnly (unit.Switch port.switch ∷ unit.Port q ∷ []) (unit_rows before) (unit_rows b)) (sym is) (with_port_touches before q port keys valid new datapaths ports)
+-- an edit of any records changes the rows of those units alone beside which all stays
+pub edit_touches : (before after : Basis) (units : List FlowUnit) (next : Network) (keys : Keys) → after ≡ record before { net = next; keys = keys }
+    → IsByName before.net.switch_ports → IsByName next.switch_ports → IsSameBeside units before.net next before.keys keys → ChangeOnly units (unit_rows before) (unit_rows after)
+edit_touches before after units next keys is sorted sorted_after same =
+    subst (λ b. ChangeOnly units (unit_rows before) (unit_rows b)) (sym is) (edited_touches before units next keys sorted sorted_after same)

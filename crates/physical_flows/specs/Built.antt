@@ -1,4 +1,4 @@
--- What is built of the records: switches and plain ports.
+-- What is built of the records: switches and plain ports, beside address sets and port groups.
 use Rattle.std.specs.Prelude.{◌≡◌, ◌&&◌, Bool, true, false, not, Some, is_none}
 use Rattle.std.specs.List.{list_any}
 use Rattle.ovn_base.specs.declared.name.Name.{Name}
@@ -19,9 +19,9 @@ is_router_entry Router = true
 abbrev pub is_plain_port : SwitchPort → Bool
 is_plain_port port = is_virtual port && is_none port.router_port && port.enabled && not (has_some port.port_security) && not (list_any is_router_entry port.addresses)
 
--- there are no records but switches and plain ports
+-- there are no records but switches, plain ports, address sets and port groups
 pub record IsBuilt (net : Network) : Type 0 where
-  pub others : net ≡ record empty_network { switches = net.switches; switch_ports = net.switch_ports }
+  pub others : net ≡ record empty_network { switches = net.switches; switch_ports = net.switch_ports; address_sets = net.address_sets; port_groups = net.port_groups }
   pub ports : (q : Name) (port : SwitchPort) → at net.switch_ports q ≡ Some port → is_plain_port port ≡ true
 
 -- the same, with the ports in order of name

@@ -3,13 +3,12 @@ use Rattle.std.specs.Prelude.{◌≡◌, ◌≤◌, Some, IsSome, length}
 use Rattle.ovn_base.specs.declared.address.Ip4.{Ip4}
 use Rattle.ovn_base.specs.declared.address.Mac.{Mac}
 use Rattle.ovn_base.specs.declared.name.Name.{Name}
-use Rattle.ovn_base.specs.lists.Once.{EachOnce}
 use Rattle.ovn_base.specs.names.ByName.{at, IsByName}
 use Rattle.ovn_base.specs.declared.limits.TheConstants.{MAX_DATAPATHS, MAX_PORTS}
 use Rattle.nb_records.specs.Network.{Network}
 use Rattle.nb_records.specs.declared.switch.Switch.{Switch}
 use Rattle.nb_records.specs.declared.switch.SwitchPort.{SwitchPort}
-use Rattle.physical_flows.specs.Addresses.{macs_in, HasMac, HasIp, IsOfStation}
+use Rattle.physical_flows.specs.Addresses.{HasMac, HasIp, IsOfStation}
 use Rattle.physical_flows.specs.Built.{IsBuilt}
 
 -- the records are ones that edits can leave
@@ -19,9 +18,8 @@ pub record IsValid (net : Network) : Type 0 where
   pub switch_names : (a : Name) (switch : Switch) → at net.switches a ≡ Some switch → switch.name ≡ a
   pub port_names : (q : Name) (port : SwitchPort) → at net.switch_ports q ≡ Some port → port.name ≡ q
   pub on_switch : (q : Name) (port : SwitchPort) → at net.switch_ports q ≡ Some port → IsSome (at net.switches port.switch)
-  -- each Ethernet address is a station's, and of one entry of the port
+  -- each Ethernet address is a station's; two entries of one port may have the same
   pub stations : (q : Name) (port : SwitchPort) (mac : Mac) → at net.switch_ports q ≡ Some port → HasMac port.addresses mac → IsOfStation mac
-  pub once : (q : Name) (port : SwitchPort) → at net.switch_ports q ≡ Some port → EachOnce (macs_in port.addresses)
   -- no two ports of a switch have one Ethernet address, or one IP
   pub apart : (p q : Name) (ours theirs : SwitchPort) (mac : Mac) → at net.switch_ports p ≡ Some ours → at net.switch_ports q ≡ Some theirs → ours.switch ≡ theirs.switch
       → HasMac ours.addresses mac → HasMac theirs.addresses mac → p ≡ q

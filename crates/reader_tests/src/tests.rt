@@ -1,7 +1,7 @@
 //! What is read of each row's line is what the row says.
 use crate::tables;
-use event_reader::event::{ReadError, ReadRefusal};
-use event_reader::read::read_event;
+use edit_reader::event::{ReadError, ReadRefusal};
+use edit_reader::read::read_event;
 use std::alloc::Global;
 use std::str;
 use std::test::Fail;

@@ -1,7 +1,7 @@
 //! Edits as lines spell them, and faults in words.
 
-use event_reader::event::Event;
-use event_reader::read::read_event;
+use edit_reader::event::Event;
+use edit_reader::read::read_event;
 use nb_edits::edit::{apply, plan};
 use nb_edits::plan::{EditFault, EditPlan};
 use nb_records::change::Op;

@@ -49,6 +49,7 @@ use Rattle.sim_laws.specs.WalkLaw.{ArrivalLaw}
 use Rattle.physical_flows.proofs.FlowSearch.{is_some_of, some_of}
 use Rattle.sim_laws.proofs.KeyLookups.{datapath_key_is, port_key_is}
 use Rattle.sim_laws.proofs.EffectNames.{AreEndsOn}
+use Rattle.sim_laws.proofs.PlainRecords.{plain_valid}
 use Rattle.sim_laws.proofs.Refinements.{told_effects, told_held, amidst_kept, amidst_with, crossings_behind, held_kept}
 use Rattle.sim_laws.proofs.WaitingLists.{numbered_among, numbered_map}
 
@@ -202,7 +203,7 @@ module _ (law : ArrivalLaw) (m : State) (zones : Zoned) (more : ℕ) (s new : si
       let known : Among x.home m.config.chassis = (h.held x.home).0 (is_some_of (sim.at_name s.chassis x.home) flows there) in
       let own : packet ≡ x.packet = one_packet_at_most packet x.packet carries.whole w.whole read.3 in
       arrives_so keep x c.waits steps effects
-      (law m zones n x flows a.valid a.keys a.bound w known (h.flows x.home flows there) clock steps effects (rw (← read.0, ← read.1, ← read.2, ← own) walk))
+      (law m zones n x flows (plain_valid m.config.net a.valid a.built) a.keys a.bound w known (h.flows x.home flows there) clock steps effects (rw (← read.0, ← read.1, ← read.2, ← own) walk))
       (subst (λ d. IsTold (arrived s n keep) d (start.Frame n) steps effects before after new) home told)
   arrives keep (passing.IsArrived.gone frame waits none told) =
       let c = crossing_of frame waits in

@@ -26,6 +26,7 @@ use Rattle.sim_laws.specs.PacketSteps.{Enters}
 use Rattle.sim_laws.specs.PlainJourneys.{sent_on}
 use Rattle.sim_laws.specs.WalkLaw.{AreVisit, EntryLaw}
 use Rattle.sim_laws.proofs.Crossings.{visit_ends}
+use Rattle.sim_laws.proofs.PlainRecords.{plain_valid}
 use Rattle.physical_flows.proofs.FlowSearch.{some_of}
 use Rattle.sim_laws.proofs.Refinements.{told_effects, told_held, amidst_with, crossings_behind}
 
@@ -34,7 +35,7 @@ module _ (law : EntryLaw) (m : State) (zones : Zoned) (more : ℕ) (s new : sim.
       → IsTold s chassis (start.Port p) steps effects before after new → IsRefined zones (more + 64) before after new (λ es mid. Enters m p frame es mid)
   entered packet whole frame_is chassis steps effects v told =
       let ends = v.ends in
-      let e = visit_ends m a.valid a.keys packet whole p chassis ends v.visit in
+      let e = visit_ends m (plain_valid m.config.net a.valid a.built) a.keys packet whole p chassis ends v.visit in
       let few = e.1 a.bound.few_chassis in
       let sent = a.few_sent in record {
         effects = effects_of m.keys m.next ends;
@@ -60,7 +61,7 @@ module _ (law : EntryLaw) (m : State) (zones : Zoned) (more : ℕ) (s new : sim.
       by : passing.IsInjected s p clock g.packet before after new → IsRefined zones (more + 64) before after new (λ es mid. Enters m p frame es mid)
       by (passing.IsInjected.through chassis flows steps effects bound held walk told) =
           let home : at m.config.bindings p ≡ Some chassis = sym (h.bindings p) ∙ bound in
-          entered g.packet g.whole g.frame_is chassis steps effects (law m zones chassis flows a.valid a.keys a.bound (h.flows chassis flows held) p home clock g.packet g.whole steps effects walk) told
+          entered g.packet g.whole g.frame_is chassis steps effects (law m zones chassis flows (plain_valid m.config.net a.valid a.built) a.keys a.bound (h.flows chassis flows held) p home clock g.packet g.whole steps effects walk) told
       by (passing.IsInjected.nowhere chassis bound none told) =
           let home : at m.config.bindings p ≡ Some chassis = sym (h.bindings p) ∙ bound in
           let there = some_of (sim.at_name s.chassis chassis) ((h.held chassis).1 (a.bound.chassis_there p chassis home)) in

@@ -50,7 +50,7 @@ module _ (m : State) (zones : Zoned) (more : ℕ) (s : sim.SimState) (a : IsAmid
   kept_keys some = (
     record {
       valid = a.valid;
-      within = a.within;
+      built = a.built;
       keys = a.keys;
       bound = a.bound;
       born = counted_births m a.born;
@@ -93,7 +93,7 @@ module _ (m : State) (zones : Zoned) (more : ℕ) (s : sim.SimState) (a : IsAmid
   settled_keys e = (
     record {
       valid = a.valid;
-      within = a.within;
+      built = a.built;
       keys = keys_settled;
       bound = a.bound;
       born = born_settled;

@@ -16,10 +16,10 @@ pub mod OneWalk
 pub mod PlainAddresses
 pub mod PlainDrains
 pub mod PlainEntries
-pub mod PlainFrames
 pub mod PlainNames
 pub mod PlainPieces
 pub mod PlainPorts
+pub mod PlainRecords
 pub mod PlainTargets
 pub mod PlainTravels
 pub mod PlainVisit

@@ -11,6 +11,7 @@ use Rattle.inet_packet.specs.declared.packet.Packet.{Packet}
 use Rattle.nb_records.specs.Network.{Network}
 use Rattle.nb_records.specs.Switches.{same_mac, switch_ports_of, enabled_ports, entry_mac, macs_of, has_mac}
 use Rattle.nb_records.specs.declared.switch.PortAddress.{PortAddress}
+use Rattle.nb_records.specs.declared.switch.PortAddress.TheVariants as address
 use Rattle.nb_records.specs.declared.switch.SwitchPort.{SwitchPort}
 use Rattle.net_model.specs.Targets.{Target, to_one, to_group, to_nobody, members, group_if, known_target, unknown_target}
 use Rattle.net_model.specs.Trail.{first_given, given_or}
@@ -26,14 +27,20 @@ use Rattle.ovn_base.specs.names.ByName.{at}
 use Rattle.ovn_base.specs.names.SameName.{same_name}
 use Rattle.tunnel_keys.specs.Same.{name_exact, name_own}
 use Rattle.sim_laws.proofs.PlainPorts.{plain_port, of_enabled}
+use Rattle.physical_flows.specs.Addresses.{mac_in}
 use Rattle.physical_flows.specs.Built.{is_plain_port, IsPlain}
 use Rattle.sim_laws.specs.PlainWays.{plain_target}
 
 -- ---- the addresses of a port
 
+pub mac_of_entry : (entry : PortAddress) → entry_mac None entry ≡ mac_in entry
+mac_of_entry (address.Ether mac ips) = refl
+mac_of_entry address.Unknown = refl
+mac_of_entry address.Router = refl
+
 -- the port has the Ethernet address where one of its entries has it
 module _ (net : Network) (o : SwitchPort) (plain : is_plain_port o ≡ true) where
-  macs_are : macs_of net o ≡ filter_map (entry_mac None) o.addresses
+  pub macs_are : macs_of net o ≡ filter_map (entry_mac None) o.addresses
   macs_are = ap (λ (port : Option Name). filter_map (entry_mac (option_and_then (at net.router_ports) port)) o.addresses) (plain_port o plain).alone
 
   pub entry_with : (mac : Mac) → has_mac net mac o ≡ true → (entry : PortAddress) × Among entry o.addresses × (entry_mac None entry ≡ Some mac)

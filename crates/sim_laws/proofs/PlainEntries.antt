@@ -1,12 +1,12 @@
 -- The ends of a packet that enters by a plain port, cause by cause.
-use Rattle.std.specs.Prelude.{◌≡◌, Bool, true, false, not, [], ◌∷◌, Option, Some, cond}
+use Rattle.std.specs.Prelude.{None, ◌≡◌, Bool, true, false, not, [], ◌∷◌, Option, Some, cond}
 use Rattle.std.proofs.Common.{ap, ◌∙◌}
 use Rattle.flow_table.specs.declared.flow.Cause.{Cause}
 use Rattle.flow_table.specs.declared.flow.Cause.TheVariants as cause
 use Rattle.inet_packet.specs.declared.packet.Packet.{Packet}
 use Rattle.nb_records.specs.declared.switch.SwitchPort.{SwitchPort}
 use Rattle.net_model.specs.Entry.{Scene, admission}
-use Rattle.net_model.specs.Headers.{carries_arp, is_tagged}
+use Rattle.net_model.specs.Headers.{asked_ip, is_tagged}
 use Rattle.net_model.specs.Targets.{Target, target_of}
 use Rattle.net_model.specs.Trail.{first_cause}
 use Rattle.ovn_base.specs.addresses.EtherAddress.{is_multicast_mac}
@@ -36,9 +36,9 @@ module _ (s : Scene) (i : SwitchPort) (p : Packet) (plain : is_plain_port i ≡ 
   ends_of_tagged one tagged = from_one one ∙ ap (λ (b : Bool). ends_unless (header_cause false b) i (ends_at_target s (sent_from s i) p (target_of s.config.net i p))) tagged
 
   -- any other packet goes to its target
-  pub ends_of_sent : is_multicast_mac p.src ≡ false → is_tagged p ≡ false → carries_arp p ≡ false
+  pub ends_of_sent : is_multicast_mac p.src ≡ false → is_tagged p ≡ false → asked_ip p ≡ None
       → visit_ends s i p ≡ ends_at_target s (sent_from s i) p (plain_target s.config.net i.switch p)
-  ends_of_sent one untagged no_arp =
+  ends_of_sent one untagged asks_none =
       from_one one
       ∙ ap (λ (b : Bool). ends_unless (header_cause false b) i (ends_at_target s (sent_from s i) p (target_of s.config.net i p))) untagged
-      ∙ ap (λ (target : Target). ends_at_target s (sent_from s i) p target) (target_is_plain s.config.net i p no_arp)
+      ∙ ap (λ (target : Target). ends_at_target s (sent_from s i) p target) (target_is_plain s.config.net i p asks_none)

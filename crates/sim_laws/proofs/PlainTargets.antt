@@ -1,13 +1,12 @@
 -- The targets of packets in a plain network.
-use Rattle.std.specs.Prelude.{◌≡◌, ◌&&◌, ◌==◌, Bool, true, false, List, [], ◌∷◌, Option, Some, None, option_map, cond, refl}
+use Rattle.std.specs.Prelude.{◌≡◌, ◌&&◌, Bool, true, false, List, [], ◌∷◌, Option, Some, None, option_map, cond, refl}
 use Rattle.std.proofs.Common.{ap, ◌∙◌}
 use Rattle.std.specs.List.{filter, find}
-use Rattle.inet_packet.specs.Fields as field
 use Rattle.inet_packet.specs.declared.packet.Packet.{Packet}
 use Rattle.nb_records.specs.Network.{Network}
 use Rattle.nb_records.specs.Switches.{is_virtual, enabled_ports, has_mac, mac_of_ip, first_answer}
 use Rattle.nb_records.specs.declared.switch.SwitchPort.{SwitchPort}
-use Rattle.net_model.specs.Headers.{carries_arp, asked_ip, ip_of}
+use Rattle.net_model.specs.Headers.{asked_ip}
 use Rattle.net_model.specs.Targets.{Target, answer_from, to_one, to_group, to_nobody, members, is_other, answer_target, asked_of_all, answers_behind, router_target, flood_target, known_target, group_if, unknown_target, target_of}
 use Rattle.net_model.specs.Trail.{given_or}
 use Rattle.net_model.specs.declared.crossing.Group.TheVariants.{Flood, Unknown}
@@ -74,19 +73,16 @@ target_among net i p =
     let second = given_among net i.switch router (given_or (flood_target p) (given_or known (given_or unknown to_nobody))) (routers_among net i.switch (asked_of_all p)) third in
     given_among net i.switch answer (given_or router (given_or (flood_target p) (given_or known (given_or unknown to_nobody)))) (answers_among net i (asked_ip p)) second
 
--- ---- packets that are not of ARP
-
-nothing_asked : (p : Packet) → carries_arp p ≡ false → asked_ip p ≡ None
-nothing_asked p h = ap (λ (b : Bool). cond (b && (field.arp_op p.body == 1)) (Some (ip_of (field.arp_tpa p.body))) None) h
+-- ---- packets that ask for no address
 
 none_either_way : (b : Bool) (o : Option Ip4) → o ≡ None → cond b o None ≡ None
 none_either_way true o h = h
 none_either_way false o h = refl
 
-nothing_asked_of_all : (p : Packet) → carries_arp p ≡ false → asked_of_all p ≡ None
-nothing_asked_of_all p h = none_either_way (is_multicast_mac p.dst) (asked_ip p) (nothing_asked p h)
+nothing_asked_of_all : (p : Packet) → asked_ip p ≡ None → asked_of_all p ≡ None
+nothing_asked_of_all p h = none_either_way (is_multicast_mac p.dst) (asked_ip p) h
 
-pub target_is_plain : (net : Network) (i : SwitchPort) (p : Packet) → carries_arp p ≡ false → target_of net i p ≡ plain_target net i.switch p
+pub target_is_plain : (net : Network) (i : SwitchPort) (p : Packet) → asked_ip p ≡ None → target_of net i p ≡ plain_target net i.switch p
 target_is_plain net i p h =
-    ap (λ (o : Option Ip4). given_or (answer_target net i o) (given_or (router_target net i.switch (asked_of_all p)) (plain_target net i.switch p))) (nothing_asked p h)
+    ap (λ (o : Option Ip4). given_or (answer_target net i o) (given_or (router_target net i.switch (asked_of_all p)) (plain_target net i.switch p))) h
     ∙ ap (λ (o : Option Ip4). given_or (router_target net i.switch o) (plain_target net i.switch p)) (nothing_asked_of_all p h)

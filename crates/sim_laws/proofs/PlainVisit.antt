@@ -14,9 +14,7 @@ use Rattle.inet_packet.specs.Fields.{ether_type}
 use Rattle.inet_packet.specs.declared.packet.Packet.{Packet}
 use Rattle.flow_table.specs.declared.flow.Cause.TheVariants.{BadSource, Loopback, Unbound, UnknownAddress, Vlan}
 use Rattle.nb_records.specs.Network.{Network}
-use Rattle.nb_records.specs.Switches.{entry_mac, has_mac}
-use Rattle.nb_records.specs.declared.switch.PortAddress.{PortAddress}
-use Rattle.nb_records.specs.declared.switch.PortAddress.TheVariants as address
+use Rattle.nb_records.specs.Switches.{has_mac}
 use Rattle.nb_records.specs.declared.switch.Switch.{Switch}
 use Rattle.nb_records.specs.declared.switch.SwitchPort.{SwitchPort}
 use Rattle.net_model.specs.declared.crossing.Aim.{Aim}
@@ -27,7 +25,7 @@ use Rattle.net_model.specs.declared.crossing.Group.TheVariants.{Flood, Unknown}
 use Rattle.net_model.specs.Arrival as model
 use Rattle.net_model.specs.Config.{Config, home_if, is_chassis, is_on, on, port_identity}
 use Rattle.net_model.specs.Entry.{Scene}
-use Rattle.net_model.specs.Headers.{carries_arp, is_tagged}
+use Rattle.net_model.specs.Headers.{asked_ip, is_tagged}
 use Rattle.net_model.specs.Journey.{scene_at, scenes_of}
 use Rattle.net_model.specs.Spread as spread
 use Rattle.net_model.specs.State.{State}
@@ -36,11 +34,11 @@ use Rattle.net_model.specs.Trail.{End, leaves, is_dropped, crosses, is_lost}
 use Rattle.net_model.specs.Visit.{switch_named}
 use Rattle.physical_flows.specs.Built.{IsPlain}
 use Rattle.sim_laws.specs.PlainWays.{arrival_ends, copies_by, ends_at_aim, ends_at_home, ends_at_target, ends_in_group, plain_target, sent_from, visit_ends}
-use Rattle.sim_laws.proofs.PlainAddresses.{entry_with, known_port, mac_by, no_port, to_all, to_known, to_none, to_takers}
+use Rattle.sim_laws.proofs.PlainAddresses.{entry_with, known_port, mac_by, mac_of_entry, no_port, to_all, to_known, to_none, to_takers}
 use Rattle.sim_laws.proofs.PlainEntries.{ends_of_bad_source, ends_of_sent, ends_of_tagged}
 use Rattle.sim_laws.proofs.PlainNames as names
 use Rattle.sim_laws.proofs.PlainPorts.{members_plain}
-use Rattle.physical_flows.specs.Addresses.{HasMac, mac_in}
+use Rattle.physical_flows.specs.Addresses.{HasMac}
 use Rattle.physical_flows.specs.Homes.{is_at, is_group_member, is_home, members, members_at, other_homes}
 use Rattle.physical_flows.specs.Valid.{IsValid}
 use Rattle.sim_laws.specs.Visit.{Goes, HasTarget, SentFrom, Target, group, none, one, arrival, crossing_to, has_birth, is_port, is_switch, misses, reached, sent_home, sent_to}
@@ -77,11 +75,6 @@ module _ (net : Network) (valid : IsValid net) where
       by Unknown q = refl
 
 -- ---- addresses
-
-mac_of_entry : (entry : PortAddress) → entry_mac None entry ≡ mac_in entry
-mac_of_entry (address.Ether mac ips) = refl
-mac_of_entry address.Unknown = refl
-mac_of_entry address.Router = refl
 
 module _ (net : Network) (valid : IsValid net) (q : Name) (port : SwitchPort) (there' : at net.switch_ports q ≡ Some port) (mac : Mac) where
   pub has_to : HasMac port.addresses mac → has_mac net mac port ≡ true
@@ -168,12 +161,12 @@ module _ (m : State) (valid : IsValid m.config.net) (p : Name) (i : SwitchPort) 
       none_named (q ∷ qs) e = cc e
 
   -- the ends of the packet
-  pub goes_so : carries_arp packet ≡ false → (ends : List End) → Goes m from packet ends → ends ≡ visit_ends s i packet
-  goes_so no_arp ends (Goes.bad_source multi e) = e ∙ ap (λ n. is_dropped i.switch n BadSource ∷ []) (sym named) ∙ sym (ends_of_bad_source s i packet (valid.built.ports p i is_there) multi)
-  goes_so no_arp ends (Goes.tagged single tag e) =
+  pub goes_so : asked_ip packet ≡ None → (ends : List End) → Goes m from packet ends → ends ≡ visit_ends s i packet
+  goes_so asks_none ends (Goes.bad_source multi e) = e ∙ ap (λ n. is_dropped i.switch n BadSource ∷ []) (sym named) ∙ sym (ends_of_bad_source s i packet (valid.built.ports p i is_there) multi)
+  goes_so asks_none ends (Goes.tagged single tag e) =
       e ∙ ap (λ n. is_dropped i.switch n Vlan ∷ []) (sym named) ∙ sym (ends_of_tagged s i packet (valid.built.ports p i is_there) single ((Decides-eqb (ether_type packet.body) 0x8100).1 tag))
-  goes_so no_arp ends (Goes.sent single untagged target has e) =
-      e ∙ target_so target has ∙ sym (ends_of_sent s i packet (valid.built.ports p i is_there) single (apart (is_tagged packet) refl) no_arp)
+  goes_so asks_none ends (Goes.sent single untagged target has e) =
+      e ∙ target_so target has ∙ sym (ends_of_sent s i packet (valid.built.ports p i is_there) single (apart (is_tagged packet) refl) asks_none)
     where
       apart : (b : Bool) → is_tagged packet ≡ b → b ≡ false
       apart true is = absurd (untagged ((Decides-eqb (ether_type packet.body) 0x8100).0 is))

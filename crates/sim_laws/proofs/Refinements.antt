@@ -120,7 +120,7 @@ pub amidst_with : (m : State) (zones : Zoned) (more most : ℕ) (waiting : List 
     → next ≤ 1 + 2 ^ 64 * event_count m + most → IsAmidst (with_waiting m waiting next) zones most
 amidst_with m zones more most waiting next a crossings few = record {
   valid = a.valid;
-  within = a.within;
+  built = a.built;
   keys = a.keys;
   bound = a.bound;
   born = record { switches = a.born.switches; ports = a.born.ports; keys = a.born.keys; none = a.born.none };

@@ -9,7 +9,8 @@ use Rattle.switch_engine.specs.declared.effect.NetEffect.{NetEffect}
 use Rattle.sim_laws.specs.Consistent.{IsConsistent}
 use Rattle.sim_laws.specs.Passing.{GoesIn, clock}
 use Rattle.sim_laws.specs.Held.{AreHeld}
-use Rattle.physical_flows.specs.Valid.{IsValid, IsWithin}
+use Rattle.nb_rules.specs.Valid.{IsValid}
+use Rattle.physical_flows.specs.Built.{IsBuilt}
 use Rattle.physical_flows.specs.RecordKeys.{HaveKeys}
 use Rattle.physical_flows.specs.Bindings.{AreBound}
 use Rattle.sim_laws.specs.Sound.{AreBorn, AreCrossings}
@@ -20,7 +21,7 @@ use Rattle.sim_laws.specs.PacketSteps.{Enters, Arrives}
 -- may still be retired
 pub record IsAmidst (m : State) (zones : Zoned) (more : ℕ) : Type 0 where
   pub valid : IsValid m.config.net
-  pub within : IsWithin m.config.net
+  pub built : IsBuilt m.config.net
   pub keys : HaveKeys m.config.net m.keys
   pub bound : AreBound m.config zones
   pub born : AreBorn m

@@ -1,9 +1,9 @@
 //! Laws of the logical network where only switches and plain ports are built, each on a function that does nothing: call it, and its
 //! clause is a fact of the call.
-ghost use Rattle.std.specs.Prelude.{◌≡◌, ◌≢◌, ◌++◌, ℕ, Bool, true, false, List, [], Option, Some};
+ghost use Rattle.std.specs.Prelude.{◌≡◌, ◌≢◌, ◌++◌, ℕ, Bool, true, false, List, [], Option, None, Some};
 ghost use Rattle.net_model.specs.Config.{is_chassis};
 ghost use Rattle.net_model.specs.Entry.{Scene};
-ghost use Rattle.net_model.specs.Headers.{carries_arp};
+ghost use Rattle.net_model.specs.Headers.{asked_ip};
 ghost use Rattle.net_model.specs.Journey.{Journey, Scenes, goes_in, comes, kept_or_not, Traffic, enter_one, arrive_one, lose_one, arrive_all, enter_and_arrive, arrive_at, waiting_at, scene_at, scenes_of, Travels};
 ghost use Rattle.net_model.specs.State.{State};
 ghost use Rattle.net_model.specs.Targets.{target_of};
@@ -33,10 +33,10 @@ pub fn arrivals_end()
     ensures { (scene : Option Scene) (n : ℕ) (x : Crossing) (t : Trail) → ((s : Scene) → scene ≡ Some s → IsPlain s.config.net) → arrive_at scene n x t ≡ with_ends (arrival_ends scene n x) t }
 {}
 
-/// A packet that is not of ARP goes to a group's ports, to the port that has its address, to those that take unknown addresses, or to
+/// A packet that is no ARP request goes to a group's ports, to the port that has its address, to those that take unknown addresses, or to
 /// nobody.
 pub fn targets_are_plain()
-    ensures { (net : Network) (i : SwitchPort) (p : Packet) → carries_arp p ≡ false → target_of net i p ≡ plain_target net i.switch p }
+    ensures { (net : Network) (i : SwitchPort) (p : Packet) → asked_ip p ≡ None → target_of net i p ≡ plain_target net i.switch p }
 {}
 
 /// No journey's end tells of a choice.
@@ -96,10 +96,10 @@ pub fn entries_and_drains_travel()
         → Travels m (enter_and_arrive port p) (visit_ends (scene_at m chassis) i p ++ more) after }
 {}
 
-/// What the walk laws say of a packet from a port is what the logical network does with it, where it isn't of ARP: its switch may
-/// answer such a packet, which no table does yet.
+/// What the walk laws say of a packet from a port is what the logical network does with it, where it is no ARP request: its switch
+/// may answer one, which no table does yet.
 pub fn visits_agree()
-    ensures { (m : State) (p : Name) (packet : Packet) (chassis : Name) (ends : List End) → IsValid m.config.net → carries_arp packet ≡ false
+    ensures { (m : State) (p : Name) (packet : Packet) (chassis : Name) (ends : List End) → IsValid m.config.net → asked_ip packet ≡ None
         → (visit : Visit m p packet chassis ends) → ends ≡ visit_ends (scene_at m chassis) visit.port packet }
 {}
 

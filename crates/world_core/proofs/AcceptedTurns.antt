@@ -1,10 +1,11 @@
 -- A turn that is prepared and applied: the event is accepted, and the world is sound again.
-use Rattle.std.specs.Prelude.{◌≡◌, ◌↔◌, ◌++◌, ◌+◌, ◌<◌, ◌^◌, ℕ, List, [], None, length, map, true, refl}
+use Rattle.std.specs.Prelude.{◌≡◌, ◌↔◌, ◌++◌, ◌+◌, ◌<◌, ◌^◌, ℕ, List, [], length, map, true, refl}
 use Rattle.std.specs.Map.{keys_of}
 use Rattle.std.proofs.Common.{sym, ap, subst, ◌∙◌}
 use Rattle.chassis_sim.specs.Changing.{AllAreDeltas, IsApplied, IsProperChange}
 use Rattle.chassis_sim.specs.State as sim
 use Rattle.chassis_sim.specs.declared.change.SimChange.{SimChange}
+use Rattle.edit_reader.specs.Fitting.{IsEventInGrammar}
 use Rattle.edit_reader.specs.declared.event.Event.{Event}
 use Rattle.event_lines.specs.Lines.{accepted_lines}
 use Rattle.flow_table.specs.declared.flow.Flow.{Flow}
@@ -20,7 +21,6 @@ use Rattle.tunnel_keys.specs.Keys.{Keys, settled}
 use Rattle.world_core.specs.Ground.{GroundView, changed, ground_of}
 use Rattle.world_core.specs.Inside.{seen_of}
 use Rattle.world_core.specs.Outcome.{IsAccepted}
-use Rattle.world_core.specs.Refusing.{refusal}
 use Rattle.world_core.specs.Setup.{IsTurnOfTables, SetupView}
 use Rattle.world_core.specs.Turning.{IsTurn, IsTurned, is_turn}
 use Rattle.world_core.specs.Untracked.{untracked}
@@ -40,11 +40,11 @@ module _ (old : WorldView) (event : Event) (turn : is_turn event ≡ true) (soun
   end = finished turned.mid
 
   turned_to : IsTurnedTo m turned.mid
-  turned_to = turns_to m event effects turned.mid turn lists sound.consistent.keys turned.does
+  turned_to = turns_to m event effects turned.mid turn lists turned.does
 
   -- no key is retired
   keys_are : end.keys ≡ turned.mid.keys
-  keys_are = same_settled turned.mid.waiting turned.mid.keys turned_to.no_datapaths turned_to.no_ports
+  keys_are = same_settled turned.mid.waiting turned.mid.keys turned.unretired
 
   ground_is : ground_of end after.zones ≡ after
   ground_is = ap (λ (keys : Keys). record { config = turned.mid.config; keys = keys; zones = after.zones }) keys_are ∙ turned.ground
@@ -89,7 +89,7 @@ module _ (old : WorldView) (event : Event) (turn : is_turn event ≡ true) (soun
     state_is =
         let g : after ≡ ground_of turned.mid after.zones = sym turned.ground in
         let n : s.next ≡ m.next = made.next ∙ sound.held.next in
-        (λ i. record m { config = (g i).config; keys = settled_where_none_waits m.waiting (g i).keys; lists = untracked (g i).config; next = n i; accepted = m.accepted + 1 }) ∙ ap finished (sym turned_to.state)
+        (λ i. record m { config = (g i).config; keys = settled_where_none_waits m.waiting (g i).keys; lists = untracked (g i).config; next = n i; accepted = m.accepted + 1 }) ∙ ap finished (sym turned_to)
 
     pub sound_then : IsSound then'
     sound_then = record {
@@ -98,9 +98,9 @@ module _ (old : WorldView) (event : Event) (turn : is_turn event ≡ true) (soun
       held = subst (λ (w : State). AreHeld w after.zones.numbers s) (sym state_is) held;
     }
 
-    pub accepted_then : refusal m event ≡ None → (before text : List ℕ) → text ≡ before ++ accepted_lines (event_count m + 1) effects 0 → IsAccepted old event before text then'
-    accepted_then allowed before text is = record {
-      admitted = allowed;
+    pub accepted_then : (before text : List ℕ) → text ≡ before ++ accepted_lines (event_count m + 1) effects 0 → IsAccepted old event before text then'
+    accepted_then before text is = record {
+      admitted = turned.allowed;
       effects = effects;
       step = record { mid = turned.mid; does = turned.does; state = state_is };
       passed = no_walks old.sim event (record { effects = effects; walks = [] }) s turn refl;
@@ -110,7 +110,7 @@ module _ (old : WorldView) (event : Event) (turn : is_turn event ≡ true) (soun
 
 -- ---- as the world is kept
 
-module _ (w : Inside) (now : WorldView) (view : seen_of w ≡ now) (event : Event) (turns : is_turn event ≡ true) (sound : IsSound now) (room : event_count now.state < 2 ^ 42) (allowed : refusal now.state event ≡ None)
+module _ (w : Inside) (now : WorldView) (view : seen_of w ≡ now) (event : Event) (turns : is_turn event ≡ true) (sound : IsSound now) (room : event_count now.state < 2 ^ 42) (grammar : IsEventInGrammar event)
     (setup : SetupView) (turn : Turn) (prepared : IsTurn w.setup.ground setup (event_count (seen_of w).state + 1) event turn) where
   abbrev before : WorldView
   before = seen_of w
@@ -121,9 +121,6 @@ module _ (w : Inside) (now : WorldView) (view : seen_of w ≡ now) (event : Even
   sound_before : IsSound before
   sound_before = subst (λ v. IsSound v) (sym view) sound
 
-  allowed_before : refusal before.state event ≡ None
-  allowed_before = subst (λ (v : WorldView). refusal v.state event ≡ None) (sym view) allowed
-
   turned_then : IsTurned before.state before.zones event turn.effects turn.sim ground_then
   turned_then = prepared.turned before.state (record {
     ground = refl;
@@ -131,7 +128,7 @@ module _ (w : Inside) (now : WorldView) (view : seen_of w ≡ now) (event : Even
     untracked_lists = refl;
     consistent = sound_before.consistent;
     few = subst (λ (v : WorldView). event_count v.state < 2 ^ 42) (sym view) room;
-    allowed = allowed_before;
+    in_grammar = grammar;
   })
 
   pub tables_once_each : EachOnce (keys_of turn.sim.tables)
@@ -178,7 +175,7 @@ module _ (w : Inside) (now : WorldView) (view : seen_of w ≡ now) (event : Even
     pub accepted_end : (text more : List ℕ) → more ≡ text ++ accepted_lines (event_count before.state + 1) turn.effects 0 → IsAccepted now event text more end_world
     accepted_end text more is =
         subst (λ v. IsAccepted v event text more end_world) view (subst (λ v. IsAccepted before event text more v) (sym is_end)
-        (accepted_then before event turns sound_before refl turn.effects turn.sim ground_then turned_then prepared.tables s made exact allowed_before text more is))
+        (accepted_then before event turns sound_before refl turn.effects turn.sim ground_then turned_then prepared.tables s made exact text more is))
 
 -- the world as it is kept, with this ground and these chassis
 abbrev pub seen_with : Inside → GroundView → sim.SimState → WorldView

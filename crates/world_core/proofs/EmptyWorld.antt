@@ -10,7 +10,6 @@ use Rattle.conn_zones.specs.declared.numbers.ZoneUse.{ZoneUse}
 use Rattle.conn_zones.specs.declared.numbers.ZoneUse.TheVariants.{Port, Dnat, Snat}
 use Rattle.chassis_sim.specs.State as sim
 use Rattle.chassis_sim.specs.State.{at_name, nothing_held}
-use Rattle.nb_records.specs.Network.{Network, empty_network}
 use Rattle.switch_engine.specs.declared.walk.Walk.{Walk}
 use Rattle.net_model.specs.declared.crossing.Crossing.{Crossing}
 use Rattle.tunnel_keys.specs.Keys.{Keys, IsKeys, no_keys}
@@ -21,7 +20,9 @@ use Rattle.world_core.specs.Zones.{no_zones}
 use Rattle.tunnel_keys.proofs.Invariant.{none_hold}
 use Rattle.world_core.specs.WorldView.{IsSound}
 use Rattle.sim_laws.specs.Held.{AreHeld}
-use Rattle.physical_flows.specs.Valid.{IsValid}
+use Rattle.nb_rules.proofs.Validity.{unbroken}
+use Rattle.nb_rules.specs.Valid.{IsValid}
+use Rattle.physical_flows.specs.Built.{IsBuilt}
 use Rattle.physical_flows.specs.RecordKeys.{HaveKeys}
 use Rattle.physical_flows.specs.Bindings.{AreBound}
 use Rattle.sim_laws.specs.Sound.{AreBorn, AreCrossings}
@@ -37,17 +38,17 @@ new_keys = none_hold 16777215 32767 (omega arith, omega arith) (omega arith, ome
 new_valid : IsValid empty.config.net
 unfolding IsStrictlySortedBy
 new_valid = record {
-  switches_sorted = tt;
-  ports_sorted = tt;
-  switch_names = λ a switch e. absurd (none-some switch e);
-  port_names = λ q port e. absurd (none-some port e);
-  on_switch = λ q port e. absurd (none-some port e);
-  stations = λ q port mac e has. absurd (none-some port e);
-  once = λ q port e. absurd (none-some port e);
-  apart = λ p q ours theirs mac e f switch has also. absurd (none-some ours e);
-  ips_apart = λ p q ours theirs ip e f switch has also. absurd (none-some ours e);
-  built = record { others = refl; ports = λ q port e. absurd (none-some port e) };
+  in_order = record { switches = tt; routers = tt; router_ports = tt; switch_ports = tt; address_sets = tt; port_groups = tt; acls = tt; routes = tt; nats = tt; load_balancers = tt; static_macs = tt; offline = tt };
+  named = record { switches = tt; routers = tt; router_ports = tt; switch_ports = tt; address_sets = tt; port_groups = tt; acls = tt; routes = tt; nats = tt; load_balancers = tt; static_macs = tt };
+  datapaths = tt;
+  ports = tt;
+  in_grammar = tt;
+  directed = tt;
+  unbroken = (unbroken empty.config.net []).1 (record { references = tt; addresses = tt; peers = tt; macs = tt; ips = tt; networks = tt; switch_vips = tt; router_vips = tt; bindings = tt; prefixes = tt; next_hops = tt; chassis = tt; widths = tt; datapaths = omega arith; ports = omega arith; acls = omega arith; cubes = omega arith });
 }
+
+new_built : IsBuilt empty.config.net
+new_built = record { others = refl; ports = λ q port e. absurd (none-some port e) }
 
 new_have : HaveKeys empty.config.net first_keys
 new_have = record {
@@ -117,7 +118,7 @@ new_crossings = record {
 new_consistent : IsConsistent empty no_zones
 new_consistent = record {
   valid = new_valid;
-  within = record { switches = omega arith; ports = omega arith };
+  built = new_built;
   keys = new_have;
   bound = new_bound;
   born = new_born;

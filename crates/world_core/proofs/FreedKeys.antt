@@ -25,7 +25,7 @@ module _ (c : State) (zones : Zoned) (old : IsConsistent c zones) where
   settle : c.waiting ≡ [] → IsConsistent (under (settled c.keys)) zones
   settle e = record {
     valid = old.valid;
-    within = old.within;
+    built = old.built;
     keys = record {
       hold = settled_hold c.keys old.keys.hold;
       datapath_has = old.keys.datapath_has;

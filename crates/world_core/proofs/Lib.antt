@@ -1,6 +1,5 @@
 -- Lemmas.
 pub mod AcceptedTurns
-pub mod AddedRecords
 pub mod Aims
 pub mod ConsistentTurns
 pub mod Counts
@@ -9,11 +8,8 @@ pub mod DrainSteps
 pub mod EmptyWorld
 pub mod FlowStores
 pub mod FrameCrossings
-pub mod FreeAddresses
 pub mod FreedKeys
 pub mod HeldFlows
-pub mod KeyNames
-pub mod KeyPlans
 pub mod NamesInOrder
 pub mod NewKeys
 pub mod OneCrossing
@@ -33,7 +29,21 @@ pub mod StepByStep
 pub mod TurnEvents
 pub mod Turned
 pub mod TurnedHomes
-pub mod TurnedRecords
 pub mod TurnedUnits
 pub mod Turns
 pub mod WaitingFrames
+pub mod ComingOwners
+pub mod EditedKeys
+pub mod EditedNames
+pub mod EditedStates
+pub mod EditedWaiting
+pub mod FrameFaults
+pub mod KeyLacks
+pub mod RefusedTurns
+pub mod HeaderParts
+pub mod EditedRecords
+pub mod NamedRecords
+pub mod StayingOwners
+pub mod StayingRecords
+pub mod TouchedRecords
+pub mod FrameTargets

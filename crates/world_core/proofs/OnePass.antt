@@ -38,6 +38,7 @@ use Rattle.world_core.specs.WorldView.{WorldView, IsSound}
 use Rattle.sim_laws.specs.Held.{AreHeld}
 use Rattle.physical_flows.proofs.FlowSearch.{some_of, is_some_of}
 use Rattle.sim_laws.proofs.OneWalk as walk
+use Rattle.sim_laws.proofs.PlainRecords.{plain_valid}
 
 -- the first number of those that wait
 abbrev first_number : {X : Type 0} → List (ℕ × X) → ℕ
@@ -71,7 +72,7 @@ sound_alike one two sound also states zones =
       bindings = λ q. first.bindings q ∙ sym (second.bindings q);
       held = λ c h. (second.held c).1 ((first.held c).0 h);
       held_too = λ c h. (first.held c).1 ((second.held c).0 h);
-      walks = λ c flows more is too. walk.one one.state one.zones c flows more now.valid now.keys now.bound (first.flows c flows is) (second.flows c more too);
+      walks = λ c flows more is too. walk.one one.state one.zones c flows more (plain_valid one.state.config.net now.valid now.built) now.keys now.bound (first.flows c flows is) (second.flows c more too);
       waiting = first.waiting ∙ sym second.waiting;
       next = first.next ∙ sym second.next;
     }
@@ -218,6 +219,11 @@ pub same_walks : (one two : WorldView) (event : Event) (out more : SimOut) (new 
 same_walks one two (event_of.Edit ops) out more new other sound also states zones h k = h ∙ sym k
 same_walks one two (event_of.Bind p chassis) out more new other sound also states zones h k = h ∙ sym k
 same_walks one two (event_of.AddChassis chassis) out more new other sound also states zones h k = h ∙ sym k
+same_walks one two (event_of.Unbind p) out more new other sound also states zones h k = h ∙ sym k
+same_walks one two (event_of.RemoveChassis chassis) out more new other sound also states zones h k = h ∙ sym k
+same_walks one two (event_of.Keys datapaths ports) out more new other sound also states zones h k = h ∙ sym k
+same_walks one two (event_of.Health balancer backend online) out more new other sound also states zones h k = h ∙ sym k
+same_walks one two (event_of.Clock seconds) out more new other sound also states zones h k = h ∙ sym k
 same_walks one two (event_of.Inject p frame) out more new other sound also states zones h k =
     (goes_in_alike one.sim two.sim (sound_alike one two sound also states zones) p frame no_out no_out out more new other refl h k).walks
 same_walks one two (event_of.Deliver n) out more new other sound also states zones h k =
@@ -230,4 +236,3 @@ same_walks one two event_of.Drain out more new other sound also states zones h k
 same_walks one two (event_of.Packet p frame) out more new other sound also states zones h k =
     through_alike most_arrivals one.sim two.sim (sound_alike one two sound also states zones) p frame h.between k.between out more h.mid k.mid new other h.goes_in h.drained k.goes_in k.drained
 same_walks one two (event_of.Unread fault) out more new other sound also states zones h k = absurd h
-same_walks one two event_of.NotBuilt out more new other sound also states zones h k = absurd h

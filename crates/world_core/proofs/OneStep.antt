@@ -6,8 +6,8 @@ use Rattle.net_model.specs.Trail.{End, leaves, is_dropped, crosses, picks_backen
 use Rattle.sim_laws.proofs.PlainTravels.{one_way}
 use Rattle.sim_laws.proofs.PlainVisit.{plain}
 use Rattle.sim_laws.specs.Effects.{effects_of}
-use Rattle.std.specs.Prelude.{◌≡◌, ◌+◌, ◌++◌, ◌||◌, ℕ, Bool, true, false, List, [], ◌∷◌, Some, None, Option, is_some, cond, not, flat_map, map, nat_le, length, unwrap_or, refl}
-use Rattle.std.specs.List.{AllByRecursion}
+use Rattle.std.specs.Prelude.{◌≡◌, ◌+◌, ◌++◌, ℕ, true, false, List, [], ◌∷◌, Some, None, Option, map, unwrap_or, refl}
+use Rattle.std.specs.List.{AllByRecursion, filter_map}
 use Rattle.std.specs.Option.{option_map}
 use Rattle.std.proofs.Common.{sym, ap, ◌∙◌, subst, inl, inr}
 use Rattle.std.proofs.lemmas.Option.{none-some, same_Some}
@@ -15,15 +15,10 @@ use Rattle.ovn_base.specs.declared.name.Name.{Name}
 use Rattle.ovn_base.specs.lists.Among.{Among}
 use Rattle.ovn_base.specs.names.ByName.{at, put, put_all, in_order, IsByName}
 use Rattle.ovn_base.specs.declared.address.Birth.{Birth}
-use Rattle.ovn_base.proofs.AmongLaws.{among_cases, among_flat_map, among_none}
+use Rattle.ovn_base.proofs.AmongLaws.{among_cases, among_filter_map, among_flat_map, among_none}
 use Rattle.ovn_base.proofs.ByNameLaws.{at_among, one_or_two, put_other, put_there}
-use Rattle.nb_records.specs.declared.change.Op.TheVariants.{Add, Set, Remove, Health}
-use Rattle.nb_records.specs.declared.record.Record.{Record}
-use Rattle.nb_records.specs.declared.record.Record.TheVariants as record_of
 use Rattle.edit_reader.specs.declared.event.Event.{Event}
-use Rattle.edit_reader.specs.declared.event.Event.TheVariants.{Edit, Bind, AddChassis, Inject, Deliver, Lose, Repeat, Drain, Packet, Unread, NotBuilt}
-use Rattle.event_lines.specs.declared.refusal.Refusal.{Refusal}
-use Rattle.event_lines.specs.declared.refusal.Refusal.TheVariants as why
+use Rattle.edit_reader.specs.declared.event.Event.TheVariants as event_of
 use Rattle.event_lines.specs.Picks.{Pick, datapath_key, port_key, picks_of}
 use Rattle.switch_engine.specs.declared.effect.NetEffect.{NetEffect}
 use Rattle.tunnel_keys.specs.declared.owner.HeldDatapath.{HeldDatapath}
@@ -37,18 +32,25 @@ use Rattle.tunnel_keys.specs.declared.owner.KeyOwner.{KeyOwner}
 use Rattle.tunnel_keys.specs.declared.owner.PortKey.{PortKey}
 use Rattle.ovn_base.proofs.SameEntries.{same_found}
 use Rattle.tunnel_keys.proofs.OwnerLaws.{datapaths_have, ports_have}
-use Rattle.world_core.specs.Admitted.{IsAdmitted}
-use Rattle.world_core.specs.Editing.{owners_of, datapath_effect, port_effect, added_ports, key_effects, edited}
-use Rattle.nb_records.specs.Editing.{accepted}
+use Rattle.edit_reader.specs.Fitting.{IsEventInGrammar}
+use Rattle.nb_edits.proofs.EditSoundness.{edit_sound}
+use Rattle.nb_records.specs.Network.{Network}
+use Rattle.nb_records.specs.declared.change.Op.{Op}
+use Rattle.nb_rules.specs.Valid as rules
+use Rattle.net_model.specs.Owners.{owners_only_in}
+use Rattle.physical_flows.specs.Built.{IsBuilt}
+use Rattle.sim_laws.proofs.PlainRecords.{plain_valid}
+use Rattle.tunnel_keys.specs.declared.owner.KeyOwner.TheVariants.{Port}
+use Rattle.world_core.specs.Editing.{edited, next_net}
+use Rattle.world_core.specs.KeyLines.{added_ports, as_place, datapath_effect, key_effects, port_effect}
+use Rattle.world_core.proofs.EditedRecords.{edited_built}
+use Rattle.world_core.proofs.RefusedTurns.{edit_built, edit_faultless}
 use Rattle.physical_flows.specs.Numbers.{datapath_number, port_number}
 use Rattle.world_core.specs.Picks.{Fate, was_refused, was_accepted, Happens, Run}
-use Rattle.world_core.specs.Refusing.{refusal, refusal_of_record}
+use Rattle.world_core.specs.Refusing.{refusal}
 use Rattle.physical_flows.specs.Valid.{IsValid}
 use Rattle.net_model.specs.State.{State, event_count, finished}
 use Rattle.world_core.specs.Step.{NetworkStep, Does, Moves, Sends}
-use Rattle.world_core.specs.Unbuilt.{is_unbuilt_port}
-use Rattle.world_core.proofs.RecordChanges.{switch_valid, port_valid}
-use Rattle.world_core.proofs.Refusals.{built_port, is_new}
 
 -- the same effects, the same state, and the same picks left
 pub record Same (effects others : List NetEffect) (after later : State) (left more : List Pick) : Type 0 where
@@ -57,6 +59,10 @@ pub record Same (effects others : List NetEffect) (after later : State) (left mo
   pub rest : left ≡ more
 
 -- ---- keys
+
+-- a port's datapath is among the places
+placed_there : (owners : List KeyOwner) (d q : Name) (birth : Birth) → Among (Port d q birth) owners → Among (d, birth) (filter_map as_place owners)
+placed_there owners d q birth m = among_filter_map as_place (Port d q birth) (d, birth) owners m refl
 
 abbrev key_in : Pick → ℕ
 key_in (datapath_key name key) = key
@@ -132,15 +138,16 @@ module _ (between : Keys) (owners : List KeyOwner) where
   ]
 
   port_found : (a b : Keys) → GivesKeysAfter between owners a → GivesKeysAfter between owners b
-      → ((o : Name × Birth) → Among o (added_ports owners b) → port_pick a o ≡ port_pick b o)
+      → ((o : Name × Birth) → Among o (added_ports owners) → port_pick a o ≡ port_pick b o)
       → (n : Name) (p : PortKey) → at a.ports n ≡ Some p → at b.ports n ≡ Some p
   port_found a b ga gb same n p found = elim (ga.port_cases n p found) [
     | inl old ↦ gb.port_kept n p old
     | inr new ↦
         let given = gb.port_given p.datapath n p.birth new in
         let o = among_ordered (ports_in p.datapath owners) n p.birth (ports_have owners p.datapath n p.birth new) in
-        let placed : Among (n, o.0) (added_ports owners b) =
-        among_flat_map (λ (d : Name × DatapathKey). in_order (ports_in d.0 owners)) (p.datapath, given.1) (n, o.0) b.datapaths (at_among b.datapaths p.datapath given.1 given.3) o.1 in
+        let placed : Among (n, o.0) (added_ports owners) =
+        let place = among_ordered (filter_map as_place owners) p.datapath p.birth (placed_there owners p.datapath n p.birth new) in
+        among_flat_map (λ (d : Name × Birth). in_order (ports_in d.0 owners)) (p.datapath, place.0) (n, o.0) (in_order (filter_map as_place owners)) place.1 o.1 in
         let key : p.key ≡ given.0 =
         sym (ap (λ (o : Option PortKey). unwrap_or (option_map (λ k. k.key) o) 0) found)
         ∙ ap key_in (same (n, o.0) placed)
@@ -154,22 +161,20 @@ module _ (between : Keys) (owners : List KeyOwner) where
     same_keys : (left more : List Pick) → picks_of (key_effects owners a) ++ left ≡ picks_of (key_effects owners b) ++ more → (a ≡ b) × (left ≡ more)
     same_keys left more e =
         let picked =
-        sym (datapaths_picked a (in_order (datapaths_in owners)) (map (port_effect a) (added_ports owners a)) left)
+        sym (datapaths_picked a (in_order (datapaths_in owners)) (map (port_effect a) (added_ports owners)) left)
         ∙ e
-        ∙ datapaths_picked b (in_order (datapaths_in owners)) (map (port_effect b) (added_ports owners b)) more in
-        let first = same_picks (datapath_pick a) (datapath_pick b) (in_order (datapaths_in owners)) (picks_of (map (port_effect a) (added_ports owners a)) ++ left) (picks_of (map (port_effect b) (added_ports owners b)) ++ more) picked in
+        ∙ datapaths_picked b (in_order (datapaths_in owners)) (map (port_effect b) (added_ports owners)) more in
+        let first = same_picks (datapath_pick a) (datapath_pick b) (in_order (datapaths_in owners)) (picks_of (map (port_effect a) (added_ports owners)) ++ left) (picks_of (map (port_effect b) (added_ports owners)) ++ more) picked in
         let datapaths : a.datapaths ≡ b.datapaths =
         same_found a.datapaths b.datapaths da db (datapath_found a b ga gb first.0) (datapath_found b a gb ga (λ o among. sym (first.0 o among))) in
-        let placed : added_ports owners a ≡ added_ports owners b = ap (λ ds. flat_map (λ (d : Name × DatapathKey). in_order (ports_in d.0 owners)) ds) datapaths in
         let after =
-        ap (λ os. map (port_pick a) os ++ left) (sym placed)
-        ∙ sym (ports_picked a (added_ports owners a) left)
+        sym (ports_picked a (added_ports owners) left)
         ∙ first.1
-        ∙ ports_picked b (added_ports owners b) more in
-        let second = same_picks (port_pick a) (port_pick b) (added_ports owners b) left more after in
+        ∙ ports_picked b (added_ports owners) more in
+        let second = same_picks (port_pick a) (port_pick b) (added_ports owners) left more after in
         let ports : a.ports ≡ b.ports =
         same_found a.ports b.ports pa pb (port_found a b ga gb second.0)
-        (port_found b a gb ga (λ o among. sym (second.0 o (subst (λ os. Among o os) placed among)))) in
+        (port_found b a gb ga (λ o among. sym (second.0 o among))) in
         let datapath_range = ga.datapath_range ∙ sym gb.datapath_range in
         let port_range = ga.port_range ∙ sym gb.port_range in
         let retired_datapaths = one_order (λ (h : HeldDatapath). h.owner) between.retired_datapaths a.retired_datapaths b.retired_datapaths ga.retired_datapaths gb.retired_datapaths in
@@ -225,25 +230,29 @@ sent_with m valid frame asks effects others after later left more h k e =
 -- what an event does takes the same of two lists of picks that are one, and has the same effects and leaves the same state
 does_with : (m : State) (event : Event) (effects others : List NetEffect) (after later : State) (left more : List Pick) → IsValid m.config.net → Does m event effects after → Does m event others later
     → picks_of effects ++ left ≡ picks_of others ++ more → Same effects others after later left more
-does_with m (Edit ops) effects others after later left more valid h k e =
-    let owners = owners_of ops (event_count m + 1) in
+does_with m (event_of.Edit ops) effects others after later left more valid h k e =
+    let owners = owners_only_in (next_net m ops) m.config.net in
     let picked = sym (ap (λ es. picks_of es ++ left) h.effects_are) ∙ e ∙ ap (λ es. picks_of es ++ more) k.effects_are in
-    let same = same_keys (retire m.keys []) owners h.keys k.keys h.given k.given h.hold.datapaths_in_order h.hold.ports_in_order k.hold.datapaths_in_order k.hold.ports_in_order left more picked in
+    let same = same_keys (retire m.keys (owners_only_in m.config.net (next_net m ops))) owners h.keys k.keys h.rekeys.given k.rekeys.given h.rekeys.hold.datapaths_in_order h.rekeys.hold.ports_in_order k.rekeys.hold.datapaths_in_order k.rekeys.hold.ports_in_order left more picked in
     record {
       effects_are = h.effects_are ∙ ap (λ keys. key_effects owners keys) same.0 ∙ sym k.effects_are;
-      state = h.state ∙ ap (λ (keys : Keys). edited m (accepted m.config.net ops (event_count m + 1)) keys) same.0 ∙ sym k.state;
+      state = h.state ∙ ap (λ (keys : Keys). edited m (next_net m ops) keys) same.0 ∙ sym k.state;
       rest = same.1;
     }
-does_with m (Bind p chassis) effects others after later left more valid h k e = still effects others after later left more _ h.0 k.0 h.1 k.1 e
-does_with m (AddChassis chassis) effects others after later left more valid h k e = still effects others after later left more _ h.0 k.0 h.1 k.1 e
-does_with m (Inject p frame) effects others after later left more valid h k e = sent_with m valid frame (λ packet. enter_one p packet) effects others after later left more h k e
-does_with m (Deliver n) effects others after later left more valid h k e = moved_with m valid (arrive_one n false) effects others after later left more h k e
-does_with m (Lose n) effects others after later left more valid h k e = moved_with m valid (lose_one n) effects others after later left more h k e
-does_with m (Repeat n) effects others after later left more valid h k e = moved_with m valid (arrive_one n true) effects others after later left more h k e
-does_with m Drain effects others after later left more valid h k e = moved_with m valid arrive_all effects others after later left more h k e
-does_with m (Packet p frame) effects others after later left more valid h k e = sent_with m valid frame (λ packet. enter_and_arrive p packet) effects others after later left more h k e
-does_with m (Unread fault) effects others after later left more valid h k e = absurd h
-does_with m NotBuilt effects others after later left more valid h k e = absurd h
+does_with m (event_of.Bind p chassis) effects others after later left more valid h k e = still effects others after later left more _ h.0 k.0 h.1 k.1 e
+does_with m (event_of.Unbind p) effects others after later left more valid h k e = still effects others after later left more _ h.0 k.0 h.1 k.1 e
+does_with m (event_of.RemoveChassis chassis) effects others after later left more valid h k e = still effects others after later left more _ h.0 k.0 h.1 k.1 e
+does_with m (event_of.Keys datapaths ports) effects others after later left more valid h k e = still effects others after later left more _ h.0 k.0 h.1 k.1 e
+does_with m (event_of.Health balancer backend online) effects others after later left more valid h k e = still effects others after later left more _ h.0 k.0 h.1 k.1 e
+does_with m (event_of.Clock seconds) effects others after later left more valid h k e = still effects others after later left more _ h.0 k.0 h.1 k.1 e
+does_with m (event_of.AddChassis chassis) effects others after later left more valid h k e = still effects others after later left more _ h.0 k.0 h.1 k.1 e
+does_with m (event_of.Inject p frame) effects others after later left more valid h k e = sent_with m valid frame (λ packet. enter_one p packet) effects others after later left more h k e
+does_with m (event_of.Deliver n) effects others after later left more valid h k e = moved_with m valid (arrive_one n false) effects others after later left more h k e
+does_with m (event_of.Lose n) effects others after later left more valid h k e = moved_with m valid (lose_one n) effects others after later left more h k e
+does_with m (event_of.Repeat n) effects others after later left more valid h k e = moved_with m valid (arrive_one n true) effects others after later left more h k e
+does_with m event_of.Drain effects others after later left more valid h k e = moved_with m valid arrive_all effects others after later left more h k e
+does_with m (event_of.Packet p frame) effects others after later left more valid h k e = sent_with m valid frame (λ packet. enter_and_arrive p packet) effects others after later left more h k e
+does_with m (event_of.Unread fault) effects others after later left more valid h k e = absurd h
 
 -- so an event does
 pub step_with : (m : State) (event : Event) (effects others : List NetEffect) (after later : State) (left more : List Pick) → IsValid m.config.net → NetworkStep m event effects after → NetworkStep m event others later
@@ -258,45 +267,37 @@ same_step m event effects others after later valid h k e = let s = step_with m e
 
 -- ---- the records stay valid
 
-not_there : {X : Type 0} (o : Option X) (full : Bool) (why : Refusal) → cond (not (is_some o || full)) None (Some why) ≡ None → o ≡ None
-not_there None full why h = refl
-not_there (Some x) full why h = cc
+-- the records are ones that edits can leave, of kinds that are built
+pub record AreSound (net : Network) : Type 0 where
+  pub valid : rules.IsValid net
+  pub built : IsBuilt net
 
-is_there : (unbuilt there : Bool) (x y : Refusal) → cond (not unbuilt) (cond there None (Some y)) (Some x) ≡ None → there ≡ true
-is_there true there x y h = cc
-is_there false true x y h = refl
-is_there false false x y h = cc
+pub edited_sound : (m : State) (ops : List Op) → AreSound m.config.net → IsEventInGrammar (event_of.Edit ops) → refusal m (event_of.Edit ops) ≡ None → AreSound (next_net m ops)
+edited_sound m ops sound grammar allowed =
+    let is = edit_built m ops allowed in
+    let none = edit_faultless m ops allowed in
+    let leaves = edit_sound m.config.net ops (event_count m + 1) sound.valid grammar.each none in
+    record { valid = leaves.valid; built = edited_built m.config.net ops (event_count m + 1) sound.built is leaves.valid }
 
-valid_with : (m : State) (row : Record) → IsValid m.config.net → refusal_of_record m.config.net row ≡ None → IsValid (accepted m.config.net (Add row ∷ []) (event_count m + 1))
-valid_with m (record_of.Switch switch) valid allowed =
-    switch_valid m.config.net switch.name (record switch { birth = record { 0 = event_count m + 1 } }) valid (not_there (at m.config.net.switches switch.name) (nat_le 1024 (length m.config.net.switches)) why.NotBuilt allowed) refl
-valid_with m (record_of.SwitchPort port) valid allowed =
-    let new = is_new m.config.net port allowed in
-    port_valid m.config.net port.name (record port { birth = record { 0 = event_count m + 1 } }) valid (built_port m.config.net port allowed).absent refl
-    (is_there (is_unbuilt_port m.config.net port) (is_some (at m.config.net.switches port.switch)) why.NotBuilt (why.NoSuch port.switch) allowed)
-    (record { plain = new.plain; stations = new.stations; once = new.once; apart = new.apart; ips_apart = new.ips_apart })
-valid_with m _ valid allowed = cc
+does_sound : (m : State) (event : Event) (effects : List NetEffect) (after : State) → AreSound m.config.net → IsEventInGrammar event → refusal m event ≡ None → Does m event effects after → AreSound after.config.net
+does_sound m (event_of.Edit ops) effects after sound grammar allowed h = subst (λ (s : State). AreSound s.config.net) (sym h.state) (edited_sound m ops sound grammar allowed)
+does_sound m (event_of.Bind p chassis) effects after sound grammar allowed h = subst (λ (s : State). AreSound s.config.net) (sym h.1) sound
+does_sound m (event_of.Unbind p) effects after sound grammar allowed h = cc
+does_sound m (event_of.AddChassis chassis) effects after sound grammar allowed h = subst (λ (s : State). AreSound s.config.net) (sym h.1) sound
+does_sound m (event_of.RemoveChassis chassis) effects after sound grammar allowed h = cc
+does_sound m (event_of.Keys datapaths ports) effects after sound grammar allowed h = cc
+does_sound m (event_of.Health balancer backend online) effects after sound grammar allowed h = cc
+does_sound m (event_of.Clock seconds) effects after sound grammar allowed h = cc
+does_sound m (event_of.Inject p frame) effects after sound grammar allowed h = subst (λ (s : State). AreSound s.config.net) (sym h.moves.travels.state) sound
+does_sound m (event_of.Deliver n) effects after sound grammar allowed h = subst (λ (s : State). AreSound s.config.net) (sym h.travels.state) sound
+does_sound m (event_of.Lose n) effects after sound grammar allowed h = subst (λ (s : State). AreSound s.config.net) (sym h.travels.state) sound
+does_sound m (event_of.Repeat n) effects after sound grammar allowed h = subst (λ (s : State). AreSound s.config.net) (sym h.travels.state) sound
+does_sound m event_of.Drain effects after sound grammar allowed h = subst (λ (s : State). AreSound s.config.net) (sym h.travels.state) sound
+does_sound m (event_of.Packet p frame) effects after sound grammar allowed h = subst (λ (s : State). AreSound s.config.net) (sym h.moves.travels.state) sound
+does_sound m (event_of.Unread fault) effects after sound grammar allowed h = absurd h
 
-does_valid : (m : State) (event : Event) (effects : List NetEffect) (after : State) → IsValid m.config.net → IsAdmitted event → refusal m event ≡ None → Does m event effects after → IsValid after.config.net
-does_valid m (Edit []) effects after valid admitted allowed h = cc
-does_valid m (Edit (Add row ∷ [])) effects after valid admitted allowed h = subst (λ (s : State). IsValid s.config.net) (sym h.state) (valid_with m row valid allowed)
-does_valid m (Edit (Set k name c ∷ [])) effects after valid admitted allowed h = cc
-does_valid m (Edit (Remove k name ∷ [])) effects after valid admitted allowed h = cc
-does_valid m (Edit (Health balancer backend online ∷ [])) effects after valid admitted allowed h = cc
-does_valid m (Edit (op ∷ next ∷ ops)) effects after valid admitted allowed h = cc
-does_valid m (Bind p chassis) effects after valid admitted allowed h = subst (λ (s : State). IsValid s.config.net) (sym h.1) valid
-does_valid m (AddChassis chassis) effects after valid admitted allowed h = subst (λ (s : State). IsValid s.config.net) (sym h.1) valid
-does_valid m (Inject p frame) effects after valid admitted allowed h = subst (λ (s : State). IsValid s.config.net) (sym h.moves.travels.state) valid
-does_valid m (Deliver n) effects after valid admitted allowed h = subst (λ (s : State). IsValid s.config.net) (sym h.travels.state) valid
-does_valid m (Lose n) effects after valid admitted allowed h = subst (λ (s : State). IsValid s.config.net) (sym h.travels.state) valid
-does_valid m (Repeat n) effects after valid admitted allowed h = subst (λ (s : State). IsValid s.config.net) (sym h.travels.state) valid
-does_valid m Drain effects after valid admitted allowed h = subst (λ (s : State). IsValid s.config.net) (sym h.travels.state) valid
-does_valid m (Packet p frame) effects after valid admitted allowed h = subst (λ (s : State). IsValid s.config.net) (sym h.moves.travels.state) valid
-does_valid m (Unread fault) effects after valid admitted allowed h = absurd h
-does_valid m NotBuilt effects after valid admitted allowed h = absurd h
-
-pub step_valid : (m : State) (event : Event) (effects : List NetEffect) (after : State) → IsValid m.config.net → IsAdmitted event → refusal m event ≡ None → NetworkStep m event effects after → IsValid after.config.net
-step_valid m event effects after valid admitted allowed h = subst (λ (s : State). IsValid s.config.net) (sym h.state) (does_valid m event effects h.mid valid admitted allowed h.does)
+pub step_sound : (m : State) (event : Event) (effects : List NetEffect) (after : State) → AreSound m.config.net → IsEventInGrammar event → refusal m event ≡ None → NetworkStep m event effects after → AreSound after.config.net
+step_sound m event effects after sound grammar allowed h = subst (λ (s : State). AreSound s.config.net) (sym h.state) (does_sound m event effects h.mid sound grammar allowed h.does)
 
 -- ---- runs
 
@@ -317,16 +318,16 @@ happens_with m event own their left more fate other after later valid (Happens.a
     let s = step_with m event effects others after later left more valid step walk (sym (ap (λ ps. ps ++ left) n) ∙ e ∙ ap (λ ps. ps ++ more) o) in
     record { fates_are = f ∙ ap was_accepted s.effects_are ∙ sym g; state = s.state; rest = s.rest }
 
-happens_valid : (m : State) (event : Event) (own : List Pick) (fate : Fate) (after : State) → IsValid m.config.net → IsAdmitted event → Happens m event own fate after → IsValid after.config.net
-happens_valid m event own fate after valid admitted (Happens.refuses why r n f s) = subst (λ (w : State). IsValid w.config.net) (sym s) valid
-happens_valid m event own fate after valid admitted (Happens.accepts effects r step n f) = step_valid m event effects after valid admitted r step
+happens_sound : (m : State) (event : Event) (own : List Pick) (fate : Fate) (after : State) → AreSound m.config.net → IsEventInGrammar event → Happens m event own fate after → AreSound after.config.net
+happens_sound m event own fate after valid admitted (Happens.refuses why r n f s) = subst (λ (w : State). AreSound w.config.net) (sym s) valid
+happens_sound m event own fate after valid admitted (Happens.accepts effects r step n f) = step_sound m event effects after valid admitted r step
 
-pub same_run : (m : State) (events : List Event) (picks : List Pick) (fates others : List Fate) (last end : State) → IsValid m.config.net → AllByRecursion IsAdmitted events → Run m events picks fates last → Run m events picks others end
+pub same_run : (m : State) (events : List Event) (picks : List Pick) (fates others : List Fate) (last end : State) → AreSound m.config.net → AllByRecursion IsEventInGrammar events → Run m events picks fates last → Run m events picks others end
     → (fates ≡ others) × (last ≡ end)
 same_run m [] picks fates others last end valid admitted h k = (h.1 ∙ sym k.1, h.2 ∙ sym k.2)
 same_run m (event ∷ events) picks fates others last end valid admitted h k =
-    let one = happens_with m event h.own k.own h.left k.left h.fate k.fate h.mid k.mid valid h.happens k.happens (sym h.picked ∙ k.picked) in
+    let one = happens_with m event h.own k.own h.left k.left h.fate k.fate h.mid k.mid (plain_valid m.config.net valid.valid valid.built) h.happens k.happens (sym h.picked ∙ k.picked) in
     let moved : Run k.mid events h.left h.others last = subst (λ s. Run s events h.left h.others last) one.state h.after in
     let again : Run k.mid events k.left h.others last = subst (λ ps. Run k.mid events ps h.others last) one.rest moved in
-    let rest = same_run k.mid events k.left h.others k.others last end (happens_valid m event k.own k.fate k.mid valid admitted.0 k.happens) admitted.1 again k.after in
+    let rest = same_run k.mid events k.left h.others k.others last end (happens_sound m event k.own k.fate k.mid valid admitted.0 k.happens) admitted.1 again k.after in
     (h.all ∙ ap (λ f. f ∷ h.others) one.fates_are ∙ ap (λ fs. k.fate ∷ fs) rest.0 ∙ sym k.all, rest.1)

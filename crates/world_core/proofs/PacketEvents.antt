@@ -1,8 +1,8 @@
 -- What an event that takes packets leaves, once it is counted.
 use Rattle.ovn_base.specs.lists.Among.{Among}
-use Rattle.edit_reader.specs.Reads.{IsPlainFrame}
+use Rattle.world_core.specs.Frames.{carries_arp}
 use Rattle.world_core.proofs.PlainSteps.{enters_moves, arrives_moves, drains_moves, sends_moves, loses_moves}
-use Rattle.std.specs.Prelude.{◌≡◌, ◌<◌, ◌^◌, ◌++◌, ℕ, zero, suc, Bool, true, false, cond, List, [], refl}
+use Rattle.std.specs.Prelude.{◌≡◌, ◌<◌, ◌+◌, ◌^◌, ◌++◌, None, ℕ, zero, suc, Bool, true, false, cond, List, [], refl}
 use Rattle.std.proofs.Common.{sym, ap, ◌∙◌, subst, arith, inl, inr}
 use Rattle.ovn_base.specs.declared.name.Name.{Name}
 use Rattle.chassis_sim.specs.Passing as passing
@@ -11,19 +11,23 @@ use Rattle.edit_reader.specs.declared.event.Event.{Event}
 use Rattle.edit_reader.specs.declared.event.Event.TheVariants as event_of
 use Rattle.switch_engine.specs.declared.effect.NetEffect.{NetEffect}
 use Rattle.switch_engine.specs.declared.walk.Walk.{Walk}
-use Rattle.world_core.specs.Outcome.{matched}
+use Rattle.world_core.specs.Outcome.{IsAccepted, matched}
 use Rattle.world_core.specs.Packets.{AreGone, HasArrived, HasEntered, most_sent}
+use Rattle.event_lines.specs.Lines.{accepted_lines}
+use Rattle.world_core.specs.Refusing.{no_frame}
+use Rattle.world_core.proofs.Refusal.{taken_of}
 use Rattle.world_core.specs.StepParts.{IsDone, IsTaken}
 use Rattle.sim_laws.specs.Passing.{AreDrained, GoesIn, clock, no_out}
 use Rattle.world_core.specs.EventPasses.{Passes}
 use Rattle.sim_laws.specs.Refinement.{IsAmidst}
-use Rattle.world_core.specs.WorldView.{WorldView}
+use Rattle.world_core.specs.WorldView.{IsSound, WorldView}
 use Rattle.sim_laws.specs.Held.{AreHeld}
 use Rattle.net_model.specs.State.{State, event_count, finished}
 use Rattle.sim_laws.specs.PacketSteps.{Arrives, Drains, Enters, most_arrivals}
 use Rattle.world_core.specs.Step.{Does}
 use Rattle.sim_laws.specs.PlainJourneys.{with_kept}
 use Rattle.world_core.specs.Zones.{Rezones}
+use Rattle.sim_laws.proofs.PlainRecords.{plain_valid}
 use Rattle.sim_laws.proofs.EventEnds.{finishes}
 use Rattle.sim_laws.proofs.Refinements.{amidst_with, crossings_kept, held_kept}
 
@@ -73,32 +77,32 @@ pub record IsNothing (out : SimOut) : Type 0 where
 nothing : (out : SimOut) → IsNothing out → out ≡ no_out
 nothing out n = λ i. record { effects = n.effects i; walks = n.walks i }
 
-pub entry_done : (old : WorldView) (p : Name) (frame : List ℕ) (before after : SimOut) (mid new : WorldView) (count : ℕ) → IsPlainFrame frame → IsTaken old → event_count old.state < 2 ^ 42 → IsNothing before → HasEntered old p frame before after mid
+pub entry_done : (old : WorldView) (p : Name) (frame : List ℕ) (before after : SimOut) (mid new : WorldView) (count : ℕ) → carries_arp frame ≡ false → IsTaken old → event_count old.state < 2 ^ 42 → IsNothing before → HasEntered old p frame before after mid
     → new ≡ record mid { state = finished mid.state } → count ≡ matched after.walks → IsDone old (event_of.Inject p frame) after.effects after.walks count new
 entry_done old p frame before after mid new count built t room none h then counts =
     let own : after.effects ≡ h.effects = h.all ∙ ap (λ l. l ++ h.effects) none.effects in
-    finish_done old (event_of.Inject p frame) after.effects after.walks mid new count t room (enters_events old.state p frame h.effects mid.state h.happens) (enters_moves old.state t.consistent.valid p frame after.effects mid.state built (subst (λ es. Enters old.state p frame es mid.state) (sym own) h.happens) (entered_there old t p frame after.effects mid.state (subst (λ es. Enters old.state p frame es mid.state) (sym own) h.happens)))
+    finish_done old (event_of.Inject p frame) after.effects after.walks mid new count t room (enters_events old.state p frame h.effects mid.state h.happens) (enters_moves old.state (plain_valid old.state.config.net t.consistent.valid t.consistent.built) p frame after.effects mid.state built (subst (λ es. Enters old.state p frame es mid.state) (sym own) h.happens) (entered_there old t p frame after.effects mid.state (subst (λ es. Enters old.state p frame es mid.state) (sym own) h.happens)))
     (subst (λ b. GoesIn old.sim p frame b after mid.sim) (nothing before none) h.passed) h.amidst h.held h.rest then refl counts
 
 pub arrival_done : (old : WorldView) (n : ℕ) (keep : Bool) (before after : SimOut) (mid new : WorldView) (count : ℕ) → IsTaken old → event_count old.state < 2 ^ 42 → IsNothing before → HasArrived old n keep before after mid
     → new ≡ record mid { state = finished mid.state } → count ≡ matched after.walks → IsDone old (cond keep (event_of.Repeat n) (event_of.Deliver n)) after.effects after.walks count new
 arrival_done old n true before after mid new count t room none h then counts =
     let own : after.effects ≡ h.effects = h.all ∙ ap (λ l. l ++ h.effects) none.effects in
-    finish_done old (event_of.Repeat n) after.effects after.walks mid new count t room (arrives_events old.state n true h.effects mid.state h.happens) (arrives_moves old.state t.consistent.valid n true after.effects mid.state (subst (λ es. Arrives old.state n true es mid.state) (sym own) h.happens))
+    finish_done old (event_of.Repeat n) after.effects after.walks mid new count t room (arrives_events old.state n true h.effects mid.state h.happens) (arrives_moves old.state (plain_valid old.state.config.net t.consistent.valid t.consistent.built) n true after.effects mid.state (subst (λ es. Arrives old.state n true es mid.state) (sym own) h.happens))
     (subst (λ b. passing.IsArrived old.sim n true clock b after mid.sim) (nothing before none) h.passed) h.amidst h.held h.rest then refl counts
 arrival_done old n false before after mid new count t room none h then counts =
     let own : after.effects ≡ h.effects = h.all ∙ ap (λ l. l ++ h.effects) none.effects in
-    finish_done old (event_of.Deliver n) after.effects after.walks mid new count t room (arrives_events old.state n false h.effects mid.state h.happens) (arrives_moves old.state t.consistent.valid n false after.effects mid.state (subst (λ es. Arrives old.state n false es mid.state) (sym own) h.happens))
+    finish_done old (event_of.Deliver n) after.effects after.walks mid new count t room (arrives_events old.state n false h.effects mid.state h.happens) (arrives_moves old.state (plain_valid old.state.config.net t.consistent.valid t.consistent.built) n false after.effects mid.state (subst (λ es. Arrives old.state n false es mid.state) (sym own) h.happens))
     (subst (λ b. passing.IsArrived old.sim n false clock b after mid.sim) (nothing before none) h.passed) h.amidst h.held h.rest then refl counts
 
 pub drain_done : (old : WorldView) (before after : SimOut) (mid new : WorldView) (count : ℕ) → IsTaken old → event_count old.state < 2 ^ 42 → IsNothing before → AreGone most_arrivals old before after mid
     → new ≡ record mid { state = finished mid.state } → count ≡ matched after.walks → IsDone old event_of.Drain after.effects after.walks count new
 drain_done old before after mid new count t room none h then counts =
     let own : after.effects ≡ h.effects = h.all ∙ ap (λ l. l ++ h.effects) none.effects in
-    finish_done old event_of.Drain after.effects after.walks mid new count t room (drains_events most_arrivals old.state h.effects mid.state h.happens) (drains_moves old.state after.effects mid.state t.consistent.valid (subst (λ es. Drains most_arrivals old.state es mid.state) (sym own) h.happens))
+    finish_done old event_of.Drain after.effects after.walks mid new count t room (drains_events most_arrivals old.state h.effects mid.state h.happens) (drains_moves old.state after.effects mid.state (plain_valid old.state.config.net t.consistent.valid t.consistent.built) (subst (λ es. Drains most_arrivals old.state es mid.state) (sym own) h.happens))
     (subst (λ b. AreDrained most_arrivals old.sim b after mid.sim) (nothing before none) h.passed) h.amidst h.held h.rest then refl counts
 
-pub packet_done : (old : WorldView) (p : Name) (frame : List ℕ) (before between after : SimOut) (first mid new : WorldView) (count : ℕ) → IsPlainFrame frame → IsTaken old → event_count old.state < 2 ^ 42 → IsNothing before → HasEntered old p frame before between first
+pub packet_done : (old : WorldView) (p : Name) (frame : List ℕ) (before between after : SimOut) (first mid new : WorldView) (count : ℕ) → carries_arp frame ≡ false → IsTaken old → event_count old.state < 2 ^ 42 → IsNothing before → HasEntered old p frame before between first
     → AreGone most_arrivals first between after mid → new ≡ record mid { state = finished mid.state } → count ≡ matched after.walks → IsDone old (event_of.Packet p frame) after.effects after.walks count new
 packet_done old p frame before between after first mid new count built t room none e d then counts =
     let own : between.effects ≡ e.effects = e.all ∙ ap (λ l. l ++ e.effects) none.effects in
@@ -106,7 +110,7 @@ packet_done old p frame before between after first mid new count built t room no
     let events = drains_events most_arrivals first.state d.effects mid.state d.happens ∙ enters_events old.state p frame e.effects first.state e.happens in
     let rest : mid ≡ record old { state = mid.state; sim = mid.sim } = d.rest ∙ ap (λ (w : WorldView). record w { state = mid.state; sim = mid.sim }) e.rest in
     finish_done old (event_of.Packet p frame) after.effects after.walks mid new count t room events
-    (sends_moves old.state p frame after.effects mid.state t.consistent.valid built (record { own = e.effects; more = d.effects; all = all; mid = first.state; enters = e.happens; drains = d.happens }) (entered_there old t p frame e.effects first.state e.happens))
+    (sends_moves old.state p frame after.effects mid.state (plain_valid old.state.config.net t.consistent.valid t.consistent.built) built (record { own = e.effects; more = d.effects; all = all; mid = first.state; enters = e.happens; drains = d.happens }) (entered_there old t p frame e.effects first.state e.happens))
     (record { between = between; mid = first.sim; goes_in = subst (λ b. GoesIn old.sim p frame b between first.sim) (nothing before none) e.passed; drained = d.passed }) d.amidst d.held rest then refl counts
 
 -- what is handed on is what came
@@ -122,10 +126,29 @@ loss_done old n mid new effects walks count t room lost then no_effects no_walks
     let m = old.state in
     let now = t.consistent in
     let few = now.on_the_way.few in
-    let a : IsAmidst m old.zones 0 = record { valid = now.valid; within = now.within; keys = now.keys; bound = now.bound; born = now.born; crossings = now.on_the_way.crossings; few = now.few; few_sent = omega (arith, few) } in
+    let a : IsAmidst m old.zones 0 = record { valid = now.valid; built = now.built; keys = now.keys; bound = now.bound; born = now.born; crossings = now.on_the_way.crossings; few = now.few; few_sent = omega (arith, few) } in
     let amidst = amidst_with m old.zones 0 most_sent (with_kept false m n).waiting m.next a (crossings_kept false m n a.crossings) (omega (arith, few)) in
     let held = held_kept false m old.zones old.sim n t.held in
     handed_on old new (event_of.Lose n) no_out effects walks count no_effects no_walks
-    (finish_done old (event_of.Lose n) [] [] mid new count t room (ap (λ (v : WorldView). event_count v.state) lost) (loses_moves m now.valid n [] mid.state refl (ap (λ (v : WorldView). v.state) lost)) refl
+    (finish_done old (event_of.Lose n) [] [] mid new count t room (ap (λ (v : WorldView). event_count v.state) lost) (loses_moves m (plain_valid m.config.net now.valid now.built) n [] mid.state refl (ap (λ (v : WorldView). v.state) lost)) refl
     (subst (λ (v : WorldView). IsAmidst v.state v.zones most_sent) (sym lost) amidst) (subst (λ (v : WorldView). AreHeld v.state v.zones.numbers v.sim) (sym lost) held)
     (subst (λ (v : WorldView). v ≡ record old { state = v.state; sim = v.sim }) (sym lost) refl) then refl none)
+
+-- ---- a frame is lost
+
+-- the world without the frame, before the event is counted, and once it is
+abbrev pub lost_world : WorldView → ℕ → WorldView
+lost_world w n = record w { state = with_kept false w.state n; sim = passing.arrived w.sim n false; whole = false }
+
+abbrev pub counted_world : WorldView → List Walk → WorldView
+counted_world w walks = record w { state = finished w.state; walks = walks; whole = true }
+
+pub loss_taken : (old : WorldView) (n : ℕ) → IsSound old → event_count old.state < 2 ^ 42 → no_frame old.state n ≡ None → (before text : List ℕ) → text ≡ before ++ accepted_lines (event_count old.state + 1) [] 0
+    → IsAccepted old (event_of.Lose n) before text (counted_world (lost_world old n) []) × IsSound (counted_world (lost_world old n) [])
+loss_taken old n sound room allowed before text lines =
+    let marked : WorldView = record old { whole = false } in
+    let mid = lost_world old n in
+    let done = loss_done marked n mid (record mid { state = finished mid.state }) [] [] 0 (taken_of old sound) room refl refl refl refl refl in (
+      record { admitted = allowed; effects = []; step = done.step; passed = refl; zones = done.zones; text = lines },
+      record { whole = refl; consistent = done.now.consistent; held = done.now.held },
+    )

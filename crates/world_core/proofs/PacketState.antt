@@ -14,6 +14,7 @@ use Rattle.chassis_sim.specs.declared.out.SimOut.{SimOut}
 use Rattle.switch_engine.specs.declared.effect.NetEffect.{NetEffect}
 use Rattle.net_model.specs.declared.crossing.Crossing.{Crossing}
 use Rattle.net_model.specs.Journey.{numbered_from}
+use Rattle.sim_laws.proofs.PlainRecords.{plain_valid}
 use Rattle.sim_laws.specs.Effects.{effects_of, spelled}
 use Rattle.net_model.specs.Trail.{crossings_in}
 use Rattle.world_core.specs.Packets.{CanBeKept, HasArrived, HasEntered, HasPassed, most_sent}
@@ -112,7 +113,7 @@ goes_on old p frame before after s effects a h bound g are =
     let own = r.happens in
     let ends = own.ends in
     let ws = numbered_from old.state.next (crossings_in ends) in
-    let v = visit_ends old.state a.valid a.keys own.packet own.whole p own.chassis ends own.visit in
+    let v = visit_ends old.state (plain_valid old.state.config.net a.valid a.built) a.keys own.packet own.whole p own.chassis ends own.visit in
     let effects_are : effects ≡ effects_of old.state.keys old.state.next ends = are ∙ ap (λ l. drop (length before.effects) l) r.all ∙ drop_at before.effects r.effects (length before.effects) refl ∙ own.effects_are in
     let next : s.next ≡ old.state.next + length (crossings_in ends) = r.held.next ∙ ap (λ (m : State). m.next) own.state in
     let same : record old.state { waiting = old.state.waiting ++ ws; next = s.next } ≡ r.mid = (λ i. record old.state { waiting = old.state.waiting ++ ws; next = next i }) ∙ sym own.state in

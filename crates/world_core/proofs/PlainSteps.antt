@@ -8,7 +8,7 @@ use Rattle.ovn_base.specs.names.SameName.{bytes_decides, same_name}
 use Rattle.ovn_base.specs.declared.name.Name.{Name}
 use Rattle.ovn_base.proofs.AmongLaws.{among_any}
 use Rattle.chassis_sim.specs.State.{numbered}
-use Rattle.edit_reader.specs.Reads.{IsPlainFrame}
+use Rattle.world_core.specs.Frames.{carries_arp}
 use Rattle.net_model.specs.Config.{is_chassis}
 use Rattle.net_model.specs.Journey.{arrive_all, arrive_one, enter_and_arrive, enter_one, lose_one, scene_at, Travels}
 use Rattle.net_model.specs.State.{State}
@@ -17,7 +17,7 @@ use Rattle.sim_laws.specs.PlainJourneys as plain_net
 use Rattle.sim_laws.specs.PlainJourneys.{sent_on, with_kept}
 use Rattle.sim_laws.specs.PlainWays.{visit_ends}
 use Rattle.sim_laws.proofs.PlainDrains.{travels_arrive, travels_drain, travels_enter, travels_enter_and_drain, travels_lose}
-use Rattle.sim_laws.proofs.PlainFrames.{no_arp}
+use Rattle.world_core.proofs.FrameTargets.{nothing_asked}
 use Rattle.switch_engine.specs.declared.effect.NetEffect.{NetEffect}
 use Rattle.switch_engine.specs.declared.effect.NetEffect.TheVariants as net
 use Rattle.tunnel_keys.specs.Keys.{Keys}
@@ -50,12 +50,12 @@ chassis_is m chassis among = among_any (λ n. same_name n chassis) chassis m.con
 
 module _ (m : State) (valid : IsValid m.config.net) where
   -- the ends of a packet that entered
-  pub entry_ends : (p : Name) (frame : List ℕ) (effects : List NetEffect) (after : State) → IsPlainFrame frame → (h : Enters m p frame effects after) → h.ends ≡ visit_ends (scene_at m h.chassis) h.visit.port h.packet
+  pub entry_ends : (p : Name) (frame : List ℕ) (effects : List NetEffect) (after : State) → carries_arp frame ≡ false → (h : Enters m p frame effects after) → h.ends ≡ visit_ends (scene_at m h.chassis) h.visit.port h.packet
   entry_ends p frame effects after built h =
       let v = h.visit in
-      goes_so m valid p v.port v.there v.switch v.on h.chassis h.packet (no_arp h.packet frame h.whole h.frame_is built.not_arp) h.ends v.goes
+      goes_so m valid p v.port v.there v.switch v.on h.chassis h.packet (nothing_asked h.packet frame h.whole h.frame_is built) h.ends v.goes
 
-  pub enters_moves : (p : Name) (frame : List ℕ) (effects : List NetEffect) (after : State) → IsPlainFrame frame → (h : Enters m p frame effects after) → Among h.chassis m.config.chassis → Sends m frame (enter_one p) effects after
+  pub enters_moves : (p : Name) (frame : List ℕ) (effects : List NetEffect) (after : State) → carries_arp frame ≡ false → (h : Enters m p frame effects after) → Among h.chassis m.config.chassis → Sends m frame (enter_one p) effects after
   enters_moves p frame effects after built h known =
       let v = h.visit in
       let own : visit_ends (scene_at m h.chassis) v.port h.packet ≡ h.ends = sym (entry_ends p frame effects after built h) in
@@ -123,7 +123,7 @@ drains_moves m effects after valid h =
     let d = drained most_arrivals m effects after valid h in
     record { ends = d.ends; travels = travels_drain m (plain m.config.net valid) d.ends after d.drains; effects_are = d.effects_are }
 
-pub sends_moves : (m : State) (p : Name) (frame : List ℕ) (effects : List NetEffect) (after : State) → IsValid m.config.net → IsPlainFrame frame → (h : EntersAndDrains m p frame effects after) → Among h.enters.chassis m.config.chassis
+pub sends_moves : (m : State) (p : Name) (frame : List ℕ) (effects : List NetEffect) (after : State) → IsValid m.config.net → carries_arp frame ≡ false → (h : EntersAndDrains m p frame effects after) → Among h.enters.chassis m.config.chassis
     → Sends m frame (enter_and_arrive p) effects after
 sends_moves m p frame effects after valid built h known =
     let e = h.enters in

@@ -1,5 +1,5 @@
 -- What turns make of the ground may be prepared: for each kind of event, in the terms in which the setup has it.
-use Rattle.std.specs.Prelude.{◌≡◌, ◌⊎◌, ◌+◌, ℕ, List, [], ◌∷◌, Some, None, unwrap_or, refl}
+use Rattle.std.specs.Prelude.{◌≡◌, ◌<◌, ◌↔◌, ◌⊎◌, ◌+◌, ◌^◌, ℕ, List, [], ◌∷◌, Option, Some, None, length, map, nat_le, option_map, false, true, refl}
 use Rattle.std.specs.BTreeSet.{insert_key}
 use Rattle.std.specs.Cmp.Lexicographic.{slice_cmp}
 use Rattle.std.specs.Map.{keys_of}
@@ -10,54 +10,66 @@ use Rattle.chassis_sim.specs.declared.change.SimChange.{SimChange}
 use Rattle.conn_zones.specs.Rezoning.{IsHomeChange, IsRezoned}
 use Rattle.conn_zones.specs.Zoning.{Zoned}
 use Rattle.edit_reader.specs.declared.event.Event.TheVariants as event_of
-use Rattle.nb_records.specs.Network.{Network, with_record}
-use Rattle.nb_records.specs.declared.change.Op.TheVariants.{Add}
-use Rattle.nb_records.specs.declared.record.Record.TheVariants as record_of
-use Rattle.nb_records.specs.declared.switch.Switch.{Switch}
-use Rattle.nb_records.specs.declared.switch.SwitchPort.{SwitchPort}
+use Rattle.edit_reader.specs.Fitting.{IsEventInGrammar}
+use Rattle.nb_edits.specs.declared.plan.EditPlan.{EditPlan}
+use Rattle.nb_records.specs.Editing.{accepted}
+use Rattle.nb_records.specs.Network.{Network}
+use Rattle.nb_records.specs.declared.change.Op.{Op}
+use Rattle.net_model.specs.Owners.{owners_only_in}
+use Rattle.net_model.specs.Config.{Config, is_chassis}
 use Rattle.net_model.specs.State.{State, event_count}
 use Rattle.ovn_base.specs.declared.name.Name.{Name}
 use Rattle.ovn_base.specs.lists.Among.{Among}
 use Rattle.ovn_base.specs.lists.Once.{EachOnce}
-use Rattle.ovn_base.specs.names.ByName.{at, put}
+use Rattle.ovn_base.specs.names.ByName.{at}
 use Rattle.ovn_base.specs.names.SameName.{bytes_decides, same_name}
 use Rattle.ovn_base.proofs.AmongLaws.{among_any}
-use Rattle.physical_flows.specs.RecordKeys.{HaveKeys}
 use Rattle.physical_flows.specs.Units.{ChangeOnly}
-use Rattle.physical_flows.specs.Valid.{IsValid}
 use Rattle.physical_flows.specs.declared.unit.FlowUnit.{FlowUnit}
-use Rattle.physical_flows.specs.declared.unit.FlowUnit.TheVariants as unit
 use Rattle.switch_engine.specs.declared.effect.NetEffect.{NetEffect}
-use Rattle.tunnel_keys.specs.Causes.{HasKeys}
-use Rattle.tunnel_keys.specs.Edits.{GivesKeys, IsAfter, IsKeyEdit}
 use Rattle.tunnel_keys.specs.Keys.{Keys}
-use Rattle.tunnel_keys.specs.declared.owner.KeyOwner.{KeyOwner}
-use Rattle.tunnel_keys.specs.declared.owner.KeyOwner.TheVariants.{Datapath, Port}
 use Rattle.tuple_space.specs.declared.space.TupleSpace.{TupleSpace}
-use Rattle.physical_flows.specs.Numbers.{datapath_number, port_number}
-use Rattle.world_core.specs.Editing.{datapath_effect, port_effect}
 use Rattle.world_core.specs.Ground.{GroundView, changed, ground_of, IsChangeOf}
-use Rattle.world_core.specs.Setup.{HasDelta, IsTurnOfTables, rows_on, units_of}
-use Rattle.world_core.specs.Turning.{IsTurned, MayTurn}
+use Rattle.world_core.specs.Editing.{next_net}
+use Rattle.world_core.specs.KeyLines.{key_effects, key_name}
+use Rattle.world_core.specs.Refusing.{is_virtual_port, refusal}
+use Rattle.world_core.specs.Setup.{AreTouched, HasDelta, HasTables, IsTurnOfTables, rows_on, units_of}
+use Rattle.world_core.specs.Touched.{touched_by}
+use Rattle.world_core.specs.Turning.{IsPlannedEdit, IsTurned, LacksFor, MayTurn, Tells, fault_of_keys}
+use Rattle.world_core.specs.Untracked.{untracked}
 use Rattle.world_core.specs.Zones.{home_change}
 use Rattle.world_core.specs.declared.ground.GroundChange.{GroundChange}
-use Rattle.world_core.proofs.AddedRecords.{consistent_port, consistent_switch}
-use Rattle.world_core.proofs.KeyPlans.{key_for_port, key_for_switch, port_fits, switch_fits}
+use Rattle.sim_laws.proofs.PlainRecords.{plain_valid, plain_within}
+use Rattle.sim_laws.specs.Consistent.{IsConsistent}
+use Rattle.event_lines.specs.declared.refusal.Refusal.TheVariants as why
+use Rattle.event_lines.specs.declared.refusal.StepFault.{StepFault}
+use Rattle.event_lines.specs.declared.refusal.StepFault.TheVariants.{Refused, Memory}
+use Rattle.nb_edits.specs.OpFaults.{fault_of}
+use Rattle.nb_edits.specs.Plans.{StandsFor}
+use Rattle.nb_rules.specs.declared.fault.SchemaFault.{SchemaFault}
+use Rattle.std.proofs.lemmas.Option.{none-some}
+use Rattle.tunnel_keys.specs.Causes.{IsCause}
+use Rattle.tunnel_keys.specs.Edits.{IsKeyEdit}
+use Rattle.tunnel_keys.specs.declared.fault.KeyFault.{KeyFault}
+use Rattle.tunnel_keys.specs.declared.fault.KeyFault.TheVariants as key
+use Rattle.world_core.specs.Built.{is_built_edit}
+use Rattle.world_core.specs.KeyCauses.{datapath_keys, key_lack, port_keys}
+use Rattle.world_core.proofs.KeyLacks.{IsLack}
+use Rattle.world_core.proofs.RefusedTurns.{bind_allowed, bind_no_chassis, bind_no_port, chassis_allowed, chassis_full, chassis_there, edit_faulty, edit_lacks, edit_unbuilt}
+use Rattle.world_core.proofs.EditedStates.{after, edit_fits, edit_lack, edit_turned, fits, have, next_built, same_beside, sound}
+use Rattle.world_core.proofs.SetupTurns.{units_once}
 use Rattle.world_core.proofs.PortHomes.{can_come}
-use Rattle.world_core.proofs.Refusals.{built_port, chassis_new, is_new}
+use Rattle.world_core.proofs.Refusals.{chassis_new}
 use Rattle.world_core.proofs.Turned.{names_once}
 use Rattle.world_core.proofs.TurnedHomes.{binding_turned, chassis_turned}
-use Rattle.world_core.proofs.TurnedRecords.{port_have, port_on, port_turned, switch_have, switch_new, switch_turned}
-use Rattle.world_core.proofs.TurnedUnits.{binding_units, chassis_units, homes_bound, port_units, switch_units}
-use Rattle.world_core.proofs.Turns.{with_records}
+use Rattle.world_core.proofs.TurnedUnits.{binding_units, chassis_units, edited_units, homes_bound}
 
 -- what `prepare` asks of a change of the ground, and of the units that it touches
 pub record IsReadied (g : GroundView) (change : GroundChange) (touched : List FlowUnit) : Type 0 where
   pub fits : IsChangeOf g change
   pub once : EachOnce g.config.chassis
-  pub valid : IsValid (changed change g).config.net
-  pub keys : HaveKeys (changed change g).config.net (changed change g).keys
-  pub touched_alone : (c : Name) → Among c g.config.chassis → ChangeOnly touched (rows_on g c) (rows_on (changed change g) c)
+  pub tables : HasTables (changed change g)
+  pub touched_alone : AreTouched g (changed change g) touched
 
 -- the ground of these records, chassis, keys and zones
 abbrev pub ground_with : Network → List Name → Keys → Zoned → GroundView
@@ -77,130 +89,134 @@ tables_then h g same own change is s t added removed tables turn =
     } in
     subst (λ ch. IsTurnOfTables g (changed ch g) t) (sym is) (subst (λ x. IsTurnOfTables x (changed change x) t) same all)
 
--- ---- a switch comes
+-- ---- an edit
 
-module _ (g : GroundView) (n : ℕ) (s : Switch) (m : State) (may : MayTurn g n (event_of.Edit (Add (record_of.Switch s) ∷ [])) m) where
-  abbrev owner : ℕ → KeyOwner
-  owner number = Datapath s.name (record { 0 = number })
+-- the change of the ground that an edit makes
+abbrev pub edit_change : EditPlan → Keys → GroundChange
+edit_change plan keys = record { records = Some plan; chassis = None; keys = Some keys; zones = None }
 
-  same_keys : g.keys ≡ m.keys
-  same_keys = ap (λ (x : GroundView). x.keys) (sym may.ground)
+module _ (m : State) (zones : Zoned) (lists : m.lists ≡ untracked m.config) (old : IsConsistent m zones) (room : event_count m < 2 ^ 42) (ops : List Op) (grammar : IsEventInGrammar (event_of.Edit ops)) (plan : EditPlan) (keys : Keys)
+    (planned : IsPlannedEdit (ground_of m zones) (event_count m + 1) ops plan keys) where
+  abbrev next : Network
+  next = next_net m ops
 
-  pub switch_may_fit : (k : Keys) → k ≡ g.keys → IsKeyEdit k (owner n ∷ []) []
-  switch_may_fit k is =
-      subst (λ x. IsKeyEdit x (owner n ∷ []) []) (sym (is ∙ same_keys))
-      (subst (λ number. IsKeyEdit m.keys (owner number ∷ []) []) (sym may.number) (switch_fits m may.consistent.keys may.consistent.born s.name (switch_new m.config.net s may.allowed).0))
+  edit_ground : changed (edit_change plan keys) (ground_of m zones) ≡ record { config = record m.config { net = next }; keys = keys; zones = zones }
+  edit_ground = λ i. record { config = record m.config { net = planned.stands.after i; bindings = homes_bound m zones old i }; keys = keys; zones = zones }
 
-  pub switch_has_key : (k : Keys) → k ≡ g.keys → HasKeys k (owner n ∷ []) []
-  switch_has_key k is =
-      subst (λ x. HasKeys x (owner n ∷ []) []) (sym (is ∙ same_keys))
-      (key_for_switch m may.consistent.keys may.consistent.born s.name (record { 0 = n }) (switch_new m.config.net s may.allowed).1)
+  pub edit_is_readied : (units : List FlowUnit) → EachOnce units → ((u : FlowUnit) → Among u units ↔ Among u (touched_by m.config.net next ops)) → IsReadied (ground_of m zones) (edit_change plan keys) units
+  edit_is_readied units once are = record {
+    fits = record {
+      keys = record {
+        added = owners_only_in next m.config.net;
+        removed = owners_only_in m.config.net next;
+        fits = fits m zones lists old room ops grammar plan keys planned;
+        gives = (after m zones lists old room ops grammar plan keys planned).gives;
+      };
+      zones = tt;
+    };
+    once = names_once m.config.chassis old.bound.chassis_sorted;
+    tables = subst (λ g. HasTables g) (sym edit_ground) (record {
+      valid = plain_valid next (sound m zones lists old room ops grammar plan keys planned).valid (next_built m zones lists old room ops grammar plan keys planned);
+      keys = have m zones lists old room ops grammar plan keys planned;
+    });
+    touched_alone = record {
+      once = once;
+      only = λ d among. subst (λ g. ChangeOnly units (rows_on (ground_of m zones) d) (rows_on g d)) (sym edit_ground)
+          (edited_units m zones old next keys units (sound m zones lists old room ops grammar plan keys planned).valid.in_order.switch_ports (same_beside m zones lists old room ops grammar plan keys planned units are) d);
+    };
+  }
 
-  module _ (keys : Keys) (after : IsAfter g.keys (owner n ∷ []) [] keys) where
-    gives : GivesKeys m.keys (owner (event_count m + 1) ∷ []) [] keys
-    gives = subst (λ number. GivesKeys m.keys (owner number ∷ []) [] keys) may.number (subst (λ k. GivesKeys k (owner n ∷ []) [] keys) same_keys after.gives)
+  pub edit_is_turned : (effects : List NetEffect) → effects ≡ key_effects plan.added keys → (change : SimChange TupleSpace) → change.bound ≡ [] → change.names ≡ map (key_name keys) plan.added
+      → IsTurned m zones (event_of.Edit ops) effects change (changed (edit_change plan keys) (ground_of m zones))
+  edit_is_turned effects named change bound names =
+      subst (λ g. IsTurned m zones (event_of.Edit ops) effects change g) (sym edit_ground) (edit_turned m zones lists old room ops grammar plan keys planned effects named change bound names)
 
-    abbrev with_switch : Network
-    with_switch = record m.config.net { switches = put m.config.net.switches s.name (record s { birth = record { 0 = event_count m + 1 } }) }
+-- why an edit is refused, in the terms in which the setup has it
+module _ (g : GroundView) (n : ℕ) (ops : List Op) (m : State) (may : MayTurn g n (event_of.Edit ops) m) where
+  -- the records that it leaves
+  pub edit_leaves : accepted g.config.net ops n ≡ next_net m ops
+  edit_leaves = λ i. accepted (sym may.ground i).config.net ops (may.number i)
 
-    abbrev switch_change : Network → GroundChange
-    switch_change net = record { records = Some net; chassis = None; keys = Some keys; zones = None }
+  fault_same : fault_of m.config.net ops (event_count m + 1) ≡ fault_of g.config.net ops n
+  fault_same = λ i. fault_of (may.ground i).config.net ops (sym may.number i)
 
-    -- what the records become
-    switch_net : (net : Network) → net ≡ with_record g.config.net (record_of.Switch (record { name = s.name; birth = record { 0 = n } })) → net ≡ with_switch
-    switch_net net is =
-        is ∙ (λ i. with_record (sym may.ground i).config.net (record_of.Switch (record { name = s.name; birth = record { 0 = may.number i } })))
+  keys_same : m.keys ≡ g.keys
+  keys_same = ap (λ (x : GroundView). x.keys) may.ground
 
-    then_ground : changed (switch_change with_switch) (ground_of m g.zones) ≡ record { config = record m.config { net = with_switch }; keys = keys; zones = g.zones }
-    then_ground = λ i. record { config = record m.config { net = with_switch; bindings = homes_bound m g.zones may.consistent i }; keys = keys; zones = g.zones }
+  -- the owners that come and go by the plan
+  come_same : (plan : EditPlan) → StandsFor g.config.net (accepted g.config.net ops n) plan → owners_only_in (next_net m ops) m.config.net ≡ plan.added
+  come_same plan stands = (λ i. owners_only_in (sym edit_leaves i) (may.ground i).config.net) ∙ sym stands.added
 
-    readied : IsReadied (ground_of m g.zones) (switch_change with_switch) (unit.Switch s.name ∷ [])
-    readied = record {
-      fits = record { keys = record { added = owner (event_count m + 1) ∷ []; removed = []; fits = switch_fits m may.consistent.keys may.consistent.born s.name (switch_new m.config.net s may.allowed).0; gives = gives }; zones = tt };
-      once = names_once m.config.chassis may.consistent.bound.chassis_sorted;
-      valid = (consistent_switch m (with_records m with_switch keys) keys after.hold s gives refl g.zones may.consistent (switch_new m.config.net s may.allowed).0 (switch_new m.config.net s may.allowed).1 may.few).valid;
-      keys = switch_have m g.zones may.untracked_lists may.consistent may.few s may.allowed keys after.hold gives;
-      touched_alone = λ c among. subst (λ x. ChangeOnly (unit.Switch s.name ∷ []) (rows_on (ground_of m g.zones) c) (rows_on x c)) (sym then_ground) (switch_units m g.zones may.consistent s may.allowed keys gives c);
-    }
+  go_same : (plan : EditPlan) → StandsFor g.config.net (accepted g.config.net ops n) plan → owners_only_in m.config.net (next_net m ops) ≡ plan.removed
+  go_same plan stands = (λ i. owners_only_in (may.ground i).config.net (sym edit_leaves i)) ∙ sym stands.removed
 
-    pub switch_readied : (h : GroundView) → h ≡ g → (net : Network) → net ≡ with_record g.config.net (record_of.Switch (record { name = s.name; birth = record { 0 = n } })) → IsReadied h (switch_change net) (unit.Switch s.name ∷ [])
-    switch_readied h is net put' =
-        subst (λ x. IsReadied x (switch_change net) (unit.Switch s.name ∷ [])) (may.ground ∙ sym is) (subst (λ x. IsReadied (ground_of m g.zones) (switch_change x) (unit.Switch s.name ∷ [])) (sym (switch_net net put')) readied)
+  pub edit_unbuilt_here : is_built_edit ops ≡ false → refusal m (event_of.Edit ops) ≡ Some why.NotBuilt
+  edit_unbuilt_here built = edit_unbuilt m ops built
 
-    pub switch_turns : (net : Network) → net ≡ with_record g.config.net (record_of.Switch (record { name = s.name; birth = record { 0 = n } })) → (effects : List NetEffect) → effects ≡ datapath_effect keys (s.name, record { 0 = n }) ∷ []
-        → (change : SimChange TupleSpace) → change.bound ≡ [] → change.names ≡ (unwrap_or (datapath_number keys s.name) 0, 0, s.name) ∷ []
-        → IsTurned m g.zones (event_of.Edit (Add (record_of.Switch s) ∷ [])) effects change (changed (switch_change net) g)
-    switch_turns net put' effects named change bound names =
-        subst (λ x. IsTurned m g.zones (event_of.Edit (Add (record_of.Switch s) ∷ [])) effects change (changed (switch_change net) x)) may.ground
-        (subst (λ x. IsTurned m g.zones (event_of.Edit (Add (record_of.Switch s) ∷ [])) effects change (changed (switch_change x) (ground_of m g.zones))) (sym (switch_net net put'))
-        (subst (λ x. IsTurned m g.zones (event_of.Edit (Add (record_of.Switch s) ∷ [])) effects change x) (sym then_ground)
-        (switch_turned m g.zones may.untracked_lists may.consistent may.few s may.allowed keys after.hold gives effects named change bound names)))
+  pub edit_tells : (fault : StepFault) → is_built_edit ops ≡ true → Tells fault (option_map (λ f. why.Schema f) (fault_of g.config.net ops n)) → Tells fault (refusal m (event_of.Edit ops))
+  edit_tells (Refused cause) built told = by (fault_of g.config.net ops n) refl told
+    where
+      by : (o : Option SchemaFault) → fault_of g.config.net ops n ≡ o → option_map (λ f. why.Schema f) o ≡ Some cause → refusal m (event_of.Edit ops) ≡ Some cause
+      by None is h = absurd (none-some cause h)
+      by (Some f) is h = edit_faulty m ops f built (fault_same ∙ is) ∙ h
+  edit_tells Memory built told = tt
 
--- ---- a port comes
+  pub keys_fit : (plan : EditPlan) → is_built_edit ops ≡ true → fault_of g.config.net ops n ≡ None → StandsFor g.config.net (accepted g.config.net ops n) plan → (keys : Keys) → keys ≡ g.keys → IsKeyEdit keys plan.added plan.removed
+  keys_fit plan built none stands keys is =
+      subst (λ k. IsKeyEdit k plan.added plan.removed) (keys_same ∙ sym is)
+      (subst (λ owners. IsKeyEdit m.keys owners plan.removed) (come_same plan stands)
+      (subst (λ owners. IsKeyEdit m.keys (owners_only_in (next_net m ops) m.config.net) owners) (go_same plan stands)
+      (edit_fits m g.zones may.consistent ops may.in_grammar built (fault_same ∙ none))))
 
-module _ (g : GroundView) (n : ℕ) (p : SwitchPort) (m : State) (may : MayTurn g n (event_of.Edit (Add (record_of.SwitchPort p) ∷ [])) m) where
-  abbrev port_owner : ℕ → KeyOwner
-  port_owner number = Port p.switch p.name (record { 0 = number })
+  pub keys_tell : (plan : EditPlan) → is_built_edit ops ≡ true → fault_of g.config.net ops n ≡ None → StandsFor g.config.net (accepted g.config.net ops n) plan → (keys : Keys) → keys ≡ g.keys → (fault : StepFault) → LacksFor keys plan.added plan.removed fault
+      → Tells fault (refusal m (event_of.Edit ops))
+  keys_tell plan built none stands keys is fault lacks = subst (λ f. Tells f (refusal m (event_of.Edit ops))) (sym lacks.fault_is) (by lacks.lack (edit_lack m g.zones may.consistent ops may.in_grammar built (fault_same ∙ none) lacks.lack cause))
+    where
+      cause : IsCause m.keys (owners_only_in (next_net m ops) m.config.net) (owners_only_in m.config.net (next_net m ops)) lacks.lack
+      cause =
+          subst (λ owners. IsCause m.keys owners (owners_only_in m.config.net (next_net m ops)) lacks.lack) (sym (come_same plan stands))
+          (subst (λ owners. IsCause m.keys plan.added owners lacks.lack) (sym (go_same plan stands)) (subst (λ k. IsCause k plan.added plan.removed lacks.lack) (is ∙ sym keys_same) lacks.cause))
 
-  keys_same : g.keys ≡ m.keys
-  keys_same = ap (λ (x : GroundView). x.keys) (sym may.ground)
+      by : (lack : KeyFault) → IsLack lack (key_lack m.keys m.config.net (next_net m ops)) → Tells (fault_of_keys lack) (refusal m (event_of.Edit ops))
+      by key.NoDatapathKey lack = edit_lacks m ops datapath_keys built (fault_same ∙ none) lack
+      by (key.NoPortKey d) lack = edit_lacks m ops (port_keys d) built (fault_same ∙ none) lack
+      by key.Memory lack = tt
 
-  pub port_may_fit : (k : Keys) → k ≡ g.keys → IsKeyEdit k (port_owner n ∷ []) []
-  port_may_fit k is =
-      subst (λ x. IsKeyEdit x (port_owner n ∷ []) []) (sym (is ∙ keys_same))
-      (subst (λ number. IsKeyEdit m.keys (port_owner number ∷ []) []) (sym may.number)
-      (port_fits m may.consistent.keys may.consistent.born p.switch p.name (port_on m.config.net p may.allowed) (built_port m.config.net p may.allowed).absent))
+-- the same in the terms in which the setup has it
+module _ (g : GroundView) (n : ℕ) (ops : List Op) (m : State) (may : MayTurn g n (event_of.Edit ops) m) (plan : EditPlan) (keys : Keys) (planned : IsPlannedEdit g n ops plan keys) where
+  planned_here : IsPlannedEdit (ground_of m g.zones) (event_count m + 1) ops plan keys
+  planned_here = subst (λ k. IsPlannedEdit (ground_of m g.zones) k ops plan keys) may.number (subst (λ x. IsPlannedEdit x n ops plan keys) (sym may.ground) planned)
 
-  pub port_has_key : (k : Keys) → k ≡ g.keys → HasKeys k (port_owner n ∷ []) []
-  port_has_key k is =
-      subst (λ x. HasKeys x (port_owner n ∷ []) []) (sym (is ∙ keys_same))
-      (key_for_port m may.consistent.keys may.consistent.born p.name (record { 0 = n }) p.switch (built_port m.config.net p may.allowed).few)
+  pub edit_readied : (h : GroundView) → h ≡ g → (units : List FlowUnit) → EachOnce units → ((u : FlowUnit) → Among u units ↔ Among u (touched_by g.config.net (accepted g.config.net ops n) ops)) → IsReadied h (edit_change plan keys) units
+  edit_readied h is units once are =
+      subst (λ x. IsReadied x (edit_change plan keys) units) (may.ground ∙ sym is)
+      (edit_is_readied m g.zones may.untracked_lists may.consistent may.few ops may.in_grammar plan keys planned_here units once
+      (subst (λ net. (u : FlowUnit) → Among u units ↔ Among u (touched_by m.config.net net ops)) (edit_leaves g n ops m may)
+      (subst (λ (x : GroundView). (u : FlowUnit) → Among u units ↔ Among u (touched_by x.config.net (accepted g.config.net ops n) ops)) (sym may.ground) are)))
 
-  module _ (keys : Keys) (after : IsAfter g.keys (port_owner n ∷ []) [] keys) where
-    port_gives : GivesKeys m.keys (port_owner (event_count m + 1) ∷ []) [] keys
-    port_gives = subst (λ number. GivesKeys m.keys (port_owner number ∷ []) [] keys) may.number (subst (λ k. GivesKeys k (port_owner n ∷ []) [] keys) keys_same after.gives)
-
-    abbrev with_port : Network
-    with_port = record m.config.net { switch_ports = put m.config.net.switch_ports p.name (record p { birth = record { 0 = event_count m + 1 } }) }
-
-    abbrev port_change : Network → GroundChange
-    port_change net = record { records = Some net; chassis = None; keys = Some keys; zones = None }
-
-    port_net : (net : Network) → net ≡ with_record g.config.net (record_of.SwitchPort (record p { birth = record { 0 = n } })) → net ≡ with_port
-    port_net net is = is ∙ (λ i. with_record (sym may.ground i).config.net (record_of.SwitchPort (record p { birth = record { 0 = may.number i } })))
-
-    port_ground : changed (port_change with_port) (ground_of m g.zones) ≡ record { config = record m.config { net = with_port }; keys = keys; zones = g.zones }
-    port_ground = λ i. record { config = record m.config { net = with_port; bindings = homes_bound m g.zones may.consistent i }; keys = keys; zones = g.zones }
-
-    port_is_readied : IsReadied (ground_of m g.zones) (port_change with_port) (unit.Switch p.switch ∷ unit.Port p.name ∷ [])
-    port_is_readied =
-        let built = built_port m.config.net p may.allowed in
-        let on = port_on m.config.net p may.allowed in
-        record {
-          fits = record { keys = record { added = port_owner (event_count m + 1) ∷ []; removed = []; fits = port_fits m may.consistent.keys may.consistent.born p.switch p.name on built.absent; gives = port_gives }; zones = tt };
-          once = names_once m.config.chassis may.consistent.bound.chassis_sorted;
-          valid = (consistent_port m (with_records m with_port keys) keys after.hold p port_gives refl g.zones may.consistent built.absent built.few on (is_new m.config.net p may.allowed) may.few).valid;
-          keys = port_have m g.zones may.untracked_lists may.consistent may.few p may.allowed keys after.hold port_gives;
-          touched_alone = λ c among. subst (λ x. ChangeOnly (unit.Switch p.switch ∷ unit.Port p.name ∷ []) (rows_on (ground_of m g.zones) c) (rows_on x c)) (sym port_ground) (port_units m g.zones may.consistent p may.allowed keys port_gives c);
-        }
-
-    pub port_readied : (h : GroundView) → h ≡ g → (net : Network) → net ≡ with_record g.config.net (record_of.SwitchPort (record p { birth = record { 0 = n } })) → IsReadied h (port_change net) (unit.Switch p.switch ∷ unit.Port p.name ∷ [])
-    port_readied h is net put' =
-        subst (λ x. IsReadied x (port_change net) (unit.Switch p.switch ∷ unit.Port p.name ∷ [])) (may.ground ∙ sym is)
-        (subst (λ x. IsReadied (ground_of m g.zones) (port_change x) (unit.Switch p.switch ∷ unit.Port p.name ∷ [])) (sym (port_net net put')) port_is_readied)
-
-    pub port_turns : (net : Network) → net ≡ with_record g.config.net (record_of.SwitchPort (record p { birth = record { 0 = n } })) → (effects : List NetEffect) → effects ≡ port_effect keys (p.name, record { 0 = n }) ∷ []
-        → (change : SimChange TupleSpace) → change.bound ≡ [] → change.names ≡ (unwrap_or (datapath_number keys p.switch) 0, unwrap_or (port_number keys p.name) 0, p.name) ∷ []
-        → IsTurned m g.zones (event_of.Edit (Add (record_of.SwitchPort p) ∷ [])) effects change (changed (port_change net) g)
-    port_turns net put' effects named change bound names =
-        subst (λ x. IsTurned m g.zones (event_of.Edit (Add (record_of.SwitchPort p) ∷ [])) effects change (changed (port_change net) x)) may.ground
-        (subst (λ x. IsTurned m g.zones (event_of.Edit (Add (record_of.SwitchPort p) ∷ [])) effects change (changed (port_change x) (ground_of m g.zones))) (sym (port_net net put'))
-        (subst (λ x. IsTurned m g.zones (event_of.Edit (Add (record_of.SwitchPort p) ∷ [])) effects change x) (sym port_ground)
-        (port_turned m g.zones may.untracked_lists may.consistent may.few p may.allowed keys after.hold port_gives effects named change bound names)))
+  pub edit_turns : (effects : List NetEffect) → effects ≡ key_effects plan.added keys → (change : SimChange TupleSpace) → change.bound ≡ [] → change.names ≡ map (key_name keys) plan.added
+      → IsTurned m g.zones (event_of.Edit ops) effects change (changed (edit_change plan keys) g)
+  edit_turns effects named change bound names =
+      subst (λ x. IsTurned m g.zones (event_of.Edit ops) effects change (changed (edit_change plan keys) x)) may.ground
+      (edit_is_turned m g.zones may.untracked_lists may.consistent may.few ops may.in_grammar plan keys planned_here effects named change bound names)
 
 -- ---- a chassis comes
 
-module _ (g : GroundView) (n : ℕ) (c : Name) (m : State) (may : MayTurn g n (event_of.AddChassis c) m) where
+-- when it does, and why else it doesn't
+module _ (g : GroundView) (n : ℕ) (c : Name) (m : State) (may : MayTurn g n (event_of.AddChassis c) m) (h : GroundView) (is : h ≡ g) where
+  config_same : m.config ≡ h.config
+  config_same = ap (λ (x : GroundView). x.config) (may.ground ∙ sym is)
+
+  pub chassis_may_come : is_chassis h.config c ≡ false → nat_le 64 (length h.config.chassis) ≡ false → refusal m (event_of.AddChassis c) ≡ None
+  chassis_may_come new few = chassis_allowed m c (ap (λ (x : Config). is_chassis x c) config_same ∙ new) (ap (λ (x : Config). nat_le 64 (length x.chassis)) config_same ∙ few)
+
+  pub chassis_is_there : is_chassis h.config c ≡ true → refusal m (event_of.AddChassis c) ≡ Some (why.DuplicateName c)
+  chassis_is_there there = chassis_there m c (ap (λ (x : Config). is_chassis x c) config_same ∙ there)
+
+  pub chassis_too_many : is_chassis h.config c ≡ false → nat_le 64 (length h.config.chassis) ≡ true → refusal m (event_of.AddChassis c) ≡ Some why.LimitChassis
+  chassis_too_many new full = chassis_full m c (ap (λ (x : Config). is_chassis x c) config_same ∙ new) (ap (λ (x : Config). nat_le 64 (length x.chassis)) config_same ∙ full)
+
+module _ (g : GroundView) (n : ℕ) (c : Name) (m : State) (may : MayTurn g n (event_of.AddChassis c) m) (allowed : refusal m (event_of.AddChassis c) ≡ None) where
   abbrev chassis_change : List Name → GroundChange
   chassis_change names = record { records = None; chassis = Some names; keys = None; zones = None }
 
@@ -211,7 +227,7 @@ module _ (g : GroundView) (n : ℕ) (c : Name) (m : State) (may : MayTurn g n (e
   pub chassis_absent : ¬ Among c g.config.chassis
   chassis_absent among =
       let there : Among c m.config.chassis = subst (λ (x : GroundView). Among c x.config.chassis) (sym may.ground) among in
-      false≢true (sym (chassis_new m c may.allowed).0 ∙ among_any (λ d. same_name d c) c m.config.chassis there ((bytes_decides c c).1 refl))
+      false≢true (sym (chassis_new m c allowed).0 ∙ among_any (λ d. same_name d c) c m.config.chassis there ((bytes_decides c c).1 refl))
 
   chassis_names : (names : List Name) → names ≡ insert_key (slice_cmp nat_cmp) g.config.chassis c → names ≡ longer
   chassis_names names is = is ∙ ap (λ (x : GroundView). insert_key (slice_cmp nat_cmp) x.config.chassis c) (sym may.ground)
@@ -223,10 +239,12 @@ module _ (g : GroundView) (n : ℕ) (c : Name) (m : State) (may : MayTurn g n (e
   chassis_is_readied = record {
     fits = record { keys = tt; zones = tt };
     once = names_once m.config.chassis may.consistent.bound.chassis_sorted;
-    valid = may.consistent.valid;
-    keys = may.consistent.keys;
-    touched_alone = λ d among. subst (λ x. ChangeOnly [] (rows_on (ground_of m g.zones) d) (rows_on x d)) (sym chassis_ground)
-        (chassis_units m g.zones may.consistent c (λ there. chassis_absent (subst (λ (x : GroundView). Among c x.config.chassis) may.ground there)) d);
+    tables = record { valid = plain_valid m.config.net may.consistent.valid may.consistent.built; keys = may.consistent.keys };
+    touched_alone = record {
+      once = tt;
+      only = λ d among. subst (λ x. ChangeOnly [] (rows_on (ground_of m g.zones) d) (rows_on x d)) (sym chassis_ground)
+          (chassis_units m g.zones may.consistent c (λ there. chassis_absent (subst (λ (x : GroundView). Among c x.config.chassis) may.ground there)) d);
+    };
   }
 
   pub chassis_readied : (h : GroundView) → h ≡ g → (names : List Name) → names ≡ insert_key (slice_cmp nat_cmp) g.config.chassis c → IsReadied h (chassis_change names) []
@@ -239,25 +257,38 @@ module _ (g : GroundView) (n : ℕ) (c : Name) (m : State) (may : MayTurn g n (e
       subst (λ x. IsTurned m g.zones (event_of.AddChassis c) effects change (changed (chassis_change names) x)) may.ground
       (subst (λ x. IsTurned m g.zones (event_of.AddChassis c) effects change (changed (chassis_change x) (ground_of m g.zones))) (sym (chassis_names names longer'))
       (subst (λ x. IsTurned m g.zones (event_of.AddChassis c) effects change x) (sym chassis_ground)
-      (chassis_turned m g.zones may.consistent may.few effects none change c may.allowed bound called)))
+      (chassis_turned m g.zones may.consistent may.few effects none change c allowed bound called)))
 
 -- ---- a port is bound
 
-module _ (g : GroundView) (n : ℕ) (p c : Name) (m : State) (may : MayTurn g n (event_of.Bind p c) m) where
+-- when it is, and why else it isn't
+module _ (g : GroundView) (n : ℕ) (p c : Name) (m : State) (may : MayTurn g n (event_of.Bind p c) m) (h : GroundView) (is : h ≡ g) where
+  bound_config : m.config ≡ h.config
+  bound_config = ap (λ (x : GroundView). x.config) (may.ground ∙ sym is)
+
+  pub port_may_be_bound : is_virtual_port (at h.config.net.switch_ports p) ≡ true → is_chassis h.config c ≡ true → refusal m (event_of.Bind p c) ≡ None
+  port_may_be_bound port there = bind_allowed m p c (ap (λ (x : Config). is_virtual_port (at x.net.switch_ports p)) bound_config ∙ port) (ap (λ (x : Config). is_chassis x c) bound_config ∙ there)
+
+  pub port_is_absent : is_virtual_port (at h.config.net.switch_ports p) ≡ false → refusal m (event_of.Bind p c) ≡ Some (why.NoSuch p)
+  port_is_absent port = bind_no_port m p c (ap (λ (x : Config). is_virtual_port (at x.net.switch_ports p)) bound_config ∙ port)
+
+  pub chassis_is_absent : is_virtual_port (at h.config.net.switch_ports p) ≡ true → is_chassis h.config c ≡ false → refusal m (event_of.Bind p c) ≡ Some (why.NoSuch c)
+  chassis_is_absent port there = bind_no_chassis m p c (ap (λ (x : Config). is_virtual_port (at x.net.switch_ports p)) bound_config ∙ port) (ap (λ (x : Config). is_chassis x c) bound_config ∙ there)
+
+module _ (g : GroundView) (n : ℕ) (p c : Name) (m : State) (may : MayTurn g n (event_of.Bind p c) m) (allowed : refusal m (event_of.Bind p c) ≡ None) where
   abbrev zone_change : Zoned → GroundChange
   zone_change zones = record { records = None; chassis = None; keys = None; zones = Some zones }
 
   pub binding_can_come : IsHomeChange g.zones.homes (home_change p c)
-  binding_can_come = can_come m.config g.zones may.consistent.bound p c may.consistent.within.ports
+  binding_can_come = can_come m.config g.zones may.consistent.bound p c (plain_within m.config.net may.consistent.valid may.consistent.built).ports
 
   module _ (after : Zoned) (rezoned : IsRezoned g.zones (home_change p c) after) where
     binding_is_readied : IsReadied (ground_of m g.zones) (zone_change after) (units_of (at m.config.net.switch_ports p) p)
     binding_is_readied = record {
       fits = record { keys = tt; zones = record { change = home_change p c; fits = binding_can_come; rezoned = rezoned } };
       once = names_once m.config.chassis may.consistent.bound.chassis_sorted;
-      valid = may.consistent.valid;
-      keys = may.consistent.keys;
-      touched_alone = λ d among. binding_units m g.zones may.consistent p c may.allowed after rezoned d;
+      tables = record { valid = plain_valid m.config.net may.consistent.valid may.consistent.built; keys = may.consistent.keys };
+      touched_alone = record { once = units_once (at m.config.net.switch_ports p) p; only = λ d among. binding_units m g.zones may.consistent p c allowed after rezoned d };
     }
 
     pub binding_readied : (h : GroundView) → h ≡ g → IsReadied h (zone_change after) (units_of (at h.config.net.switch_ports p) p)
@@ -267,4 +298,4 @@ module _ (g : GroundView) (n : ℕ) (p c : Name) (m : State) (may : MayTurn g n 
         → IsTurned m g.zones (event_of.Bind p c) effects change (changed (zone_change after) g)
     binding_turns effects none change bound called =
         subst (λ x. IsTurned m g.zones (event_of.Bind p c) effects change (changed (zone_change after) x)) may.ground
-        (binding_turned m g.zones may.consistent may.few effects none change p c may.allowed after rezoned bound called)
+        (binding_turned m g.zones may.consistent may.few effects none change p c allowed after rezoned bound called)

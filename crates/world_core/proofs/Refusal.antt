@@ -47,7 +47,7 @@ refused_consistent m zones now room =
     let sent = now.on_the_way.few in
     record {
       valid = now.valid;
-      within = now.within;
+      built = now.built;
       keys = now.keys;
       bound = now.bound;
       born = record {

@@ -1,74 +1,85 @@
 -- What holds where an event isn't refused.
-use Rattle.std.specs.Prelude.{◌≡◌, ◌<◌, ℕ, Bool, true, false, List, [], ◌∷◌, length, nat_le, Some, None, Option, is_some, cond, refl}
+use Rattle.std.specs.Prelude.{◌≡◌, ◌<◌, ◌||◌, ℕ, Bool, true, false, List, [], ◌∷◌, length, nat_le, Some, None, Option, IsSome, is_none, is_some, not, refl}
 use Rattle.std.proofs.Common.{sym, subst}
-use Rattle.std.specs.Prelude.{◌||◌, not}
+use Rattle.std.proofs.lemmas.Bool.{leb-false}
 use Rattle.std.specs.List.{list_any}
 use Rattle.ovn_base.specs.lists.Among.{Among}
 use Rattle.ovn_base.proofs.NameLemmas.{same_bytes}
 use Rattle.ovn_base.specs.declared.name.Name.{Name}
 use Rattle.ovn_base.specs.names.ByName.{at}
 use Rattle.ovn_base.specs.names.SameName.{same_name}
-use Rattle.nb_records.specs.Network.{Network}
-use Rattle.nb_records.specs.declared.record.Record.TheVariants as record_of
+use Rattle.nb_records.specs.Switches.{or_else}
 use Rattle.nb_records.specs.declared.switch.SwitchPort.{SwitchPort}
-use Rattle.edit_reader.specs.declared.event.Event.TheVariants as event_of
 use Rattle.chassis_sim.specs.State.{numbered}
+use Rattle.edit_reader.specs.declared.event.Event.TheVariants as event_of
 use Rattle.event_lines.specs.declared.refusal.Refusal.{Refusal}
 use Rattle.event_lines.specs.declared.refusal.Refusal.TheVariants as why
-use Rattle.std.proofs.lemmas.Bool.{leb-false}
-use Rattle.world_core.specs.NewPort.{AreNew}
-use Rattle.world_core.specs.Refusing.{refusal, refusal_of_entry, refusal_of_record, too_many_wait}
-use Rattle.net_model.specs.State.{State}
 use Rattle.net_model.specs.Config.{is_chassis}
-use Rattle.world_core.specs.Unbuilt.{is_unbuilt_port}
-use Rattle.world_core.proofs.FreeAddresses.{built, IsBuiltPort, all_of_stations, macs_once}
+use Rattle.net_model.specs.State.{State}
+use Rattle.world_core.specs.Causes.{cause_if}
+use Rattle.world_core.specs.Frames.{carries_arp}
+use Rattle.world_core.specs.Refusing.{cause_of_entry, frame_fault, is_virtual_port, no_chassis, no_frame, no_port, not_bound, refusal, unbuilt_frame}
 
-both : (a b : Bool) (x y : Refusal) → cond a (cond b None (Some x)) (Some y) ≡ None → b ≡ true
-both true true x y h = refl
-both true false x y h = cc
-both false b x y h = cc
+-- no cause holds where the first doesn't and the rest don't
+pub neither : (one rest : Option Refusal) → or_else one rest ≡ None → (one ≡ None) × (rest ≡ None)
+neither None rest h = (refl, h)
+neither (Some x) rest h = cc
 
-none_first : (a : Bool) (x : Refusal) (rest : Option Refusal) → cond (not a) rest (Some x) ≡ None → a ≡ false
-none_first true x rest h = cc
-none_first false x rest h = refl
+pub no_cause : (b : Bool) (x : Refusal) → cause_if b x ≡ None → b ≡ false
+no_cause false x h = refl
+no_cause true x h = cc
 
--- a packet's port is bound
-pub is_bound : (m : State) (p : Name) → refusal_of_entry m p ≡ None → is_some (at m.config.bindings p) ≡ true
-is_bound m p h = by (is_some (at m.config.net.switch_ports p)) (is_some (at m.config.bindings p)) (too_many_wait m) h
+not_not : (b : Bool) → not b ≡ false → b ≡ true
+not_not true h = refl
+not_not false h = cc
+
+-- ---- packets
+
+pub is_bound : (m : State) (p : Name) (frame : List ℕ) → cause_of_entry m p frame ≡ None → IsSome (at m.config.bindings p)
+is_bound m p frame h =
+    let rest = neither (no_port m p) _ h in
+    let bound = neither (not_bound m p) _ rest.1 in
+    by (at m.config.bindings p) (no_cause (is_none (at m.config.bindings p)) (why.NotBound p) bound.0)
   where
-    by : (a b c : Bool) → cond (not a || b) (cond a (cond c (Some why.TooManyFrames) None) (Some (why.NoSuch p))) (Some why.NotBuilt) ≡ None → b ≡ true
-    by true true c h = refl
-    by true false c h = cc
-    by false b c h = cc
+    by : (o : Option Name) → is_none o ≡ false → IsSome o
+    by (Some c) h = search
+    by None h = cc
+
+-- the frame carries no ARP
+pub no_arp_in : (m : State) (p : Name) (frame : List ℕ) → cause_of_entry m p frame ≡ None → carries_arp frame ≡ false
+no_arp_in m p frame h =
+    let rest = neither (no_port m p) _ h in
+    let bound = neither (not_bound m p) _ rest.1 in
+    let fault = neither (frame_fault frame) _ bound.1 in
+    let built = neither (unbuilt_frame frame) _ fault.1 in
+    no_cause (carries_arp frame) why.NotBuilt built.0
 
 -- a frame that is taken waits
-pub waits_so : (m : State) (n : ℕ) → refusal m (event_of.Deliver n) ≡ None → is_some (numbered m.waiting n) ≡ true
-waits_so m n h = by (is_some (numbered m.waiting n)) h
-  where
-    by : (a : Bool) → cond a None (Some (why.NoFrame n)) ≡ None → a ≡ true
-    by true h = refl
-    by false h = cc
+pub waits_so : (m : State) (n : ℕ) → no_frame m n ≡ None → is_some (numbered m.waiting n) ≡ true
+waits_so m n h = not_not (is_some (numbered m.waiting n)) (no_cause (not (is_some (numbered m.waiting n))) (why.NoFrame n) h)
 
--- so does one that is repeated
-pub repeated_so : (m : State) (n : ℕ) → refusal m (event_of.Repeat n) ≡ None → refusal m (event_of.Deliver n) ≡ None
-repeated_so m n h = by (is_some (numbered m.waiting n)) (too_many_wait m) h
-  where
-    by : (a b : Bool) → cond a (cond b (Some why.TooManyFrames) None) (Some (why.NoFrame n)) ≡ None → cond a None (Some (why.NoFrame n)) ≡ None
-    by true b h = refl
-    by false b h = h
+-- ---- chassis and bindings
 
 -- a chassis that comes is new, and there is room for it
 pub chassis_new : (m : State) (c : Name) → refusal m (event_of.AddChassis c) ≡ None → (is_chassis m.config c ≡ false) × (length m.config.chassis < 64)
-chassis_new m c h = by (is_chassis m.config c) (nat_le 64 (length m.config.chassis)) refl h
-  where
-    by : (a b : Bool) → nat_le 64 (length m.config.chassis) ≡ b → cond a (Some (why.DuplicateName c)) (cond b (Some why.LimitChassis) None) ≡ None → (a ≡ false) × (length m.config.chassis < 64)
-    by true b is h = cc
-    by false true is h = cc
-    by false false is h = (refl, leb-false 64 (length m.config.chassis) is)
+chassis_new m c h =
+    let causes = neither (cause_if (is_chassis m.config c) (why.DuplicateName c)) _ h in
+    (no_cause (is_chassis m.config c) (why.DuplicateName c) causes.0, leb-false 64 (length m.config.chassis) (no_cause (nat_le 64 (length m.config.chassis)) why.LimitChassis causes.1))
 
--- the chassis of a binding is there
+-- the port of a binding is there, and so is its chassis
+pub port_there : (m : State) (p c : Name) → refusal m (event_of.Bind p c) ≡ None → IsSome (at m.config.net.switch_ports p)
+port_there m p c h =
+    let causes = neither (no_port m p) (no_chassis m c) h in
+    by (at m.config.net.switch_ports p) (not_not (is_virtual_port (at m.config.net.switch_ports p)) (no_cause (not (is_virtual_port (at m.config.net.switch_ports p))) (why.NoSuch p) causes.0))
+  where
+    by : (o : Option SwitchPort) → is_virtual_port o ≡ true → IsSome o
+    by (Some port) h = search
+    by None h = cc
+
 pub is_known : (m : State) (p chassis : Name) → refusal m (event_of.Bind p chassis) ≡ None → is_chassis m.config chassis ≡ true
-is_known m p chassis h = both (is_some (at m.config.net.switch_ports p)) (is_chassis m.config chassis) _ _ h
+is_known m p chassis h =
+    let causes = neither (no_port m p) (no_chassis m chassis) h in
+    not_not (is_chassis m.config chassis) (no_cause (not (is_chassis m.config chassis)) (why.NoSuch chassis) causes.1)
 
 pub among_chassis : (names : List Name) (chassis : Name) → list_any (λ c. same_name c chassis) names ≡ true → Among chassis names
 among_chassis [] chassis h = cc
@@ -77,12 +88,3 @@ among_chassis (c ∷ names) chassis h =
       | true ↦ λ same all. subst (λ d. Among chassis (d ∷ names)) (sym (same_bytes c chassis same)) Among.here
       | false ↦ λ other rest. Among.there (among_chassis names chassis rest)
     ] refl h
-
--- an added port is built, and its addresses are new
-pub built_port : (net : Network) (port : SwitchPort) → refusal_of_record net (record_of.SwitchPort port) ≡ None → IsBuiltPort net port
-built_port net port h = built net port (none_first (is_unbuilt_port net port) _ _ h)
-
-pub is_new : (net : Network) (port : SwitchPort) → refusal_of_record net (record_of.SwitchPort port) ≡ None → AreNew net port
-is_new net port h =
-    let is = built_port net port h in
-    record { plain = is.plain; stations = all_of_stations port.addresses is.entries; once = macs_once port.addresses is.entries; apart = is.apart; ips_apart = is.ips_apart }

@@ -1,6 +1,6 @@
 -- A journey of the logical network is one that is taken packet by packet.
 use Rattle.inet_packet.proofs.OnePacket.{one_packet_at_most}
-use Rattle.std.specs.Prelude.{◌≡◌, ◌||◌, ℕ, zero, suc, Bool, true, false, not, cond, List, [], ◌∷◌, ◌++◌, Option, Some, None, is_some, refl}
+use Rattle.std.specs.Prelude.{◌≡◌, ℕ, zero, suc, Bool, true, false, cond, List, [], ◌∷◌, ◌++◌, Option, Some, None, refl}
 use Rattle.std.proofs.Common.{sym, ap, ◌∙◌, subst, inl, inr}
 use Rattle.std.proofs.Math.Dec.{eqb as nat_eq}
 use Rattle.std.proofs.lemmas.Bool.{cases_Bool, false≢true}
@@ -13,9 +13,8 @@ use Rattle.ovn_base.specs.declared.address.Mac.{Mac}
 use Rattle.ovn_base.specs.declared.name.Name.{Name}
 use Rattle.ovn_base.proofs.AmongLaws.{among_cases, among_none}
 use Rattle.chassis_sim.specs.State.{numbered}
-use Rattle.edit_reader.specs.Reads.{IsPlainFrame}
+use Rattle.world_core.specs.Frames.{carries_arp}
 use Rattle.conn_zones.specs.Zoning.{Zoned}
-use Rattle.event_lines.specs.declared.refusal.Refusal.TheVariants as why
 use Rattle.inet_packet.specs.Fields.{ether_type}
 use Rattle.inet_packet.specs.declared.packet.Packet.{Packet}
 use Rattle.nb_records.specs.Network.{Network}
@@ -35,13 +34,14 @@ use Rattle.tunnel_keys.specs.Same.{name_exact}
 use Rattle.sim_laws.specs.Effects.{effects_of}
 use Rattle.physical_flows.specs.Homes.{members}
 use Rattle.sim_laws.specs.PacketSteps.{Arrives, Drains, Enters, EntersAndDrains, most_arrivals}
-use Rattle.world_core.specs.Refusing.{refusal_of_entry, too_many_wait}
+use Rattle.world_core.specs.Refusing.{cause_of_entry}
 use Rattle.physical_flows.specs.Bindings.{AreBound}
 use Rattle.physical_flows.specs.Valid.{IsValid}
 use Rattle.world_core.specs.Step.{Moves, Sends}
 use Rattle.sim_laws.specs.Visit.{Goes, HasTarget, IsTarget, SentFrom, Target, Visit, arrival, group, none, one, sent_to}
 use Rattle.world_core.proofs.DrainSteps.{own_waits}
 use Rattle.physical_flows.proofs.FlowSearch.{some_of}
+use Rattle.world_core.proofs.Refusals.{is_bound}
 use Rattle.world_core.proofs.PlainSteps.{arrives_moves, drains_moves, enters_moves, loses_moves, sends_moves}
 use Rattle.sim_laws.proofs.PlainVisit.{has_from, has_to, plain}
 
@@ -107,14 +107,11 @@ pub record CanEnter (m : State) (p : Name) : Type 0 where
   pub known : Among chassis m.config.chassis
 
 -- where nothing refuses it, it can
-pub can_enter : (m : State) (zones : Zoned) → AreBound m.config zones → (p : Name) → refusal_of_entry m p ≡ None → CanEnter m p
-can_enter m zones bound p allowed = by (at m.config.net.switch_ports p) refl (at m.config.bindings p) refl allowed
-  where
-    by : (o : Option SwitchPort) → at m.config.net.switch_ports p ≡ o → (b : Option Name) → at m.config.bindings p ≡ b
-        → cond (not (is_some o) || is_some b) (cond (is_some o) (cond (too_many_wait m) (Some why.TooManyFrames) None) (Some (why.NoSuch p))) (Some why.NotBuilt) ≡ None → CanEnter m p
-    by (Some port) e (Some chassis) f h = record { port = port; there = e; chassis = chassis; home = f; known = bound.chassis_there p chassis f }
-    by (Some port) e None f h = cc h
-    by None e b f h = cc h
+pub can_enter : (m : State) (zones : Zoned) → AreBound m.config zones → (p : Name) (frame : List ℕ) → cause_of_entry m p frame ≡ None → CanEnter m p
+can_enter m zones bound p frame allowed =
+    let home = some_of (at m.config.bindings p) (is_bound m p frame allowed) in
+    let port = some_of (at m.config.net.switch_ports p) (bound.port_there p home.0 home.1) in
+    record { port = port.0; there = port.1; chassis = home.0; home = home.1; known = bound.chassis_there p home.0 home.1 }
 
 module _ (m : State) (valid : IsValid m.config.net) where
   visit_somewhere : (p : Name) → (c : CanEnter m p) → (packet : Packet) → (ends : List End) × Visit m p packet c.chassis ends
@@ -134,7 +131,7 @@ module _ (m : State) (valid : IsValid m.config.net) where
       let packet : h.packet ≡ k.packet = one_packet_at_most h.packet k.packet h.whole k.whole (h.frame_is ∙ sym k.frame_is) in
       same_moves (asks k.packet) effects others after later (subst (λ x. Moves m (asks x) effects after) packet h.moves) k.moves
 
-  pub enters_back : (p : Name) (frame : List ℕ) (effects : List NetEffect) (after : State) → IsPlainFrame frame → CanEnter m p → Sends m frame (enter_one p) effects after → Enters m p frame effects after
+  pub enters_back : (p : Name) (frame : List ℕ) (effects : List NetEffect) (after : State) → carries_arp frame ≡ false → CanEnter m p → Sends m frame (enter_one p) effects after → Enters m p frame effects after
   enters_back p frame effects after built c h =
       let v = visit_somewhere p c h.packet in
       let own = effects_of m.keys m.next v.0 in
@@ -188,7 +185,7 @@ module _ (m : State) (valid : IsValid m.config.net) where
       let same = same_moves m valid arrive_all effects d.0 after d.1 h (drains_moves m d.0 d.1 valid d.2) in
       subst (λ a. Drains most_arrivals m effects a) same.1 (subst (λ es. Drains most_arrivals m es d.1) same.0 d.2)
 
-  pub sends_back : (p : Name) (frame : List ℕ) (effects : List NetEffect) (after : State) → IsPlainFrame frame → CanEnter m p → Sends m frame (enter_and_arrive p) effects after → EntersAndDrains m p frame effects after
+  pub sends_back : (p : Name) (frame : List ℕ) (effects : List NetEffect) (after : State) → carries_arp frame ≡ false → CanEnter m p → Sends m frame (enter_and_arrive p) effects after → EntersAndDrains m p frame effects after
   sends_back p frame effects after built c h =
       let v = visit_somewhere m valid p c h.packet in
       let own = effects_of m.keys m.next v.0 in

@@ -1,5 +1,5 @@
 -- What a turn of the configuration leaves: names, bindings, keys, and the rest of the state.
-use Rattle.std.specs.Prelude.{◌≡◌, ◌+◌, ℕ, cond, List, [], ◌∷◌, Some, codes, length, true, unwrap_or, refl}
+use Rattle.std.specs.Prelude.{◌≡◌, ℕ, cond, List, [], ◌∷◌, Some, codes, length, true, unwrap_or, refl}
 use Rattle.std.proofs.Common.{arith, sym, ap, subst, ◌∙◌, inl, inr}
 use Rattle.std.proofs.lemmas.Bool.{cases_Bool, false≢true}
 use Rattle.chassis_sim.specs.Settings.{AreSet, set_in_turn}
@@ -8,9 +8,7 @@ use Rattle.chassis_sim.specs.State.{same_pair}
 use Rattle.chassis_sim.specs.declared.out.SimOut.{SimOut}
 use Rattle.edit_reader.specs.declared.event.Event.{Event}
 use Rattle.edit_reader.specs.declared.event.Event.TheVariants as event_of
-use Rattle.nb_records.specs.Editing.{accepted}
-use Rattle.nb_records.specs.Network.{Network}
-use Rattle.net_model.specs.State.{State, event_count, settled_where_none_waits}
+use Rattle.net_model.specs.State.{State, settled_where_none_waits}
 use Rattle.net_model.specs.ListOwners.{lists_for}
 use Rattle.net_model.specs.Transition.{Turn, add_chassis, bind, edit, turned_by}
 use Rattle.net_model.specs.declared.crossing.Crossing.{Crossing}
@@ -18,21 +16,14 @@ use Rattle.ovn_base.specs.names.ByName.{at, put}
 use Rattle.ovn_base.specs.names.SameName.{bytes_decides, same_name}
 use Rattle.ovn_base.specs.declared.name.Name.{Name}
 use Rattle.ovn_base.proofs.ByNameLaws.{put_other, put_there}
-use Rattle.physical_flows.specs.RecordKeys.{HaveKeys}
 use Rattle.sim_laws.specs.Held.{HaveOwnersNames}
 use Rattle.switch_engine.specs.declared.effect.NetEffect.{NetEffect}
-use Rattle.tunnel_keys.proofs.KeyOrder.{none_in_order}
-use Rattle.tunnel_keys.specs.Edits.{GivesKeys, GivesKeysAfter}
 use Rattle.tunnel_keys.specs.Keys.{Keys, settled}
-use Rattle.tunnel_keys.specs.declared.owner.HeldDatapath.{HeldDatapath}
-use Rattle.tunnel_keys.specs.declared.owner.HeldPort.{HeldPort}
-use Rattle.tunnel_keys.specs.declared.owner.KeyOwner.{KeyOwner}
-use Rattle.world_core.specs.Editing.{owners_of}
+use Rattle.world_core.specs.Editing.{next_net}
 use Rattle.world_core.specs.EventPasses.{Passes}
 use Rattle.world_core.specs.Step.{Does}
 use Rattle.world_core.specs.Turning.{is_turn}
 use Rattle.world_core.specs.Untracked.{untracked}
-use Rattle.world_core.proofs.NewKeys.{given_beside}
 use Rattle.world_core.proofs.Turns.{lists_still}
 
 -- names stay where none is given
@@ -55,9 +46,12 @@ bound_then bindings p c q = elim (cases_Bool (same_name p q)) [
 -- ---- keys
 
 -- where no key is retired, nothing comes of giving retired ones up
-pub same_settled : (ws : List (ℕ × Crossing)) (keys : Keys) → keys.retired_datapaths ≡ [] → keys.retired_ports ≡ [] → settled_where_none_waits ws keys ≡ keys
-same_settled [] keys d p = λ i. record keys { retired_datapaths = sym d i; retired_ports = sym p i }
-same_settled (w ∷ ws) keys d p = refl
+pub same_settled : (ws : List (ℕ × Crossing)) (keys : Keys) → settled keys ≡ keys → settled_where_none_waits ws keys ≡ keys
+same_settled [] keys none = none
+same_settled (w ∷ ws) keys none = refl
+
+pub none_settled : (keys : Keys) → keys.retired_datapaths ≡ [] → keys.retired_ports ≡ [] → settled keys ≡ keys
+none_settled keys d p = λ i. record keys { retired_datapaths = sym d i; retired_ports = sym p i }
 
 -- retired keys are given up where nothing waits, and only there
 pub given_up : (ws : List (ℕ × Crossing)) (keys : Keys) → length ws ≡ 0 → settled keys ≡ settled_where_none_waits ws keys
@@ -68,51 +62,45 @@ pub kept_on : (ws : List (ℕ × Crossing)) (keys : Keys) → ¬ (length ws ≡ 
 kept_on [] keys some = absurd (some refl)
 kept_on (w ∷ ws) keys some = refl
 
--- owners that come retire no key
-pub none_retired : (net : Network) (keys : Keys) (added : List KeyOwner) (after : Keys) → HaveKeys net keys → GivesKeys keys added [] after → (after.retired_datapaths ≡ []) × (after.retired_ports ≡ [])
-none_retired net keys added after have gives =
-    let beside : GivesKeysAfter keys added after = given_beside keys added after gives in (
-      none_in_order (λ (h : HeldDatapath). h.owner) keys.retired_datapaths after.retired_datapaths beside.retired_datapaths have.no_retired_datapaths,
-      none_in_order (λ (h : HeldPort). h.owner) keys.retired_ports after.retired_ports beside.retired_ports have.no_retired_ports,
-    )
-
 -- ---- the state
 
--- the configuration and the keys are others, no key is retired, and no connection is tracked
-pub record IsTurnedTo (m mid : State) : Type 0 where
-  pub state : mid ≡ record m { config = mid.config; keys = mid.keys; lists = untracked mid.config }
-  pub no_datapaths : mid.keys.retired_datapaths ≡ []
-  pub no_ports : mid.keys.retired_ports ≡ []
+-- the configuration and the keys are others, and no connection is tracked
+abbrev pub IsTurnedTo : State → State → Type 0
+IsTurnedTo m mid = mid ≡ record m { config = mid.config; keys = mid.keys; lists = untracked mid.config }
 
-turned_to : (m mid : State) (turn : Turn) (keys : Keys) → m.lists ≡ untracked m.config → mid ≡ record (turned_by turn m) { keys = keys } → (keys.retired_datapaths ≡ []) × (keys.retired_ports ≡ []) → IsTurnedTo m mid
-turned_to m mid turn keys lists is none =
+turned_to : (m mid : State) (turn : Turn) (keys : Keys) → m.lists ≡ untracked m.config → mid ≡ record (turned_by turn m) { keys = keys } → IsTurnedTo m mid
+turned_to m mid turn keys lists is =
     let left : lists_for turn.next turn.emptied m.lists ≡ untracked turn.next = ap (λ l. lists_for turn.next turn.emptied l) lists ∙ lists_still m.config turn.next turn.emptied in
-    record {
-      state = subst (λ (w : State). w ≡ record m { config = w.config; keys = w.keys; lists = untracked w.config }) (sym is) (λ i. record m { config = turn.next; keys = keys; lists = left i });
-      no_datapaths = ap (λ (w : State). w.keys.retired_datapaths) is ∙ none.0;
-      no_ports = ap (λ (w : State). w.keys.retired_ports) is ∙ none.1;
-    }
+    subst (λ (w : State). w ≡ record m { config = w.config; keys = w.keys; lists = untracked w.config }) (sym is) (λ i. record m { config = turn.next; keys = keys; lists = left i })
 
 -- that is what turns do
-pub turns_to : (m : State) (event : Event) (effects : List NetEffect) (mid : State) → is_turn event ≡ true → m.lists ≡ untracked m.config → HaveKeys m.config.net m.keys → Does m event effects mid → IsTurnedTo m mid
-turns_to m (event_of.Edit ops) effects mid is lists have does =
-    turned_to m mid (edit m.config (accepted m.config.net ops (event_count m + 1))) does.keys lists does.state (none_retired m.config.net m.keys (owners_of ops (event_count m + 1)) does.keys have does.given)
-turns_to m (event_of.Bind p c) effects mid is lists have does = turned_to m mid (bind m.config p c) m.keys lists does.1 (have.no_retired_datapaths, have.no_retired_ports)
-turns_to m (event_of.AddChassis c) effects mid is lists have does = turned_to m mid (add_chassis m.config c) m.keys lists does.1 (have.no_retired_datapaths, have.no_retired_ports)
-turns_to m (event_of.Inject p frame) effects mid is lists have does = absurd (false≢true is)
-turns_to m (event_of.Deliver n) effects mid is lists have does = absurd (false≢true is)
-turns_to m (event_of.Lose n) effects mid is lists have does = absurd (false≢true is)
-turns_to m (event_of.Repeat n) effects mid is lists have does = absurd (false≢true is)
-turns_to m event_of.Drain effects mid is lists have does = absurd (false≢true is)
-turns_to m (event_of.Packet p frame) effects mid is lists have does = absurd (false≢true is)
-turns_to m (event_of.Unread fault) effects mid is lists have does = absurd (false≢true is)
-turns_to m event_of.NotBuilt effects mid is lists have does = absurd (false≢true is)
+pub turns_to : (m : State) (event : Event) (effects : List NetEffect) (mid : State) → is_turn event ≡ true → m.lists ≡ untracked m.config → Does m event effects mid → IsTurnedTo m mid
+turns_to m (event_of.Edit ops) effects mid is lists does = turned_to m mid (edit m.config (next_net m ops)) does.keys lists does.state
+turns_to m (event_of.Bind p c) effects mid is lists does = turned_to m mid (bind m.config p c) m.keys lists does.1
+turns_to m (event_of.AddChassis c) effects mid is lists does = turned_to m mid (add_chassis m.config c) m.keys lists does.1
+turns_to m (event_of.Unbind p) effects mid is lists does = absurd (false≢true is)
+turns_to m (event_of.RemoveChassis c) effects mid is lists does = absurd (false≢true is)
+turns_to m (event_of.Keys d q) effects mid is lists does = absurd (false≢true is)
+turns_to m (event_of.Health b backend online) effects mid is lists does = absurd (false≢true is)
+turns_to m (event_of.Clock seconds) effects mid is lists does = absurd (false≢true is)
+turns_to m (event_of.Inject p frame) effects mid is lists does = absurd (false≢true is)
+turns_to m (event_of.Deliver n) effects mid is lists does = absurd (false≢true is)
+turns_to m (event_of.Lose n) effects mid is lists does = absurd (false≢true is)
+turns_to m (event_of.Repeat n) effects mid is lists does = absurd (false≢true is)
+turns_to m event_of.Drain effects mid is lists does = absurd (false≢true is)
+turns_to m (event_of.Packet p frame) effects mid is lists does = absurd (false≢true is)
+turns_to m (event_of.Unread fault) effects mid is lists does = absurd (false≢true is)
 
 -- a turn has no packet
 pub no_walks : (s : sim.SimState) (event : Event) (out : SimOut) (new : sim.SimState) → is_turn event ≡ true → out.walks ≡ [] → Passes s event out new
 no_walks s (event_of.Edit ops) out new is none = none
 no_walks s (event_of.Bind p c) out new is none = none
 no_walks s (event_of.AddChassis c) out new is none = none
+no_walks s (event_of.Unbind p) out new is none = absurd (false≢true is)
+no_walks s (event_of.RemoveChassis c) out new is none = absurd (false≢true is)
+no_walks s (event_of.Keys d q) out new is none = absurd (false≢true is)
+no_walks s (event_of.Health b backend online) out new is none = absurd (false≢true is)
+no_walks s (event_of.Clock seconds) out new is none = absurd (false≢true is)
 no_walks s (event_of.Inject p frame) out new is none = absurd (false≢true is)
 no_walks s (event_of.Deliver n) out new is none = absurd (false≢true is)
 no_walks s (event_of.Lose n) out new is none = absurd (false≢true is)
@@ -120,4 +108,3 @@ no_walks s (event_of.Repeat n) out new is none = absurd (false≢true is)
 no_walks s event_of.Drain out new is none = absurd (false≢true is)
 no_walks s (event_of.Packet p frame) out new is none = absurd (false≢true is)
 no_walks s (event_of.Unread fault) out new is none = absurd (false≢true is)
-no_walks s event_of.NotBuilt out new is none = absurd (false≢true is)

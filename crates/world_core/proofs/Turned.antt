@@ -1,6 +1,6 @@
 -- Once a turn is applied, the chassis are those of the state after it.
-use Rattle.std.specs.Prelude.{◌≡◌, ◌⊎◌, ◌↔◌, ◌++◌, ℕ, Bool, cond, List, [], ◌∷◌, map, Option, Some, None, IsSome, true, refl}
-use Rattle.std.specs.List.{AllByRecursion, list_any}
+use Rattle.std.specs.Prelude.{◌≡◌, ◌⊎◌, ◌↔◌, ◌++◌, cond, List, [], ◌∷◌, map, Option, Some, None, IsSome, true, refl}
+use Rattle.std.specs.List.{list_any}
 use Rattle.std.specs.List.Sorted.{IsStrictlySortedBy}
 use Rattle.std.specs.Cmp.Lexicographic.{slice_cmp}
 use Rattle.std.specs.Map.{keys_of}
@@ -25,11 +25,8 @@ use Rattle.ovn_base.specs.names.ByName.{at}
 use Rattle.ovn_base.specs.names.SameName.{bytes_decides, same_name}
 use Rattle.ovn_base.proofs.AmongLaws.{all_among, among_all, among_any, among_cases, among_map, among_none, any_among}
 use Rattle.ovn_base.proofs.ByNameLaws.{below_apart}
-use Rattle.physical_flows.specs.Bindings.{AreBound}
-use Rattle.physical_flows.specs.ChassisFlows.{AreExactly, AreFlowsOf, basis_at}
-use Rattle.physical_flows.specs.RecordKeys.{HaveKeys}
+use Rattle.physical_flows.specs.ChassisFlows.{AreFlowsOf, basis_at}
 use Rattle.physical_flows.specs.Stages.{Basis}
-use Rattle.physical_flows.specs.Tables.{TableFlow}
 use Rattle.physical_flows.specs.UnitFlows.{IsRowChange, same_flow}
 use Rattle.physical_flows.specs.Units.{unit_rows}
 use Rattle.physical_flows.specs.Valid.{IsValid}
@@ -37,6 +34,7 @@ use Rattle.physical_flows.proofs.FlowSearch.{is_some_of, some_of}
 use Rattle.physical_flows.proofs.ProperTables.{flow_proper, proper}
 use Rattle.physical_flows.proofs.TableDeltas.{delta_of_held, replaced_exactly}
 use Rattle.physical_flows.proofs.TableSets.{units_have_all}
+use Rattle.sim_laws.proofs.PlainRecords.{plain_valid}
 use Rattle.sim_laws.specs.Consistent.{IsConsistent}
 use Rattle.sim_laws.specs.Held.{AreHeld, HaveOwnersNames, frame_of_crossing}
 use Rattle.switch_engine.specs.Proper.{IsProper}
@@ -117,6 +115,12 @@ module _ (m mid : State) (zones after : Zoned) (change : SimChange TupleSpace) (
   abbrev basis_then : Name → Basis
   basis_then c = basis_at mid after.numbers c
 
+  now_valid : IsValid m.config.net
+  now_valid = plain_valid m.config.net now.valid now.built
+
+  next_valid : IsValid mid.config.net
+  next_valid = plain_valid mid.config.net next.valid next.built
+
   -- no chassis has two deltas
   pub tables_once : EachOnce (keys_of change.tables)
   tables_once = subst (λ names. EachOnce names) (sym tables.tables) (names_once m.config.chassis now.bound.chassis_sorted)
@@ -133,14 +137,14 @@ module _ (m mid : State) (zones after : Zoned) (change : SimChange TupleSpace) (
     where
       by : (t : Name × Delta Flow) (had : Option (List Flow)) → at_name old.chassis t.0 ≡ had → IsRowChange (unit_rows (basis t.0)) (unit_rows (basis_then t.0)) t.1 → IsDeltaOfAny t.1 had
       by t None is rows = tt
-      by t (Some flows) is rows = delta_of_held (basis t.0) now.valid now.keys (basis_then t.0) next.valid next.keys flows t.1 (held.flows t.0 flows is) rows
+      by t (Some flows) is rows = delta_of_held (basis t.0) now_valid now.keys (basis_then t.0) next_valid next.keys flows t.1 (held.flows t.0 flows is) rows
 
   pub are_proper : IsProperChange flows_of change
   are_proper = record {
     deltas = all_among (λ t. IsProper t.1.added) change.tables (λ t among f added.
         let b = basis_then t.0 in
         let row = ((row_change t among).come f).0 added in
-        flow_proper mid after t.0 next.keys next.bound f ((units_have_all b next.valid next.keys f).0 row.1));
+        flow_proper mid after t.0 next.keys next.bound f ((units_have_all b next_valid next.keys f).0 row.1));
     chassis = all_among (λ a. IsProper (flows_of a.1)) change.added (λ a among. proper mid after (flows_of a.1) a.0 next.keys next.bound (tables.added a among).2);
   }
 
@@ -167,7 +171,7 @@ module _ (m mid : State) (zones after : Zoned) (change : SimChange TupleSpace) (
         let is = made.chassis c in
         let r : AreReplaced (Some has.delta) (Some had.0) is.0 = subst (λ d. AreReplaced d (Some had.0) is.0) has.is (subst (λ o. AreReplaced (at_name change.tables c) o is.0) had.1 is.1) in
         let same : at_name new.chassis c ≡ is.0 = elim (cases c) [ inl comes ↦ absurd (comes_new c among comes) | inr rest ↦ rest.1 ] in
-        (r.0, same ∙ r.1, replaced_exactly (basis c) now.valid now.keys (basis_then c) next.valid next.keys had.0 has.delta (held.flows c had.0 had.1) has.change exact r.0 r.2 r.3)
+        (r.0, same ∙ r.1, replaced_exactly (basis c) now_valid now.keys (basis_then c) next_valid next.keys had.0 has.delta (held.flows c had.0 had.1) has.change exact r.0 r.2 r.3)
 
     -- who wasn't there has no flows before chassis come
     wasn't : (c : Name) → ¬ Among c m.config.chassis → (made.chassis c).0 ≡ None

@@ -1,5 +1,5 @@
 -- What a chassis that comes, and a port that is bound, make of the state and of the simulated chassis.
-use Rattle.std.specs.Prelude.{◌≡◌, ◌<◌, ◌^◌, Bool, cond, List, [], ◌∷◌, map, Option, Some, None, IsSome, is_some, refl}
+use Rattle.std.specs.Prelude.{◌≡◌, ◌<◌, ◌^◌, List, [], ◌∷◌, map, Some, None, refl}
 use Rattle.std.specs.BTreeSet.{insert_key}
 use Rattle.std.specs.Cmp.Lexicographic.{slice_cmp}
 use Rattle.std.specs.Ordering.{nat_cmp}
@@ -11,10 +11,6 @@ use Rattle.chassis_sim.specs.declared.change.SimChange.{SimChange}
 use Rattle.conn_zones.specs.Rezoning.{IsRezoned}
 use Rattle.conn_zones.specs.Zoning.{KnownHomes, Zoned}
 use Rattle.edit_reader.specs.declared.event.Event.TheVariants as event_of
-use Rattle.event_lines.specs.declared.refusal.Refusal.{Refusal}
-use Rattle.event_lines.specs.declared.refusal.Refusal.TheVariants as why
-use Rattle.nb_records.specs.declared.switch.SwitchPort.{SwitchPort}
-use Rattle.net_model.specs.Config.{is_chassis}
 use Rattle.net_model.specs.State.{State, event_count}
 use Rattle.net_model.specs.Transition.{turned_by, add_chassis, bind}
 use Rattle.ovn_base.specs.declared.name.Name.{Name}
@@ -28,26 +24,20 @@ use Rattle.world_core.specs.Turning.{IsTurned}
 use Rattle.world_core.specs.Zones.{home_change}
 use Rattle.world_core.proofs.ConsistentTurns.{chassis_comes, port_bound}
 use Rattle.world_core.proofs.PortHomes.{homes_after}
-use Rattle.world_core.proofs.Refusals.{among_chassis, chassis_new, is_known}
-use Rattle.world_core.proofs.TurnEvents.{bound_then, still_named}
-
--- a port that is bound is there
-pub port_there : (m : State) (p c : Name) → refusal m (event_of.Bind p c) ≡ None → IsSome (at m.config.net.switch_ports p)
-port_there m p c h = by (at m.config.net.switch_ports p) (is_chassis m.config c) h
-  where
-    by : (o : Option SwitchPort) (b : Bool) → cond (is_some o) (cond b None (Some (why.NoSuch c))) (Some (why.NoSuch p)) ≡ None → IsSome o
-    by None b h = cc
-    by (Some x) b h = search
+use Rattle.world_core.proofs.Refusals.{among_chassis, chassis_new, is_known, port_there}
+use Rattle.world_core.proofs.TurnEvents.{bound_then, none_settled, still_named}
 
 module _ (m : State) (zones : Zoned) (old : IsConsistent m zones) (room : event_count m < 2 ^ 42) (effects : List NetEffect) (none : effects ≡ []) (change : SimChange TupleSpace) where
   -- a chassis comes
   pub chassis_turned : (c : Name) → refusal m (event_of.AddChassis c) ≡ None → change.bound ≡ [] → change.names ≡ []
       → IsTurned m zones (event_of.AddChassis c) effects change (record { config = record m.config { chassis = insert_key (slice_cmp nat_cmp) m.config.chassis c }; keys = m.keys; zones = zones })
   chassis_turned c allowed bound names = record {
+    allowed = allowed;
     mid = turned_by (add_chassis m.config c) m;
     does = (none, refl);
     ground = refl;
     consistent = chassis_comes m zones old room c (chassis_new m c allowed).1;
+    unretired = none_settled m.keys old.keys.no_retired_datapaths old.keys.no_retired_ports;
     zones = refl;
     frames = refl;
     waiting = refl;
@@ -64,10 +54,12 @@ module _ (m : State) (zones : Zoned) (old : IsConsistent m zones) (room : event_
       let known = among_chassis m.config.chassis c (is_known m p c allowed) in
       let ports : after.homes.ports ≡ put m.config.bindings p c = ap (λ (h : KnownHomes). h.ports) (homes_after m.config zones old.bound p c after rezoned) in
       record {
+        allowed = allowed;
         mid = turned_by (bind m.config p c) m;
         does = (none, refl);
         ground = λ i. record { config = record m.config { bindings = sym ports i }; keys = m.keys; zones = after };
         consistent = port_bound m zones old room p c after there known rezoned;
+        unretired = none_settled m.keys old.keys.no_retired_datapaths old.keys.no_retired_ports;
         zones = rezoned;
         frames = refl;
         waiting = refl;

@@ -1,28 +1,16 @@
 -- Crossings wait on, and are spelled as before, where no key is lost.
 use Rattle.inet_packet.specs.Frame.{frame_of}
-use Rattle.std.specs.Prelude.{◌≡◌, ◌≢◌, ◌≤◌, ◌<◌, ◌+◌, ◌*◌, ◌^◌, ℕ, Bool, true, List, [], ◌∷◌, Some, map, IsTrue, refl}
+use Rattle.std.specs.Prelude.{◌≡◌, ◌≢◌, ◌≤◌, ◌<◌, ◌+◌, ◌*◌, ◌^◌, ℕ, List, [], ◌∷◌, map, IsTrue, refl}
 use Rattle.std.specs.List.Sorted.{IsStrictlySortedBy}
 use Rattle.std.specs.Map.{keys_of}
-use Rattle.std.specs.Option.{option_map}
 use Rattle.std.specs.Ordering.{nat_cmp}
-use Rattle.std.proofs.Common.{arith, sym, ap, subst, ◌∙◌, inl, inr}
-use Rattle.std.proofs.Math.Dec.{eqb as nat_eq}
-use Rattle.std.proofs.lemmas.Bool.Decides.{Decides-eqb}
+use Rattle.std.proofs.Common.{arith, sym, ap, subst, ◌∙◌}
 use Rattle.geneve_frames.specs.Meaning.{canon}
 use Rattle.ovn_base.specs.lists.Among.{Among, here, there}
-use Rattle.ovn_base.specs.names.ByName.{at, put}
-use Rattle.ovn_base.specs.declared.name.Name.{Name}
-use Rattle.ovn_base.proofs.AmongLaws.{among_none}
-use Rattle.ovn_base.proofs.ByNameLaws.{one_or_two, put_other, put_there}
-use Rattle.nb_records.specs.declared.switch.Switch.{Switch}
-use Rattle.tunnel_keys.specs.Edits.{GivesKeys}
-use Rattle.tunnel_keys.specs.Keys.{Keys, IsKeys, held_datapaths, held_ports}
+use Rattle.tunnel_keys.specs.Keys.{IsKeys, held_datapaths, held_ports}
 use Rattle.tunnel_keys.specs.declared.owner.HeldDatapath.{HeldDatapath}
 use Rattle.tunnel_keys.specs.declared.owner.HeldPort.{HeldPort}
 use Rattle.tunnel_keys.specs.declared.owner.Identity.{Identity}
-use Rattle.tunnel_keys.specs.declared.owner.KeyOwner.{KeyOwner}
-use Rattle.tunnel_keys.specs.declared.owner.KeyOwner.TheVariants.{Datapath}
-use Rattle.tunnel_keys.proofs.KeyStays.{datapaths_stay, ports_stay}
 use Rattle.net_model.specs.declared.crossing.Crossing.{Crossing}
 use Rattle.net_model.specs.declared.crossing.Aim.{Aim}
 use Rattle.net_model.specs.declared.crossing.Aim.TheVariants.{ToPort, ToGroup}
@@ -30,7 +18,7 @@ use Rattle.sim_laws.specs.Effects.{datapath_key, port_key, aim_key, spelled}
 use Rattle.sim_laws.specs.Held.{frame_of_crossing}
 use Rattle.sim_laws.specs.Sound.{AreBorn, AreOnTheWay, HasAimKey, IsAimOnLive, IsOnLive, MayWait}
 use Rattle.net_model.specs.State.{State, event_count}
-use Rattle.sim_laws.specs.Visit.{has_birth, is_switch}
+use Rattle.sim_laws.specs.Visit.{is_switch}
 use Rattle.sim_laws.proofs.KeyLookups.{datapath_key_is, port_key_is}
 
 -- no key is lost, and a switch that is there then, and isn't younger than the last event before, was there before
@@ -114,44 +102,3 @@ same_kept m n net keys hold = record {
   ports = λ h among. subst (λ k. Among h (held_ports k)) (sym keys) among;
   switches = λ id early is. subst (λ w. IsTrue (is_switch w id)) net is;
 }
-
--- ---- where one comes
-
-module _ (m : State) (added : List KeyOwner) (after : Keys) (hold : IsKeys m.keys) (also : IsKeys after) (gives : GivesKeys m.keys added [] after) where
-  held_port_stays : (h : HeldPort) → Among h (held_ports m.keys) → Among h (held_ports after)
-  held_port_stays h among = elim (ports_stay m.keys added [] after hold gives also h among) [
-    | inl stays ↦ stays
-    | inr moved ↦ absurd (among_none (Datapath h.datapath.name h.datapath.birth) moved.gone)
-  ]
-
-  -- with the switches that were there
-  pub port_kept : (n : State) → n.keys ≡ after → n.config.net.switches ≡ m.config.net.switches → AreKept m n
-  port_kept n keys net = record {
-    hold = subst (λ k. IsKeys k) (sym keys) also;
-    datapaths = λ h among. subst (λ k. Among h (held_datapaths k)) (sym keys) (datapaths_stay m.keys added [] after hold gives h among);
-    ports = λ h among. subst (λ k. Among h (held_ports k)) (sym keys) (held_port_stays h among);
-    switches = λ id early is. subst (λ w. IsTrue (has_birth (option_map (λ (s : Switch). s.birth) (at w id.name)) id.birth)) net is;
-  }
-
-  module _ (s : Switch) (late : s.birth.0 ≡ event_count m + 1) where
-    abbrev born_at : List (Name × Switch) → Identity → Bool
-    born_at switches id = has_birth (option_map (λ (t : Switch). t.birth) (at switches id.name)) id.birth
-
-    still_there : (id : Identity) → id.birth.0 ≤ event_count m → born_at (put m.config.net.switches s.name s) id ≡ true → born_at m.config.net.switches id ≡ true
-    still_there id early is = elim (one_or_two id.name s.name) [
-      | inl same ↦
-          let found : at (put m.config.net.switches s.name s) id.name ≡ Some s = ap (λ n. at (put m.config.net.switches s.name s) n) same ∙ put_there m.config.net.switches s.name s in
-          let equal : nat_eq s.birth.0 id.birth.0 ≡ true = sym (ap (λ o. has_birth (option_map (λ (t : Switch). t.birth) o) id.birth) found) ∙ is in
-          let number : s.birth.0 ≡ id.birth.0 = (Decides-eqb s.birth.0 id.birth.0).0 equal in
-          absurd (omega (arith, early, late, number))
-      | inr other ↦ sym (ap (λ o. has_birth (option_map (λ (t : Switch). t.birth) o) id.birth) (put_other m.config.net.switches s.name s id.name other)) ∙ is
-    ]
-
-    -- with one switch more
-    pub switch_kept : (n : State) → n.keys ≡ after → n.config.net.switches ≡ put m.config.net.switches s.name s → AreKept m n
-    switch_kept n keys net = record {
-      hold = subst (λ k. IsKeys k) (sym keys) also;
-      datapaths = λ h among. subst (λ k. Among h (held_datapaths k)) (sym keys) (datapaths_stay m.keys added [] after hold gives h among);
-      ports = λ h among. subst (λ k. Among h (held_ports k)) (sym keys) (held_port_stays h among);
-      switches = λ id early is. still_there id early (subst (λ w. IsTrue (born_at w id)) net is);
-    }

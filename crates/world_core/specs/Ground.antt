@@ -1,5 +1,6 @@
 -- What the tables of the chassis follow from, and how an event changes it.
 use Rattle.std.specs.Prelude.{Option, None, Some, unwrap_or}
+use Rattle.std.specs.Option.{option_map}
 use Rattle.ovn_base.specs.declared.name.Name.{Name}
 use Rattle.conn_zones.specs.Rezoning.{IsZonePatchFor}
 use Rattle.conn_zones.specs.Zoning.{Zoned}
@@ -27,7 +28,7 @@ ground_of m zones = record { config = m.config; keys = m.keys; zones = zones }
 -- the ground after a change: what isn't changed stays
 abbrev pub changed : GroundChange → GroundView → GroundView
 changed c g = record {
-  config = record { net = unwrap_or c.records g.config.net; chassis = unwrap_or c.chassis g.config.chassis; bindings = (unwrap_or c.zones g.zones).homes.ports };
+  config = record { net = unwrap_or (option_map (λ plan. plan.after) c.records) g.config.net; chassis = unwrap_or c.chassis g.config.chassis; bindings = (unwrap_or c.zones g.zones).homes.ports };
   keys = unwrap_or c.keys g.keys;
   zones = unwrap_or c.zones g.zones;
 }

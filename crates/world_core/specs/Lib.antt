@@ -1,11 +1,15 @@
 -- Definitions that contracts cite.
-pub mod Admitted
+pub mod Built
 pub mod Editing
 pub mod EventPasses
 pub mod Ground
 pub mod Holding
 pub mod Inside
-pub mod NewPort
+pub mod Causes
+pub mod FrameReading
+pub mod Frames
+pub mod KeyCauses
+pub mod KeyLines
 pub mod Outcome
 pub mod Packets
 pub mod Picks
@@ -13,8 +17,8 @@ pub mod Refusing
 pub mod Setup
 pub mod Step
 pub mod StepParts
+pub mod Touched
 pub mod Turning
-pub mod Unbuilt
 pub mod Untracked
 pub mod WorldView
 pub mod Zones

@@ -2,6 +2,7 @@
 use Rattle.std.specs.Prelude.{◌≡◌, ◌++◌, ◌+◌, ℕ, Bool, true, false, List, [], length, None, Some, Ok, Err, Result}
 use Rattle.std.specs.List.{sum_by}
 use Rattle.edit_reader.specs.declared.event.Event.{Event}
+use Rattle.edit_reader.specs.declared.event.Event.TheVariants.{Edit, Bind, Unbind, AddChassis, RemoveChassis, Keys, Health, Clock, Inject, Deliver, Lose, Repeat, Drain, Packet, Unread}
 use Rattle.event_lines.specs.Lines.{accepted_lines, refused_line}
 use Rattle.event_lines.specs.declared.refusal.Refusal.{Refusal}
 use Rattle.event_lines.specs.declared.refusal.StepFault.{StepFault}
@@ -13,7 +14,6 @@ use Rattle.world_core.specs.Refusing.{refusal}
 use Rattle.world_core.specs.WorldView.{WorldView, IsSound}
 use Rattle.net_model.specs.State.{event_count}
 use Rattle.world_core.specs.Step as net
-use Rattle.world_core.specs.Turning.{is_turn}
 use Rattle.world_core.specs.Zones.{Rezones}
 
 -- how many flows were matched in all
@@ -35,14 +35,32 @@ pub record IsRefused (old : WorldView) (event : Event) (why : Refusal) (before a
   pub kept : new ≡ record old { state = record old.state { refused = old.state.refused + 1 }; walks = [] }
   pub text : after ≡ before ++ refused_line (event_count old.state + 1) why
 
--- what want of memory leaves: in an edit, a binding or a chassis all stays; in any other event the world isn't sound, and the text
--- keeps what it held
+-- the event moves packets on chassis
+abbrev pub moves_packets : Event → Bool
+moves_packets (Edit ops) = false
+moves_packets (Bind port chassis) = false
+moves_packets (Unbind port) = false
+moves_packets (AddChassis chassis) = false
+moves_packets (RemoveChassis chassis) = false
+moves_packets (Keys datapaths ports) = false
+moves_packets (Health balancer backend online) = false
+moves_packets (Clock seconds) = false
+moves_packets (Inject port frame) = true
+moves_packets (Deliver n) = true
+moves_packets (Lose n) = false
+moves_packets (Repeat n) = true
+moves_packets Drain = true
+moves_packets (Packet port frame) = true
+moves_packets (Unread fault) = false
+
+-- what want of memory leaves: where packets were moved the world isn't sound, and the text keeps what it held; in any other event
+-- all stays
 abbrev pub Wants : Bool → WorldView → List ℕ → List ℕ → WorldView → Type 0
-Wants true old before after new = (new ≡ old) × (after ≡ before)
-Wants false old before after new = (¬ IsSound new) × ((more : List ℕ) × (after ≡ before ++ more))
+Wants true old before after new = (¬ IsSound new) × ((more : List ℕ) × (after ≡ before ++ more))
+Wants false old before after new = (new ≡ old) × (after ≡ before)
 
 -- what a step leaves
 abbrev pub Outcome : Result (Unit {0}) StepFault → WorldView → Event → List ℕ → List ℕ → WorldView → Type 0
 Outcome (Ok done) old event before after new = IsAccepted old event before after new × IsSound new
 Outcome (Err (Refused why)) old event before after new = IsRefused old event why before after new × IsSound new
-Outcome (Err Memory) old event before after new = Wants (is_turn event) old before after new
+Outcome (Err Memory) old event before after new = Wants (moves_packets event) old before after new

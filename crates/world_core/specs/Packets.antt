@@ -1,5 +1,8 @@
 -- What packets that go through the chassis of a world leave.
+use Rattle.inet_packet.specs.Frame.{frame_of}
 use Rattle.inet_packet.specs.Reading.{IsBadIp4}
+use Rattle.inet_packet.specs.Whole.{IsWhole}
+use Rattle.inet_packet.specs.declared.packet.Packet as inet
 use Rattle.std.specs.Prelude.{◌≡◌, ◌++◌, ℕ, Bool, List, [], ◌∷◌, cond, map, Option, Some, None, ◌≤◌, length}
 use Rattle.std.proofs.Math.Dec.{eqb as nat_eq}
 use Rattle.std.specs.List.Sorted.{IsStrictlySortedBy}
@@ -34,6 +37,11 @@ pub record IsFaultless (frame : List ℕ) : Type 0 where
   pub long : MIN_FRAME ≤ length frame
   pub short : length frame ≤ MAX_FRAME
   pub good : ¬ IsBadIp4 frame
+
+-- the whole packet of a frame
+pub record IsPacketOf (packet : inet.Packet) (frame : List ℕ) : Type 0 where
+  pub whole : IsWhole packet
+  pub frame_is : frame_of packet ≡ frame
 
 -- how many frames an event may send, beside those for which its number of events leaves room
 abbrev pub most_sent : ℕ

@@ -1,124 +1,107 @@
 -- When an event is refused, and why: it isn't built, or else the first cause that holds.
-use Rattle.std.specs.Prelude.{◌||◌, not, Bool, true, false, List, [], ◌∷◌, Some, None, Option, if◌then◌else◌, is_some, nat_le, length}
+use Rattle.std.specs.Prelude.{◌+◌, Bool, true, false, not, ℕ, List, Option, Some, None, if◌then◌else◌, is_none, is_some, length, nat_le, nat_lt, option_map}
 use Rattle.ovn_base.specs.declared.name.Name.{Name}
 use Rattle.ovn_base.specs.names.ByName.{at}
-use Rattle.ovn_base.specs.declared.limits.TheConstants.{MAX_CHASSIS, MAX_DATAPATHS, MAX_WAITING}
-use Rattle.nb_records.specs.Network.{Network}
+use Rattle.ovn_base.specs.declared.limits.TheConstants.{MAX_CHASSIS, MAX_WAITING}
+use Rattle.nb_records.specs.Editing.{lists_backend}
+use Rattle.nb_records.specs.Switches.{is_virtual, or_else}
 use Rattle.nb_records.specs.declared.change.Op.{Op}
-use Rattle.nb_records.specs.declared.change.Op.TheVariants.{Add, Set, Remove, Health}
-use Rattle.nb_records.specs.declared.record.Record.{Record}
-use Rattle.nb_records.specs.declared.record.Record.TheVariants as record_of
+use Rattle.nb_records.specs.declared.switch.SwitchPort.{SwitchPort}
+use Rattle.nb_edits.specs.OpFaults.{fault_of}
 use Rattle.edit_reader.specs.declared.event.Event.{Event}
-use Rattle.edit_reader.specs.declared.event.Event.TheVariants.{Edit, Bind, AddChassis, Inject, Deliver, Lose, Repeat, Drain, Packet, Unread, NotBuilt}
+use Rattle.edit_reader.specs.declared.event.Event.TheVariants.{Edit, Bind, Unbind, AddChassis, RemoveChassis, Keys, Health, Clock, Inject, Deliver, Lose, Repeat, Drain, Packet, Unread}
 use Rattle.event_lines.specs.declared.refusal.Refusal.{Refusal}
 use Rattle.event_lines.specs.declared.refusal.Refusal.TheVariants as why
 use Rattle.chassis_sim.specs.State.{numbered}
-use Rattle.net_model.specs.State.{State}
+use Rattle.net_model.specs.State.{State, event_count}
 use Rattle.net_model.specs.Config.{is_chassis}
-use Rattle.world_core.specs.Unbuilt.{is_unbuilt_port}
+use Rattle.world_core.specs.Built.{is_built_edit}
+use Rattle.world_core.specs.Causes.{cause_if}
+use Rattle.world_core.specs.Editing.{next_net}
+use Rattle.world_core.specs.Frames.{is_too_short, is_too_big, is_bad_ip4, carries_arp}
+use Rattle.world_core.specs.KeyCauses.{KeyLack, datapath_keys, port_keys, key_lack}
 
--- ---- what is built: today's part of the events, kind by kind
+-- ---- what is built
 
-abbrev pub is_built_record : Network → Record → Bool
-is_built_record net (record_of.Switch switch) = not (is_some (at net.switches switch.name) || nat_le MAX_DATAPATHS (length net.switches))
-is_built_record net (record_of.Router router) = false
-is_built_record net (record_of.RouterPort port) = false
-is_built_record net (record_of.SwitchPort port) = not (is_unbuilt_port net port)
-is_built_record net (record_of.AddressSet set) = false
-is_built_record net (record_of.PortGroup group) = false
-is_built_record net (record_of.Acl rule) = false
-is_built_record net (record_of.Route route) = false
-is_built_record net (record_of.Nat row) = false
-is_built_record net (record_of.LoadBalancer balancer) = false
-is_built_record net (record_of.StaticMac row) = false
+abbrev pub is_built : Event → Bool
+is_built (Edit ops) = is_built_edit ops
+is_built (Bind port chassis) = true
+is_built (Unbind port) = false
+is_built (AddChassis chassis) = true
+is_built (RemoveChassis chassis) = false
+is_built (Keys datapaths ports) = false
+is_built (Health balancer backend online) = false
+is_built (Clock seconds) = false
+is_built (Inject port frame) = true
+is_built (Deliver n) = true
+is_built (Lose n) = true
+is_built (Repeat n) = true
+is_built Drain = true
+is_built (Packet port frame) = true
+is_built (Unread fault) = true
 
-abbrev pub is_built_op : Network → Op → Bool
-is_built_op net (Add row) = is_built_record net row
-is_built_op net (Set kind name change) = false
-is_built_op net (Remove kind name) = false
-is_built_op net (Health balancer backend online) = false
+-- ---- causes
 
--- an edit has one operation
-abbrev pub is_built_edit : Network → List Op → Bool
-is_built_edit net [] = false
-is_built_edit net (op ∷ []) = is_built_op net op
-is_built_edit net (op ∷ next ∷ ops) = false
+abbrev pub refusal_of_lack : KeyLack → Refusal
+refusal_of_lack datapath_keys = why.NoDatapathKey
+refusal_of_lack (port_keys datapath) = why.NoPortKey datapath
 
--- a port that is there is bound
-abbrev pub is_built_entry : State → Name → Bool
-is_built_entry m port = not (is_some (at m.config.net.switch_ports port)) || is_some (at m.config.bindings port)
+-- an edit: what is wrong with its operations and with the records that they leave, and then with the keys that it wants
+abbrev pub cause_of_edit : State → List Op → Option Refusal
+cause_of_edit m ops =
+    or_else (option_map (λ fault. why.Schema fault) (fault_of m.config.net ops (event_count m + 1)))
+    (option_map refusal_of_lack (key_lack m.keys m.config.net (next_net m ops)))
 
-abbrev pub is_built : State → Event → Bool
-is_built m (Edit ops) = is_built_edit m.config.net ops
-is_built m (Bind port chassis) = true
-is_built m (AddChassis chassis) = true
-is_built m (Inject port frame) = is_built_entry m port
-is_built m (Deliver n) = true
-is_built m (Lose n) = true
-is_built m (Repeat n) = true
-is_built m Drain = true
-is_built m (Packet port frame) = is_built_entry m port
-is_built m (Unread fault) = true
-is_built m NotBuilt = false
+abbrev pub is_virtual_port : Option SwitchPort → Bool
+is_virtual_port None = false
+is_virtual_port (Some port) = is_virtual port
 
--- ---- why what is built is refused
+abbrev pub no_port : State → Name → Option Refusal
+no_port m port = cause_if (not (is_virtual_port (at m.config.net.switch_ports port))) (why.NoSuch port)
 
-abbrev pub cause_of_record : Network → Record → Option Refusal
-cause_of_record net (record_of.Switch switch) = None
-cause_of_record net (record_of.Router router) = None
-cause_of_record net (record_of.RouterPort port) = None
-cause_of_record net (record_of.SwitchPort port) = if is_some (at net.switches port.switch) then None else Some (why.NoSuch port.switch)
-cause_of_record net (record_of.AddressSet set) = None
-cause_of_record net (record_of.PortGroup group) = None
-cause_of_record net (record_of.Acl rule) = None
-cause_of_record net (record_of.Route route) = None
-cause_of_record net (record_of.Nat row) = None
-cause_of_record net (record_of.LoadBalancer balancer) = None
-cause_of_record net (record_of.StaticMac row) = None
+abbrev pub no_chassis : State → Name → Option Refusal
+no_chassis m chassis = cause_if (not (is_chassis m.config chassis)) (why.NoSuch chassis)
 
-abbrev pub cause_of_op : Network → Op → Option Refusal
-cause_of_op net (Add row) = cause_of_record net row
-cause_of_op net (Set kind name change) = None
-cause_of_op net (Remove kind name) = None
-cause_of_op net (Health balancer backend online) = None
+abbrev pub not_bound : State → Name → Option Refusal
+not_bound m port = cause_if (is_none (at m.config.bindings port)) (why.NotBound port)
 
-abbrev pub cause_of_edit : Network → List Op → Option Refusal
-cause_of_edit net [] = None
-cause_of_edit net (op ∷ ops) = cause_of_op net op
+abbrev pub no_frame : State → ℕ → Option Refusal
+no_frame m n = cause_if (not (is_some (numbered m.waiting n))) (why.NoFrame n)
 
 -- so many frames wait that no event may add to them
-abbrev pub too_many_wait : State → Bool
-too_many_wait m = nat_le MAX_WAITING (length m.waiting)
+abbrev pub too_many_wait : State → Option Refusal
+too_many_wait m = cause_if (nat_le MAX_WAITING (length m.waiting)) why.TooManyFrames
 
--- why a packet that would enter at the port is refused: the port isn't there, or too many frames wait
-abbrev pub cause_of_entry : State → Name → Option Refusal
-cause_of_entry m port = if is_some (at m.config.net.switch_ports port) then (if too_many_wait m then Some why.TooManyFrames else None) else Some (why.NoSuch port)
+-- a frame that is none; and one of ARP, which isn't built
+abbrev pub frame_fault : List ℕ → Option Refusal
+frame_fault frame = or_else (cause_if (is_too_short frame) why.TooShort) (or_else (cause_if (is_too_big frame) why.TooBig) (cause_if (is_bad_ip4 frame) why.BadIp4))
 
--- the first cause that holds: a port comes before a chassis
+abbrev pub unbuilt_frame : List ℕ → Option Refusal
+unbuilt_frame frame = cause_if (carries_arp frame) why.NotBuilt
+
+abbrev pub cause_of_entry : State → Name → List ℕ → Option Refusal
+cause_of_entry m port frame = or_else (no_port m port) (or_else (not_bound m port) (or_else (frame_fault frame) (or_else (unbuilt_frame frame) (too_many_wait m))))
+
+-- the first cause that holds
 abbrev pub cause : State → Event → Option Refusal
-cause m (Edit ops) = cause_of_edit m.config.net ops
-cause m (Bind port chassis) =
-    if is_some (at m.config.net.switch_ports port) then (if is_chassis m.config chassis then None else Some (why.NoSuch chassis)) else Some (why.NoSuch port)
-cause m (AddChassis chassis) = if is_chassis m.config chassis then Some (why.DuplicateName chassis) else (if nat_le MAX_CHASSIS (length m.config.chassis) then Some why.LimitChassis else None)
-cause m (Inject port frame) = cause_of_entry m port
-cause m (Deliver n) = if is_some (numbered m.waiting n) then None else Some (why.NoFrame n)
-cause m (Lose n) = if is_some (numbered m.waiting n) then None else Some (why.NoFrame n)
-cause m (Repeat n) = if is_some (numbered m.waiting n) then (if too_many_wait m then Some why.TooManyFrames else None) else Some (why.NoFrame n)
+cause m (Edit ops) = cause_of_edit m ops
+cause m (Bind port chassis) = or_else (no_port m port) (no_chassis m chassis)
+cause m (Unbind port) = or_else (no_port m port) (not_bound m port)
+cause m (AddChassis chassis) = or_else (cause_if (is_chassis m.config chassis) (why.DuplicateName chassis)) (cause_if (nat_le MAX_CHASSIS (length m.config.chassis)) why.LimitChassis)
+cause m (RemoveChassis chassis) = no_chassis m chassis
+cause m (Keys datapaths ports) = cause_if (nat_lt 0 m.accepted) why.KeysFixed
+cause m (Health balancer backend online) =
+    or_else (cause_if (is_none (at m.config.net.load_balancers balancer)) (why.NoSuch balancer)) (cause_if (not (lists_backend backend (at m.config.net.load_balancers balancer))) (why.NoSuchBackend backend))
+cause m (Clock seconds) = None
+cause m (Inject port frame) = cause_of_entry m port frame
+cause m (Deliver n) = no_frame m n
+cause m (Lose n) = no_frame m n
+cause m (Repeat n) = or_else (no_frame m n) (too_many_wait m)
 cause m Drain = None
-cause m (Packet port frame) = cause_of_entry m port
+cause m (Packet port frame) = cause_of_entry m port frame
 cause m (Unread fault) = Some (why.Read fault)
-cause m NotBuilt = None
 
 -- ---- why an event is refused, if it is
 
-abbrev pub refusal_of_record : Network → Record → Option Refusal
-refusal_of_record net row = if is_built_record net row then cause_of_record net row else Some why.NotBuilt
-
-abbrev pub refusal_of_edit : Network → List Op → Option Refusal
-refusal_of_edit net ops = if is_built_edit net ops then cause_of_edit net ops else Some why.NotBuilt
-
-abbrev pub refusal_of_entry : State → Name → Option Refusal
-refusal_of_entry m port = if is_built_entry m port then cause_of_entry m port else Some why.NotBuilt
-
 abbrev pub refusal : State → Event → Option Refusal
-refusal m event = if is_built m event then cause m event else Some why.NotBuilt
+refusal m event = if is_built event then cause m event else Some why.NotBuilt

@@ -17,7 +17,9 @@ use Rattle.nb_records.specs.declared.switch.SwitchPort.{SwitchPort}
 use Rattle.physical_flows.specs.ChassisFlows.{AreExactly}
 use Rattle.physical_flows.specs.Tables.{TableFlow}
 use Rattle.physical_flows.specs.UnitFlows.{UnitStore, HaveRows, IsRowChange, IsTablePatch, rows_held, same_flow, unit_order}
-use Rattle.physical_flows.specs.Units.{unit_rows}
+use Rattle.physical_flows.specs.RecordKeys.{HaveKeys}
+use Rattle.physical_flows.specs.Units.{ChangeOnly, unit_rows}
+use Rattle.physical_flows.specs.Valid.{IsValid}
 use Rattle.physical_flows.specs.declared.unit.FlowUnit.{FlowUnit}
 use Rattle.physical_flows.specs.declared.unit.FlowUnit.TheVariants as unit
 use Rattle.tuple_space.specs.Bunches.{flows_in}
@@ -110,6 +112,16 @@ pub record IsTurnOfTables (before after : GroundView) (change : SimChange TupleS
 abbrev pub ComesOver : List Name → Option Name → List Name → Type 0
 ComesOver before None after = after ≡ before
 ComesOver before (Some c) after = (¬ Among c before) × (after ≡ insert_key (slice_cmp nat_cmp) before c)
+
+-- tables of chassis follow from the ground
+pub record HasTables (g : GroundView) : Type 0 where
+  pub valid : IsValid g.config.net
+  pub keys : HaveKeys g.config.net g.keys
+
+-- on each chassis that was there, only these units' rows change; each stands once
+pub record AreTouched (before after : GroundView) (units : List FlowUnit) : Type 0 where
+  pub once : EachOnce units
+  pub only : (c : Name) → Among c before.config.chassis → ChangeOnly units (rows_on before c) (rows_on after c)
 
 -- the units whose rows follow from where a port is bound: its switch and itself
 abbrev pub units_of : Option SwitchPort → Name → List FlowUnit

@@ -1,5 +1,5 @@
 -- What the parts of a step need and leave.
-use Rattle.std.specs.Prelude.{◌≡◌, ℕ, List, [], true, false, Ok, Err, Result}
+use Rattle.std.specs.Prelude.{◌≡◌, ℕ, List, [], true, false, None, Some, Ok, Err, Result}
 use Rattle.chassis_sim.specs.State.{nothing_held}
 use Rattle.edit_reader.specs.declared.event.Event.{Event}
 use Rattle.event_lines.specs.Text.{StartsWith}
@@ -13,7 +13,9 @@ use Rattle.world_core.specs.EventPasses.{Passes}
 use Rattle.world_core.specs.WorldView.{WorldView}
 use Rattle.sim_laws.specs.Held.{AreHeld}
 use Rattle.net_model.specs.State.{empty}
+use Rattle.world_core.specs.Refusing.{refusal}
 use Rattle.world_core.specs.Step as net
+use Rattle.world_core.specs.declared.world.Done.{Done}
 use Rattle.world_core.specs.Zones.{no_zones, Rezones}
 
 -- no record, no chassis, no event
@@ -33,6 +35,12 @@ pub record IsDone (old : WorldView) (event : Event) (effects : List NetEffect) (
   pub counts : count ≡ matched walks
   pub zones : Rezones event old.zones new.zones
   pub now : IsTaken new
+
+-- what an event of packets does or why it is refused, before it is told; refused it does nothing
+abbrev pub IsTried : Result Done StepFault → WorldView → Event → WorldView → Type 0
+IsTried (Ok done) old event new = (refusal old.state event ≡ None) × IsDone old event done.effects done.walks done.matched new
+IsTried (Err (Refused why)) old event new = (refusal old.state event ≡ Some why) × (new ≡ old)
+IsTried (Err Memory) old event new = Unit {0}
 
 -- what a taken event leaves, before the world is marked as whole again
 abbrev pub Leaves : Result (Unit {0}) StepFault → WorldView → Event → List ℕ → List ℕ → WorldView → Type 0

@@ -1,5 +1,5 @@
 -- What is prepared for an event that is a turn of the configuration: an edit, a binding or a chassis.
-use Rattle.std.specs.Prelude.{◌≡◌, ◌+◌, ◌<◌, ◌^◌, ℕ, Bool, true, false, List, None, map}
+use Rattle.std.specs.Prelude.{◌≡◌, ◌+◌, ◌<◌, ◌^◌, ℕ, Bool, true, false, List, [], Option, None, Some, map}
 use Rattle.ovn_base.specs.declared.name.Name.{Name}
 use Rattle.ovn_base.specs.names.ByName.{at}
 use Rattle.ovn_base.specs.names.SameName.{same_name}
@@ -8,13 +8,31 @@ use Rattle.chassis_sim.specs.Settings.{AreSet, set_in_turn}
 use Rattle.chassis_sim.specs.State.{SimState, same_pair}
 use Rattle.chassis_sim.specs.declared.change.SimChange.{SimChange}
 use Rattle.conn_zones.specs.Zoning.{Zoned}
+use Rattle.edit_reader.specs.Fitting.{IsEventInGrammar}
 use Rattle.edit_reader.specs.declared.event.Event.{Event}
-use Rattle.edit_reader.specs.declared.event.Event.TheVariants.{Edit, Bind, AddChassis, Inject, Deliver, Lose, Repeat, Drain, Packet, Unread, NotBuilt}
+use Rattle.edit_reader.specs.declared.event.Event.TheVariants.{Edit, Bind, Unbind, AddChassis, RemoveChassis, Keys, Health, Clock, Inject, Deliver, Lose, Repeat, Drain, Packet, Unread}
+use Rattle.event_lines.specs.declared.refusal.Refusal.{Refusal}
+use Rattle.event_lines.specs.declared.refusal.StepFault.{StepFault}
+use Rattle.event_lines.specs.declared.refusal.StepFault.TheVariants.{Refused, Memory}
 use Rattle.net_model.specs.State.{State, event_count, finished}
 use Rattle.sim_laws.specs.Consistent.{IsConsistent}
 use Rattle.sim_laws.specs.Held.{HaveOwnersNames, frame_of_crossing}
 use Rattle.switch_engine.specs.declared.effect.NetEffect.{NetEffect}
 use Rattle.tuple_space.specs.declared.space.TupleSpace.{TupleSpace}
+use Rattle.nb_records.specs.Editing.{accepted}
+use Rattle.nb_records.specs.declared.change.Op.{Op}
+use Rattle.nb_edits.specs.OpFaults.{fault_of}
+use Rattle.nb_edits.specs.Plans.{StandsFor}
+use Rattle.nb_edits.specs.declared.plan.EditPlan.{EditPlan}
+use Rattle.event_lines.specs.declared.refusal.Refusal.TheVariants as why
+use Rattle.tunnel_keys.specs.Causes.{HasKeys, IsCause}
+use Rattle.tunnel_keys.specs.Edits.{IsAfter}
+use Rattle.tunnel_keys.specs.Keys as held
+use Rattle.tunnel_keys.specs.declared.fault.KeyFault.{KeyFault}
+use Rattle.tunnel_keys.specs.declared.fault.KeyFault.TheVariants as key
+use Rattle.tunnel_keys.specs.declared.fault.KeyFault.TheVariants.{NoDatapathKey, NoPortKey}
+use Rattle.tunnel_keys.specs.declared.owner.KeyOwner.{KeyOwner}
+use Rattle.world_core.specs.Built.{is_built_edit}
 use Rattle.world_core.specs.Ground.{GroundView, changed, ground_of}
 use Rattle.world_core.specs.Refusing.{refusal}
 use Rattle.world_core.specs.Setup.{SetupView, IsSetupPatch, IsTurnOfTables}
@@ -23,11 +41,16 @@ use Rattle.world_core.specs.Untracked.{untracked}
 use Rattle.world_core.specs.Zones.{Rezones}
 use Rattle.world_core.specs.declared.setup.Turn.{Turn}
 
--- the event is a turn of the configuration
+-- the event is a turn of the configuration that is built
 abbrev pub is_turn : Event → Bool
 is_turn (Edit ops) = true
 is_turn (Bind port chassis) = true
+is_turn (Unbind port) = false
 is_turn (AddChassis chassis) = true
+is_turn (RemoveChassis chassis) = false
+is_turn (Keys datapaths ports) = false
+is_turn (Health balancer backend online) = false
+is_turn (Clock seconds) = false
 is_turn (Inject port frame) = false
 is_turn (Deliver n) = false
 is_turn (Lose n) = false
@@ -35,7 +58,6 @@ is_turn (Repeat n) = false
 is_turn Drain = false
 is_turn (Packet port frame) = false
 is_turn (Unread fault) = false
-is_turn NotBuilt = false
 
 -- the event may turn the state, whose ground this is
 pub record MayTurn (g : GroundView) (n : ℕ) (event : Event) (m : State) : Type 0 where
@@ -44,14 +66,16 @@ pub record MayTurn (g : GroundView) (n : ℕ) (event : Event) (m : State) : Type
   pub untracked_lists : m.lists ≡ untracked m.config
   pub consistent : IsConsistent m g.zones
   pub few : event_count m < 2 ^ 42
-  pub allowed : refusal m event ≡ None
+  pub in_grammar : IsEventInGrammar event
 
 -- the event turns the state: what it does to the network, with the ground after it, and what the simulated chassis are told
 pub record IsTurned (m : State) (homes : Zoned) (event : Event) (effects : List NetEffect) (change : SimChange TupleSpace) (after : GroundView) : Type 0 where
+  pub allowed : refusal m event ≡ None
   pub mid : State
   pub does : Does m event effects mid
   pub ground : ground_of mid after.zones ≡ after
   pub consistent : IsConsistent (finished mid) after.zones
+  pub unretired : held.settled mid.keys ≡ mid.keys
   pub zones : Rezones event homes after.zones
   -- the frames that wait are spelled as before
   pub frames : map (frame_of_crossing mid.keys) m.waiting ≡ map (frame_of_crossing m.keys) m.waiting
@@ -60,8 +84,41 @@ pub record IsTurned (m : State) (homes : Zoned) (event : Event) (effects : List 
   pub bindings : (q : Name) → set_in_turn same_name change.bound q (at m.config.bindings q) ≡ at mid.config.bindings q
   pub names : (old new : SimState) → HaveOwnersNames m.keys old → AreSet same_pair (map given_name change.names) old.names new.names → HaveOwnersNames mid.keys new
 
+-- the records and the keys of an edit are planned: nothing is wrong with it, and there are keys for who comes
+pub record IsPlannedEdit (g : GroundView) (n : ℕ) (ops : List Op) (plan : EditPlan) (keys : held.Keys) : Type 0 where
+  pub built : is_built_edit ops ≡ true
+  pub faultless : fault_of g.config.net ops n ≡ None
+  pub stands : StandsFor g.config.net (accepted g.config.net ops n) plan
+  pub after : IsAfter g.keys plan.added plan.removed keys
+  pub enough : HasKeys g.keys plan.added plan.removed
+
+-- nobody is bound or named yet, and nothing is told
+pub record IsBare (turn : Turn) : Type 0 where
+  pub bound : turn.sim.bound ≡ []
+  pub names : turn.sim.names ≡ []
+  pub effects : turn.effects ≡ []
+
 -- the turn was prepared for this setup, and does what the event asks for
 pub record IsTurn (before : GroundView) (s : SetupView) (n : ℕ) (event : Event) (turn : Turn) : Type 0 where
   pub patch : IsSetupPatch s turn.patch
   pub tables : IsTurnOfTables before (changed turn.patch.change before) turn.sim
   pub turned : (m : State) → MayTurn before n event m → IsTurned m before.zones event turn.effects turn.sim (changed turn.patch.change before)
+
+-- why no turn comes of it: the cause for which the event is refused, or want of memory
+abbrev pub Tells : StepFault → Option Refusal → Type 0
+Tells (Refused why) cause = cause ≡ Some why
+Tells Memory cause = Unit {0}
+
+-- the fault is that of the keys that are lacking
+abbrev pub fault_of_keys : KeyFault → StepFault
+fault_of_keys NoDatapathKey = Refused why.NoDatapathKey
+fault_of_keys (NoPortKey datapath) = Refused (why.NoPortKey datapath)
+fault_of_keys key.Memory = Memory
+
+pub record LacksFor (keys : held.Keys) (added removed : List KeyOwner) (fault : StepFault) : Type 0 where
+  pub lack : KeyFault
+  pub fault_is : fault ≡ fault_of_keys lack
+  pub cause : IsCause keys added removed lack
+
+abbrev pub IsNoTurn : GroundView → ℕ → Event → StepFault → Type 0
+IsNoTurn g n event fault = (m : State) → MayTurn g n event m → Tells fault (refusal m event)

@@ -2,12 +2,18 @@
 ghost use Rattle.std.specs.Prelude.{◌≡◌, IfOk};
 ghost use Rattle.physical_flows.specs.Compiling.{basis_of};
 ghost use Rattle.tunnel_keys.specs.Keys.{settled};
+ghost use Rattle.net_model.specs.Config.{is_chassis};
 ghost use Rattle.net_model.specs.State.{empty};
+ghost use Rattle.ovn_base.specs.names.ByName.{at};
 ghost use Rattle.world_core.specs.Ground.{basis_in, changed, ground_of, IsChangeOf};
+ghost use Rattle.world_core.specs.Refusing.{is_virtual_port};
 ghost use Rattle.world_core.specs.Zones.{no_zones};
 
 use conn_zones::zones::{ConnZones, ZonePatch};
+use nb_edits::edit::apply;
+use nb_edits::plan::EditPlan;
 use nb_records::records::Records;
+use nb_records::switch::PortKind;
 use ovn_base::limits::{MAX_DATAPATH_KEY, MAX_PORT_KEY};
 use ovn_base::list::List;
 use ovn_base::memory::NoMemory;
@@ -43,7 +49,7 @@ impl Model for Ground {
 /// What an event makes of the ground; what it leaves as it is is `None`.
 #[derive(Drop)]
 pub(crate) struct GroundChange {
-    pub(crate) records: Option<Records>,
+    pub(crate) records: Option<EditPlan>,
     pub(crate) chassis: Option<List<Name>>,
     pub(crate) keys: Option<KeyPlan>,
     pub(crate) zones: Option<ZonePatch>,
@@ -62,6 +68,26 @@ impl Ground {
         })
     }
 
+    /// Whether the chassis is there.
+    pub(crate) fn is_chassis(&self, chassis: &Name) -> bool
+        ensures { result ≡ is_chassis self.now.config chassis.now }
+    {
+        self.chassis
+            .as_slice()
+            .iter()
+            .any(|other| *other == *chassis)
+    }
+
+    /// Whether a virtual port of the name is there.
+    pub(crate) fn is_virtual_port(&self, port: &Name) -> bool
+        ensures { result ≡ is_virtual_port (at self.now.config.net.switch_ports port.now) }
+    {
+        match self.records.switch_port(port) {
+            Some(port) => matches!(port.kind, PortKind::Virtual),
+            None => false,
+        }
+    }
+
     /// What the flows of the chassis follow from after the change.
     pub(crate) fn maps<'a>(&'a self, change: &'a GroundChange, chassis: Name) -> Maps<'a>
         ensures { basis_of result ≡ basis_in (changed change.now self.now) chassis }
@@ -77,7 +103,7 @@ impl Ground {
                 None => &self.chassis,
             },
             records: match &change.records {
-                Some(records) => records,
+                Some(plan) => plan.after(),
                 None => &self.records,
             },
             homes,
@@ -100,8 +126,8 @@ impl Ground {
             keys,
             zones,
         } = change;
-        if let Some(records) = records {
-            self.records = records;
+        if let Some(plan) = records {
+            apply(&mut self.records, plan);
         }
         if let Some(chassis) = chassis {
             self.chassis = chassis;

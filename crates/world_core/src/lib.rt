@@ -1,10 +1,12 @@
 //! The network as a whole: its events taken through records, keys and tables, and its packets through the simulated chassis.
 #![tactic(auto)]
 
+mod built;
+mod edited;
+mod frames;
 mod ground;
 pub mod held;
 pub mod one_run;
-mod refusing;
 mod setup;
 mod stores;
 pub mod world;

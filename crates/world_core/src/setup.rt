@@ -1,11 +1,13 @@
 //! The ground of the tables, the flows of each chassis by unit, and the turns of both.
-ghost use Rattle.std.specs.Prelude.{◌≡◌, true, IfOk, None, [], ◌∷◌};
+ghost use Rattle.std.specs.Prelude.{◌≡◌, true, IfErr, IfOk, None, [], ◌∷◌, option_map};
 ghost use Rattle.std.specs.BTreeSet.{insert_key};
 ghost use Rattle.std.specs.Cmp.Lexicographic.{slice_cmp};
 ghost use Rattle.std.specs.Ordering.{nat_cmp};
 ghost use Rattle.edit_reader.specs.declared.event.Event.TheVariants as event_of;
-ghost use Rattle.nb_records.specs.declared.change.Op.TheVariants.{Add};
-ghost use Rattle.nb_records.specs.declared.record.Record.TheVariants as record_of;
+ghost use Rattle.event_lines.specs.declared.refusal.Refusal.TheVariants as why;
+ghost use Rattle.nb_edits.specs.OpFaults.{fault_of};
+ghost use Rattle.nb_edits.specs.Plans.{StandsFor};
+ghost use Rattle.nb_records.specs.Editing.{accepted};
 ghost use Rattle.net_model.specs.State.{State, empty};
 ghost use Rattle.ovn_base.specs.declared.name.Name.{Name};
 ghost use Rattle.ovn_base.specs.lists.Among.{Among};
@@ -18,27 +20,30 @@ ghost use Rattle.physical_flows.specs.Tables.{TableFlow};
 ghost use Rattle.physical_flows.specs.UnitFlows.{HaveRows, rows_held};
 ghost use Rattle.physical_flows.specs.Units.{ChangeOnly, unit_rows};
 ghost use Rattle.physical_flows.specs.Valid.{IsValid};
+ghost use Rattle.tunnel_keys.specs.Keys.{settled};
 ghost use Rattle.tunnel_keys.specs.Causes.{HasKeys};
 ghost use Rattle.tunnel_keys.specs.Edits.{IsAfter, IsKeyEdit};
-ghost use Rattle.tunnel_keys.specs.Keys.{settled};
 ghost use Rattle.tuple_space.specs.Bunches.{flows_in};
 ghost use Rattle.world_core.specs.Ground.{changed, ground_of, IsChangeOf};
-ghost use Rattle.world_core.specs.Setup.{ComesOver, IsSetupPatch, IsTurnOfTables, rows_on, units_of};
-ghost use Rattle.world_core.specs.Turning.{IsTurn, MayTurn, is_turn};
+ghost use Rattle.world_core.specs.Setup.{AreTouched, ComesOver, HasTables, IsSetupPatch, IsTurnOfTables, units_of};
+ghost use Rattle.world_core.specs.Turning.{IsBare, IsNoTurn, IsPlannedEdit, IsTurn, LacksFor, MayTurn, Tells, fault_of_keys, is_turn};
 ghost use Rattle.world_core.specs.Zones.{home_change, no_zones};
 
+use crate::built::is_built_edit;
+use crate::edited::{key_effects, key_names, touched_units};
 use crate::ground::{Ground, GroundChange};
 use crate::held::{Held, holding};
 use crate::stores::{Stores, apply_each, deltas_of, prepare_each};
 use chassis_sim::change::SimChange;
 use conn_zones::change::HomeChange;
 use edit_reader::event::Event;
+use event_lines::refusal::{Refusal, StepFault};
 use indexmap::IndexMap;
+use nb_edits::edit::plan;
+use nb_edits::plan::{EditFault, EditPlan};
 use nb_records::change::Op;
-use nb_records::record::Record;
 use nb_records::records::Records;
-use nb_records::switch::{Switch, SwitchPort};
-use ovn_base::address::Birth;
+use ovn_base::limits::MAX_CHASSIS;
 use ovn_base::list::List;
 use ovn_base::memory::NoMemory;
 use ovn_base::name::Name;
@@ -50,7 +55,6 @@ use std::cmp::Ordering;
 use std::marker::Model;
 use switch_engine::effect::NetEffect;
 use tunnel_keys::fault::KeyFault;
-use tunnel_keys::owner::KeyOwner;
 use tunnel_keys::store::{KeyPlan, KeyStore};
 
 /// What the tables of the chassis follow from, and the flows of each chassis by unit: each unit has its rows there.
@@ -122,21 +126,6 @@ fn sim_change(alloc: Global) -> SimChange<Held>
     }
 }
 
-// The keys after owners come, for all of whom there are keys.
-fn keys_with(keys: &mut KeyStore, added: &[KeyOwner]) -> Result<KeyPlan, NoMemory>
-    requires fits { IsKeyEdit keys.old added.now [] }
-    requires enough { HasKeys keys.old added.now [] }
-    ensures kept { keys.new ≡ keys.old }
-    ensures after { IfOk result (IsAfter keys.old added.now []) }
-{
-    match keys.plan(added, &[]) {
-        Ok(plan) => Ok(plan),
-        Err(KeyFault::Memory) => Err(NoMemory),
-        Err(KeyFault::NoDatapathKey) => unreachable!(),
-        Err(KeyFault::NoPortKey(_)) => unreachable!(),
-    }
-}
-
 // The names with one more, in order.
 fn names_with(alloc: Global, names: &[Name], name: Name) -> Result<List<Name>, NoMemory>
     ensures { IfOk result (λ longer. longer ≡ insert_key (slice_cmp nat_cmp) names.now name) }
@@ -159,6 +148,50 @@ fn names_with(alloc: Global, names: &[Name], name: Name) -> Result<List<Name>, N
     }
     longer.push(name)?;
     Ok(longer)
+}
+
+// The records after an edit, or what is wrong with it.
+fn planned(
+    alloc: Global,
+    records: &mut Records,
+    ops: &[Op],
+    number: u64,
+) -> Result<EditPlan, StepFault>
+    ensures kept { records.new ≡ records.old }
+    ensures faultless { IfOk result (λ plan. fault_of records.old ops.now number ≡ None) }
+    ensures stands { IfOk result (StandsFor records.old (accepted records.old ops.now number)) }
+    ensures refused { IfErr result (λ fault. Tells fault (option_map (λ f. why.Schema f) (fault_of records.old ops.now number))) }
+{
+    match plan(alloc, records, ops, number) {
+        Ok(plan) => Ok(plan),
+        Err(EditFault::Schema(fault)) => Err(StepFault::Refused(Refusal::Schema(fault))),
+        Err(EditFault::Memory) => Err(StepFault::Memory),
+    }
+}
+
+// The fault of an edit that lacks keys.
+fn fault_of_keys(lack: &KeyFault) -> StepFault
+    ensures { result ≡ fault_of_keys lack.now }
+{
+    match lack {
+        KeyFault::NoDatapathKey => StepFault::Refused(Refusal::NoDatapathKey),
+        KeyFault::NoPortKey(datapath) => StepFault::Refused(Refusal::NoPortKey(*datapath)),
+        KeyFault::Memory => StepFault::Memory,
+    }
+}
+
+// The keys after the edit, or which it lacks.
+fn keys_for(keys: &mut KeyStore, plan: &EditPlan) -> Result<KeyPlan, StepFault>
+    requires fits { IsKeyEdit keys.old plan.now.added plan.now.removed }
+    ensures kept { keys.new ≡ keys.old }
+    ensures after { IfOk result (IsAfter keys.old plan.now.added plan.now.removed) }
+    ensures enough { IfOk result (λ next. HasKeys keys.old plan.now.added plan.now.removed) }
+    ensures lacks { IfErr result (LacksFor keys.old plan.now.added plan.now.removed) }
+{
+    match keys.plan(plan.added(), plan.removed()) {
+        Ok(next) => Ok(next),
+        Err(lack) => Err(fault_of_keys(&lack)),
+    }
 }
 
 // The port is at home on the chassis from now on.
@@ -226,18 +259,14 @@ impl Setup {
     ) -> Result<Turn, NoMemory>
         requires fits { IsChangeOf self.old.ground change }
         requires once { EachOnce self.old.ground.config.chassis }
-        requires valid { IsValid (changed change self.old.ground).config.net }
-        requires keys { HaveKeys (changed change self.old.ground).config.net (changed change self.old.ground).keys }
-        requires units_once { EachOnce touched.now }
-        requires touched { (c : Name) → Among c self.old.ground.config.chassis → ChangeOnly touched.now (rows_on self.old.ground c) (rows_on (changed change self.old.ground) c) }
+        requires tables { HasTables (changed change self.old.ground) }
+        requires touched { AreTouched self.old.ground (changed change self.old.ground) touched.now }
         requires chassis { ComesOver self.old.ground.config.chassis come (changed change self.old.ground).config.chassis }
         ensures kept { self.new.ground ≡ self.old.ground }
         ensures patch { IfOk result (λ turn. IsSetupPatch self.new turn.patch) }
         ensures change { IfOk result (λ turn. turn.patch.change ≡ change) }
-        ensures tables { IfOk result (λ turn. IsTurnOfTables self.old.ground (changed change self.old.ground) turn.sim) }
-        ensures bound { IfOk result (λ turn. turn.sim.bound ≡ []) }
-        ensures names { IfOk result (λ turn. turn.sim.names ≡ []) }
-        ensures effects { IfOk result (λ turn. turn.effects ≡ []) }
+        ensures turned { IfOk result (λ turn. IsTurnOfTables self.old.ground (changed change self.old.ground) turn.sim) }
+        ensures bare { IfOk result IsBare }
     {
         let patches = prepare_each(alloc, &mut self.stores, &self.ground, &change, touched)?;
         self.stores.reserve(1)?;
@@ -262,70 +291,64 @@ impl Setup {
         })
     }
 
-    // A switch comes, and is given a key.
-    fn add_switch(&mut self, alloc: Global, number: u64, switch: &Switch) -> Result<Turn, NoMemory>
-        requires may { (m : State) × MayTurn self.old.ground number (event_of.Edit (Add (record_of.Switch switch.now) ∷ [])) m }
+    // What planned records and keys make of the setup and of the simulated chassis.
+    fn edited(
+        &mut self,
+        alloc: Global,
+        number: u64,
+        ops: &[Op],
+        records: EditPlan,
+        keys: KeyPlan,
+    ) -> Result<Turn, NoMemory>
+        requires may { (m : State) × MayTurn self.old.ground number (event_of.Edit ops.now) m }
+        requires planned { IsPlannedEdit self.old.ground number ops.now records keys }
         ensures kept { self.new.ground ≡ self.old.ground }
-        ensures turn { IfOk result (IsTurn self.old.ground self.new number (event_of.Edit (Add (record_of.Switch switch.now) ∷ []))) }
+        ensures turn { IfOk result (IsTurn self.old.ground self.new number (event_of.Edit ops.now)) }
     {
-        let birth = Birth(number);
-        let name = switch.name;
-        let plan = keys_with(&mut self.ground.keys, &[KeyOwner::Datapath { name, birth }])?;
-        let key = plan.after().datapath(&name).unwrap_or(0);
-        let mut records = self.ground.records.copy()?;
-        records.put(Record::Switch(Switch { name, birth }))?;
+        let effects = key_effects(alloc, records.added(), keys.after())?;
+        let names = key_names(alloc, records.added(), keys.after())?;
+        let touched = touched_units(alloc, &self.ground.records, records.after(), ops)?;
         let change = GroundChange {
             records: Some(records),
             chassis: None,
-            keys: Some(plan),
+            keys: Some(keys),
             zones: None,
         };
-        let mut turn = self.prepare(alloc, change, &[FlowUnit::Switch(name)], None)?;
-        turn.effects.push(NetEffect::DatapathKey { name, key })?;
-        turn.sim.names.push((key, 0, name))?;
+        let mut turn = self.prepare(alloc, change, touched.as_slice(), None)?;
+        turn.effects = effects;
+        turn.sim.names = names;
         Ok(turn)
     }
 
-    // A port comes onto a switch, and is given a key.
-    fn add_port(&mut self, alloc: Global, number: u64, port: &SwitchPort) -> Result<Turn, NoMemory>
-        requires may { (m : State) × MayTurn self.old.ground number (event_of.Edit (Add (record_of.SwitchPort port.now) ∷ [])) m }
+    // Prepares what an edit makes of the setup and of the simulated chassis: the records that its operations leave, keys for who
+    // comes, and the rows of the units that it touches.
+    fn edit(&mut self, alloc: Global, number: u64, ops: &[Op]) -> Result<Turn, StepFault>
+        requires may { (m : State) × MayTurn self.old.ground number (event_of.Edit ops.now) m }
         ensures kept { self.new.ground ≡ self.old.ground }
-        ensures turn { IfOk result (IsTurn self.old.ground self.new number (event_of.Edit (Add (record_of.SwitchPort port.now) ∷ []))) }
+        ensures turn { IfOk result (IsTurn self.old.ground self.new number (event_of.Edit ops.now)) }
+        ensures refused { IfErr result (IsNoTurn self.old.ground number (event_of.Edit ops.now)) }
     {
-        let birth = Birth(number);
-        let name = port.name;
-        let datapath = port.switch;
-        let owner = KeyOwner::Port {
-            datapath,
-            name,
-            birth,
-        };
-        let mut added = port.copy()?;
-        added.birth = birth;
-        let plan = keys_with(&mut self.ground.keys, &[owner])?;
-        let under = plan.after().datapath(&datapath).unwrap_or(0);
-        let key = plan.after().port(&name).unwrap_or(0);
-        let mut records = self.ground.records.copy()?;
-        records.put(Record::SwitchPort(added))?;
-        let change = GroundChange {
-            records: Some(records),
-            chassis: None,
-            keys: Some(plan),
-            zones: None,
-        };
-        let touched = [FlowUnit::Switch(datapath), FlowUnit::Port(name)];
-        let mut turn = self.prepare(alloc, change, &touched, None)?;
-        turn.effects.push(NetEffect::PortKey { name, key })?;
-        turn.sim.names.push((under, key, name))?;
-        Ok(turn)
+        if !is_built_edit(ops) {
+            return Err(StepFault::Refused(Refusal::NotBuilt));
+        }
+        let records = planned(alloc, &mut self.ground.records, ops, number)?;
+        let keys = keys_for(&mut self.ground.keys, &records)?;
+        Ok(self.edited(alloc, number, ops, records, keys)?)
     }
 
-    // A chassis comes.
-    fn add_chassis(&mut self, alloc: Global, number: u64, chassis: Name) -> Result<Turn, NoMemory>
+    // Prepares what a chassis that comes makes of the setup and of the simulated chassis.
+    fn add_chassis(&mut self, alloc: Global, number: u64, chassis: Name) -> Result<Turn, StepFault>
         requires may { (m : State) × MayTurn self.old.ground number (event_of.AddChassis chassis) m }
         ensures kept { self.new.ground ≡ self.old.ground }
         ensures turn { IfOk result (IsTurn self.old.ground self.new number (event_of.AddChassis chassis)) }
+        ensures refused { IfErr result (IsNoTurn self.old.ground number (event_of.AddChassis chassis)) }
     {
+        if self.ground.is_chassis(&chassis) {
+            return Err(StepFault::Refused(Refusal::DuplicateName(chassis)));
+        }
+        if self.ground.chassis.len() >= MAX_CHASSIS {
+            return Err(StepFault::Refused(Refusal::LimitChassis));
+        }
         let change = GroundChange {
             records: None,
             chassis: Some(names_with(alloc, self.ground.chassis.as_slice(), chassis)?),
@@ -336,18 +359,26 @@ impl Setup {
         Ok(turn)
     }
 
-    // A port is bound to a chassis: who is at home there by then has a zone there, and who stays at home keeps its number.
+    // Prepares what a binding makes of the setup and of the simulated chassis: who is at home on the chassis by then has a zone
+    // there, and who stays at home keeps its number.
     fn bind(
         &mut self,
         alloc: Global,
         number: u64,
         port: Name,
         chassis: Name,
-    ) -> Result<Turn, NoMemory>
+    ) -> Result<Turn, StepFault>
         requires may { (m : State) × MayTurn self.old.ground number (event_of.Bind port chassis) m }
         ensures kept { self.new.ground ≡ self.old.ground }
         ensures turn { IfOk result (IsTurn self.old.ground self.new number (event_of.Bind port chassis)) }
+        ensures refused { IfErr result (IsNoTurn self.old.ground number (event_of.Bind port chassis)) }
     {
+        if !self.ground.is_virtual_port(&port) {
+            return Err(StepFault::Refused(Refusal::NoSuch(port)));
+        }
+        if !self.ground.is_chassis(&chassis) {
+            return Err(StepFault::Refused(Refusal::NoSuch(chassis)));
+        }
         let zones = self
             .ground
             .zones
@@ -364,36 +395,35 @@ impl Setup {
         Ok(turn)
     }
 
-    // An edit of one operation.
-    fn edit(&mut self, alloc: Global, number: u64, ops: &[Op]) -> Result<Turn, NoMemory>
-        requires may { (m : State) × MayTurn self.old.ground number (event_of.Edit ops.now) m }
-        ensures kept { self.new.ground ≡ self.old.ground }
-        ensures turn { IfOk result (IsTurn self.old.ground self.new number (event_of.Edit ops.now)) }
-    {
-        match ops {
-            [Op::Add(Record::Switch(switch))] => self.add_switch(alloc, number, switch),
-            [Op::Add(Record::SwitchPort(port))] => self.add_port(alloc, number, port),
-            _ => unreachable!(),
-        }
-    }
-
     /// Prepares what an event of this number makes of the setup and of the simulated chassis, which may turn the configuration.
     pub(crate) fn turn(
         &mut self,
         alloc: Global,
         number: u64,
         event: &Event,
-    ) -> Result<Turn, NoMemory>
+    ) -> Result<Turn, StepFault>
         requires turn { is_turn event.now ≡ true }
         requires may { (m : State) × MayTurn self.old.ground number event.now m }
         ensures kept { self.new.ground ≡ self.old.ground }
         ensures turn { IfOk result (IsTurn self.old.ground self.new number event.now) }
+        ensures refused { IfErr result (IsNoTurn self.old.ground number event.now) }
     {
         match event {
             Event::Edit(ops) => self.edit(alloc, number, ops.as_slice()),
             Event::Bind { port, chassis } => self.bind(alloc, number, *port, *chassis),
             Event::AddChassis(chassis) => self.add_chassis(alloc, number, *chassis),
-            _ => unreachable!(),
+            Event::Unbind { .. }
+            | Event::RemoveChassis(_)
+            | Event::Keys { .. }
+            | Event::Health { .. }
+            | Event::Clock { .. }
+            | Event::Inject { .. }
+            | Event::Deliver { .. }
+            | Event::Lose { .. }
+            | Event::Repeat { .. }
+            | Event::Drain
+            | Event::Packet { .. }
+            | Event::Unread(_) => unreachable!(),
         }
     }
 

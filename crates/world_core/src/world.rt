@@ -1,16 +1,17 @@
 //! The state of the network and of its chassis, and its steps.
-ghost use Rattle.std.specs.Prelude.{◌-◌, ◌≡◌, ◌+◌, ◌<◌, ◌^◌, ◌++◌, ◌↔◌, [], ◌∷◌, None, Some, true, false, min, length, slice_get, IsTrue, IfOk, OnOk, OnErr, List};
+ghost use Rattle.std.specs.Prelude.{◌-◌, ◌≡◌, ◌+◌, ◌<◌, ◌^◌, ◌++◌, ◌↔◌, [], ◌∷◌, None, Some, true, false, min, length, slice_get, IsTrue, IfErr, IfOk, OnOk, OnErr, List};
 ghost use Rattle.std.specs.Option.{option_copied};
 ghost use Rattle.ovn_base.specs.lists.Once.{EachOnce};
 ghost use Rattle.chassis_sim.specs.State.{flow_at, at_name};
 ghost use Rattle.flow_table.specs.declared.flow.Flow.{Flow};
 ghost use Rattle.event_lines.specs.Lines.{refused_line};
 ghost use Rattle.event_lines.specs.Text.{StartsWith};
-ghost use Rattle.world_core.specs.Admitted.{IsAdmitted};
-ghost use Rattle.world_core.specs.Outcome.{IsAccepted, Outcome};
+ghost use Rattle.edit_reader.specs.Fitting.{IsEventInGrammar};
+ghost use Rattle.edit_reader.specs.declared.event.Event.TheVariants as event_of;
+ghost use Rattle.world_core.specs.Outcome.{IsAccepted, moves_packets, Outcome};
 ghost use Rattle.world_core.specs.StepParts.{IsTaken, Leaves, new_world};
 ghost use Rattle.world_core.specs.Refusing.{refusal};
-ghost use Rattle.world_core.specs.Turning.{is_turn};
+ghost use Rattle.world_core.specs.Turning.{Tells, is_turn};
 ghost use Rattle.world_core.specs.WorldView.{IsSound};
 ghost use Rattle.net_model.specs.State.{event_count, finished};
 
@@ -173,14 +174,15 @@ impl World {
         Ok(())
     }
 
-    // Does what an edit, a binding or a chassis asks for that isn't refused. All that may want memory comes first.
-    fn turn(&mut self, event: &Event, text: &mut Vec<u8>) -> Result<(), NoMemory>
+    // Does what an edit, a binding or a chassis asks for, where it isn't refused. All that may want memory comes first.
+    fn turn(&mut self, event: &Event, text: &mut Vec<u8>) -> Result<(), StepFault>
         requires turn { is_turn event.now ≡ true }
         requires sound { IsSound self.old }
         requires room { event_count self.old.state < 2 ^ 42 }
-        requires allowed { refusal self.old.state event.now ≡ None }
+        requires admitted { IsEventInGrammar event.now }
         ensures done { OnOk result (IsAccepted self.old event.now text.old.items text.new.items self.new) }
         ensures sound { OnOk result (IsSound self.new) }
+        ensures told { IfErr result (λ fault. Tells fault (refusal self.old.state event.now)) }
         ensures same { OnErr result (self.new ≡ self.old) }
         ensures front { OnErr result (text.new.items ≡ text.old.items) }
     {
@@ -205,23 +207,55 @@ impl World {
         requires turn { is_turn event.now ≡ true }
         requires sound { IsSound self.old }
         requires room { event_count self.old.state < 2 ^ 42 }
+        requires admitted { IsEventInGrammar event.now }
         ensures { Outcome result self.old event.now text.old.items text.new.items self.new }
     {
-        match self.refusal(event)? {
-            Some(why) => {
-                self.refuse(&why, text)?;
-                Err(StepFault::Refused(why))
-            }
-            None => {
-                self.turn(event, text)?;
-                Ok(())
-            }
+        match self.turn(event, text) {
+            Ok(()) => Ok(()),
+            Err(StepFault::Refused(why)) => self.take_refused(event, why, text),
+            Err(StepFault::Memory) => Err(StepFault::Memory),
         }
     }
 
-    /// Takes one event, and adds its whole text: the lines of what it did, or of why it is refused. Without memory an edit, a
-    /// binding and a chassis change neither the world nor the text; after want of memory in any other event the world isn't
-    /// sound, and the text keeps what it held.
+    // Takes an event that is refused and moves no packets.
+    fn take_refused(
+        &mut self,
+        event: &Event,
+        why: Refusal,
+        text: &mut Vec<u8>,
+    ) -> Result<(), StepFault>
+        requires still { moves_packets event.now ≡ false }
+        requires sound { IsSound self.old }
+        requires room { event_count self.old.state < 2 ^ 42 }
+        requires refused { refusal self.old.state event.now ≡ Some why }
+        ensures { Outcome result self.old event.now text.old.items text.new.items self.new }
+    {
+        self.refuse(&why, text)?;
+        Err(StepFault::Refused(why))
+    }
+
+    // Takes a frame that waits away.
+    fn take_loss(&mut self, event: &Event, frame: u64, text: &mut Vec<u8>) -> Result<(), StepFault>
+        requires event { event.now ≡ event_of.Lose frame }
+        requires sound { IsSound self.old }
+        requires room { event_count self.old.state < 2 ^ 42 }
+        ensures { Outcome result self.old event.now text.old.items text.new.items self.new }
+    {
+        if let Some(why) = self.refusal_of_frame(frame) {
+            return self.take_refused(event, why, text);
+        }
+        write_accepted(&[], 0, self.accepted + self.refused + 1, text)?;
+        self.whole = false;
+        self.lose(u128::from(frame));
+        self.walks.clear();
+        self.finish();
+        self.whole = true;
+        Ok(())
+    }
+
+    /// Takes one event, and adds its whole text: the lines of what it did, or of why it is refused. Without memory an event that
+    /// moves no packets changes neither the world nor the text; after want of memory in one that does the world isn't sound, and
+    /// the text keeps what it held.
     pub fn step<L>(
         &mut self,
         event: &Event,
@@ -230,12 +264,35 @@ impl World {
     ) -> Result<(), StepFault>
         requires sound { IsSound self.old }
         requires room { event_count self.old.state < 2 ^ 42 }
-        requires admitted { IsAdmitted event.now }
+        requires admitted { IsEventInGrammar event.now }
         ensures { Outcome result self.old event.now text.old.items text.new.items self.new }
     {
-        if is_turn(event) {
-            return self.take_turn(event, text);
+        match event {
+            Event::Edit(_) | Event::Bind { .. } | Event::AddChassis(_) => {
+                self.take_turn(event, text)
+            }
+            Event::Unbind { .. }
+            | Event::RemoveChassis(_)
+            | Event::Keys { .. }
+            | Event::Health { .. }
+            | Event::Clock { .. } => self.take_refused(event, Refusal::NotBuilt, text),
+            Event::Lose { frame } => self.take_loss(event, *frame, text),
+            Event::Unread(fault) => self.take_refused(event, Refusal::Read(fault.copy()?), text),
+            Event::Inject { .. }
+            | Event::Deliver { .. }
+            | Event::Repeat { .. }
+            | Event::Drain
+            | Event::Packet { .. } => self.take_packets(event, text),
         }
+    }
+
+    // Takes an event that moves packets.
+    fn take_packets(&mut self, event: &Event, text: &mut Vec<u8>) -> Result<(), StepFault>
+        requires moves { moves_packets event.now ≡ true }
+        requires sound { IsSound self.old }
+        requires room { event_count self.old.state < 2 ^ 42 }
+        ensures { Outcome result self.old event.now text.old.items text.new.items self.new }
+    {
         self.whole = false;
         match self.take(event, text) {
             Ok(()) => {
@@ -253,27 +310,26 @@ impl World {
         }
     }
 
-    // Takes an event of packets while the world is marked as being changed.
+    // Takes an event that moves packets while the world is marked as being changed.
     fn take(&mut self, event: &Event, text: &mut Vec<u8>) -> Result<(), StepFault>
-        requires packet { is_turn event.now ≡ false }
+        requires moves { moves_packets event.now ≡ true }
         requires taken { IsTaken self.old }
         requires room { event_count self.old.state < 2 ^ 42 }
-        requires admitted { IsAdmitted event.now }
         ensures { Leaves result self.old event.now text.old.items text.new.items self.new }
     {
         let alloc = self.walks.allocator();
         let number = self.accepted + self.refused + 1;
-        match self.refusal(event)? {
-            Some(why) => {
-                self.refuse(&why, text)?;
-                Err(StepFault::Refused(why))
-            }
-            None => {
-                let done = self.accept(alloc, event)?;
+        match self.accept(alloc, event) {
+            Ok(done) => {
                 write_accepted(done.effects.as_slice(), done.matched, number, text)?;
                 self.walks = done.walks;
                 Ok(())
             }
+            Err(StepFault::Refused(why)) => {
+                self.refuse(&why, text)?;
+                Err(StepFault::Refused(why))
+            }
+            Err(StepFault::Memory) => Err(StepFault::Memory),
         }
     }
 }

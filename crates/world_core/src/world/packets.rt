@@ -7,7 +7,6 @@ ghost use Rattle.chassis_sim.specs.Passing.{arrived};
 ghost use Rattle.chassis_sim.specs.State.{numbered};
 ghost use Rattle.inet_packet.specs.Frame.{frame_of};
 ghost use Rattle.inet_packet.specs.Whole.{IsWhole};
-ghost use Rattle.edit_reader.specs.Reads.{IsPlainFrame};
 ghost use Rattle.sim_laws.specs.PacketSteps.{most_arrivals};
 ghost use Rattle.sim_laws.specs.PlainJourneys.{with_kept};
 ghost use Rattle.sim_laws.specs.Refinement.{IsAmidst};
@@ -164,22 +163,21 @@ impl World {
         Ok(())
     }
 
-    // Takes the packet of a frame from its port through the chassis.
+    // Takes a packet from its port through the chassis.
     pub(super) fn enter(
         &mut self,
         alloc: Global,
         port: &Name,
-        frame: &[u8],
+        packet: Packet,
         out: &mut SimOut,
     ) -> Result<(), NoMemory>
         requires amidst { IsAmidst self.old.state self.old.zones 0 }
         requires held { AreHeld self.old.state self.old.zones.numbers self.old.sim }
         requires taken { self.old.whole ≡ false }
         requires bound { IsSome (at self.old.state.config.bindings port.now) }
-        requires frame { IsPlainFrame frame.now }
-        ensures { OnOk result (HasEntered self.old port.now frame.now out.old out.new self.new) }
+        requires whole { IsWhole packet }
+        ensures { OnOk result (HasEntered self.old port.now (frame_of packet) out.old out.new self.new) }
     {
-        let packet = packet_of(alloc, frame)?;
         let before = out.effects.len();
         match self.sim.inject(port, packet, 0, out) {
             Ok(()) => {}

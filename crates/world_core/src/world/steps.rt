@@ -1,28 +1,24 @@
-//! The steps of a world, one for each kind of event.
-ghost use Rattle.std.specs.Prelude.{cond, ◌≡◌, ◌++◌, ◌+◌, ◌<◌, ◌^◌, [], None, false, IfOk};
+//! The steps of a world that move packets, one for each kind of event.
+ghost use Rattle.std.specs.Prelude.{cond, ◌≡◌, ◌<◌, ◌^◌, None, true, IfErr, IfOk};
 ghost use Rattle.edit_reader.specs.declared.event.Event.TheVariants as event_of;
-ghost use Rattle.event_lines.specs.declared.refusal.Refusal.{Refusal};
-ghost use Rattle.world_core.specs.Admitted.{IsAdmitted};
-ghost use Rattle.world_core.specs.StepParts.{IsTaken, IsDone};
-ghost use Rattle.world_core.specs.Outcome.{matched};
-ghost use Rattle.world_core.specs.Turning.{is_turn};
-ghost use Rattle.world_core.specs.Refusing.{refusal, refusal_of_record, refusal_of_edit, refusal_of_entry, too_many_wait};
+ghost use Rattle.world_core.specs.Packets.{IsPacketOf};
+ghost use Rattle.world_core.specs.StepParts.{IsTaken, IsTried, IsDone};
+ghost use Rattle.world_core.specs.Outcome.{matched, moves_packets};
+ghost use Rattle.world_core.specs.Turning.{Tells};
+ghost use Rattle.world_core.specs.Refusing.{cause_of_entry, no_frame, too_many_wait};
 ghost use Rattle.net_model.specs.State.{event_count};
-ghost use Rattle.net_model.specs.Config.{is_chassis};
 
-use crate::refusing::is_unbuilt_port;
+use crate::frames::{Entering, read_entering};
 use crate::world::{Done, World};
 use chassis_sim::out::SimOut;
 use edit_reader::event::Event;
-use event_lines::refusal::Refusal;
-use nb_records::change::Op;
-use nb_records::record::Record;
-use ovn_base::limits::{MAX_CHASSIS, MAX_DATAPATHS, MAX_WAITING};
-use ovn_base::list::{Bytes, List};
+use event_lines::refusal::{Refusal, StepFault};
+use inet_packet::packet::Packet;
+use ovn_base::limits::MAX_WAITING;
+use ovn_base::list::Bytes;
 use ovn_base::memory::NoMemory;
 use ovn_base::name::Name;
 use std::alloc::Global;
-use switch_engine::effect::NetEffect;
 use switch_engine::walk::Walk;
 
 // How many flows were matched in all.
@@ -34,19 +30,6 @@ fn matched_in(walks: &[Walk]) -> u128
         count += walk.steps.len() as u128;
     }
     count
-}
-
-// An event without a walk.
-fn done_with(alloc: Global, effects: List<NetEffect>) -> Done
-    ensures effects { result.effects ≡ effects }
-    ensures walks { result.walks ≡ [] }
-    ensures matched { result.matched ≡ 0 }
-{
-    Done {
-        effects,
-        walks: List::new(alloc),
-        matched: 0,
-    }
 }
 
 // What came of packets.
@@ -65,106 +48,9 @@ fn done_from(out: SimOut) -> Done
 }
 
 impl World {
-    // Why the added record is refused.
-    fn refusal_of_record(&self, row: &Record) -> Option<Refusal>
-        ensures { result ≡ refusal_of_record self.now.state.config.net row.now }
-    {
-        match row {
-            Record::Switch(switch) => {
-                if self.setup.records().switch(&switch.name).is_some()
-                    || self.setup.records().switches().len() >= MAX_DATAPATHS
-                {
-                    return Some(Refusal::NotBuilt);
-                }
-                None
-            }
-            Record::SwitchPort(port) => {
-                if is_unbuilt_port(self.setup.records(), port) {
-                    return Some(Refusal::NotBuilt);
-                }
-                if self.setup.records().switch(&port.switch).is_some() {
-                    return None;
-                }
-                Some(Refusal::NoSuch(port.switch))
-            }
-            _ => Some(Refusal::NotBuilt),
-        }
-    }
-
-    // Why the edit is refused: it has one operation.
-    fn refusal_of_edit(&self, ops: &[Op]) -> Option<Refusal>
-        ensures { result ≡ refusal_of_edit self.now.state.config.net ops.now }
-    {
-        match ops {
-            [Op::Add(row)] => self.refusal_of_record(row),
-            _ => Some(Refusal::NotBuilt),
-        }
-    }
-
-    // Why the binding is refused.
-    fn refusal_of_bind(&self, port: &Name, chassis: &Name) -> Option<Refusal>
-        ensures { result ≡ refusal self.now.state (event_of.Bind port.now chassis.now) }
-    {
-        if self.setup.records().switch_port(port).is_none() {
-            return Some(Refusal::NoSuch(*port));
-        }
-        if !self.is_chassis(chassis) {
-            return Some(Refusal::NoSuch(*chassis));
-        }
-        None
-    }
-
-    // Whether the chassis is there.
-    fn is_chassis(&self, chassis: &Name) -> bool
-        ensures { result ≡ is_chassis self.now.state.config chassis.now }
-    {
-        self.setup
-            .ground()
-            .chassis
-            .as_slice()
-            .iter()
-            .any(|other| *other == *chassis)
-    }
-
-    // Why the chassis doesn't come.
-    fn refusal_of_chassis(&self, chassis: &Name) -> Option<Refusal>
-        ensures { result ≡ refusal self.now.state (event_of.AddChassis chassis.now) }
-    {
-        if self.is_chassis(chassis) {
-            return Some(Refusal::DuplicateName(*chassis));
-        }
-        if self.setup.ground().chassis.len() >= MAX_CHASSIS {
-            return Some(Refusal::LimitChassis);
-        }
-        None
-    }
-
-    // Whether so many frames wait that no event may add to them.
-    fn too_many_wait(&self) -> bool
-        ensures { result ≡ too_many_wait self.now.state }
-    {
-        self.crossings.len() >= MAX_WAITING
-    }
-
-    // Why a packet may not enter at the port.
-    fn refusal_of_entry(&self, port: &Name) -> Option<Refusal>
-        ensures { result ≡ refusal_of_entry self.now.state port.now }
-    {
-        if self.setup.records().switch_port(port).is_none() {
-            return Some(Refusal::NoSuch(*port));
-        }
-        if self.setup.ground().zones.homes().port(port).is_none() {
-            return Some(Refusal::NotBuilt);
-        }
-        if self.too_many_wait() {
-            return Some(Refusal::TooManyFrames);
-        }
-        None
-    }
-
-    // Why no such frame can be taken.
-    fn refusal_of_frame(&self, frame: u64) -> Option<Refusal>
-        ensures { result ≡ refusal self.now.state (event_of.Deliver frame) }
+    // Why no frame of the number can be taken.
+    pub(super) fn refusal_of_frame(&self, frame: u64) -> Option<Refusal>
+        ensures { result ≡ no_frame self.now.state frame }
     {
         let frame = u128::from(frame);
         if self.crossings.get(&frame).is_none() {
@@ -173,70 +59,73 @@ impl World {
         None
     }
 
-    // Why the frame is not repeated.
-    fn refusal_of_repeat(&self, frame: u64) -> Option<Refusal>
-        ensures { result ≡ refusal self.now.state (event_of.Repeat frame) }
+    // Why no event may add to the frames that wait.
+    fn too_many_wait(&self) -> Option<Refusal>
+        ensures { result ≡ too_many_wait self.now.state }
     {
-        let why = self.refusal_of_frame(frame);
-        if why.is_none() && self.too_many_wait() {
+        if self.crossings.len() >= MAX_WAITING {
             return Some(Refusal::TooManyFrames);
         }
-        why
+        None
     }
 
-    /// Why the event is refused, if it is.
-    pub(super) fn refusal(&self, event: &Event) -> Result<Option<Refusal>, NoMemory>
-        ensures { IfOk result (λ why. why ≡ refusal self.now.state event.now) }
+    // The packet of the frame, which may enter at the port, or why it may not.
+    fn packet_for(&self, alloc: Global, port: &Name, frame: &[u8]) -> Result<Packet, StepFault>
+        ensures allowed { IfOk result (λ packet. cause_of_entry self.now.state port.now frame.now ≡ None) }
+        ensures packet { IfOk result (λ packet. IsPacketOf packet frame.now) }
+        ensures refused { IfErr result (λ fault. Tells fault (cause_of_entry self.now.state port.now frame.now)) }
     {
-        match event {
-            Event::Edit(ops) => Ok(self.refusal_of_edit(ops.as_slice())),
-            Event::Bind { port, chassis } => Ok(self.refusal_of_bind(port, chassis)),
-            Event::AddChassis(chassis) => Ok(self.refusal_of_chassis(chassis)),
-            Event::Inject { port, .. } | Event::Packet { port, .. } => Ok(self.refusal_of_entry(
-                port,
-            )),
-            Event::Deliver { frame } | Event::Lose { frame } => Ok(self.refusal_of_frame(*frame)),
-            Event::Repeat { frame } => Ok(self.refusal_of_repeat(*frame)),
-            Event::Drain => Ok(None),
-            Event::Unread(fault) => Ok(Some(Refusal::Read(fault.copy()?))),
-            Event::NotBuilt => Ok(Some(Refusal::NotBuilt)),
+        if !self.setup.ground().is_virtual_port(port) {
+            return Err(StepFault::Refused(Refusal::NoSuch(*port)));
         }
+        if self.setup.ground().zones.homes().port(port).is_none() {
+            return Err(StepFault::Refused(Refusal::NotBound(*port)));
+        }
+        let packet = match read_entering(alloc, frame)? {
+            Entering::Whole(packet) => packet,
+            Entering::Short => return Err(StepFault::Refused(Refusal::TooShort)),
+            Entering::Big => return Err(StepFault::Refused(Refusal::TooBig)),
+            Entering::BadIp4 => return Err(StepFault::Refused(Refusal::BadIp4)),
+            Entering::Arp => return Err(StepFault::Refused(Refusal::NotBuilt)),
+        };
+        if let Some(why) = self.too_many_wait() {
+            return Err(StepFault::Refused(why));
+        }
+        Ok(packet)
     }
 
     // A packet that enters, whose frames wait.
-    fn take_entry(&mut self, alloc: Global, port: &Name, frame: &Bytes) -> Result<Done, NoMemory>
+    fn inject(&mut self, alloc: Global, port: &Name, frame: &Bytes) -> Result<Done, StepFault>
         requires taken { IsTaken self.old }
         requires room { event_count self.old.state < 2 ^ 42 }
-        requires refused { refusal self.old.state (event_of.Inject port.now frame.now) ≡ None }
-        requires admitted { IsAdmitted (event_of.Inject port.now frame.now) }
-        ensures { IfOk result (λ done. IsDone self.old (event_of.Inject port.now frame.now) done.effects done.walks done.matched self.new) }
+        ensures { IsTried result self.old (event_of.Inject port.now frame.now) self.new }
     {
+        let packet = self.packet_for(alloc, port, frame.as_slice())?;
         let mut out = SimOut::new(alloc);
-        self.enter(alloc, port, frame.as_slice(), &mut out)?;
+        self.enter(alloc, port, packet, &mut out)?;
         self.finish();
         Ok(done_from(out))
     }
 
     // A packet that enters, and then all frames that wait arrive.
-    fn take_packet(&mut self, alloc: Global, port: &Name, frame: &Bytes) -> Result<Done, NoMemory>
+    fn send(&mut self, alloc: Global, port: &Name, frame: &Bytes) -> Result<Done, StepFault>
         requires taken { IsTaken self.old }
         requires room { event_count self.old.state < 2 ^ 42 }
-        requires refused { refusal self.old.state (event_of.Packet port.now frame.now) ≡ None }
-        requires admitted { IsAdmitted (event_of.Packet port.now frame.now) }
-        ensures { IfOk result (λ done. IsDone self.old (event_of.Packet port.now frame.now) done.effects done.walks done.matched self.new) }
+        ensures { IsTried result self.old (event_of.Packet port.now frame.now) self.new }
     {
+        let packet = self.packet_for(alloc, port, frame.as_slice())?;
         let mut out = SimOut::new(alloc);
-        self.enter(alloc, port, frame.as_slice(), &mut out)?;
+        self.enter(alloc, port, packet, &mut out)?;
         self.drain(&mut out)?;
         self.finish();
         Ok(done_from(out))
     }
 
-    // A frame that arrives, and waits on where it is repeated.
+    // A frame that waits and arrives, and waits on where it is kept.
     fn take_arrival(&mut self, alloc: Global, frame: u64, keep: bool) -> Result<Done, NoMemory>
         requires taken { IsTaken self.old }
         requires room { event_count self.old.state < 2 ^ 42 }
-        requires refused { refusal self.old.state (event_of.Deliver frame) ≡ None }
+        requires waits { no_frame self.old.state frame ≡ None }
         ensures { IfOk result (λ done. IsDone self.old (cond keep (event_of.Repeat frame) (event_of.Deliver frame)) done.effects done.walks done.matched self.new) }
     {
         let mut out = SimOut::new(alloc);
@@ -245,16 +134,31 @@ impl World {
         Ok(done_from(out))
     }
 
-    // A frame that is lost.
-    fn take_loss(&mut self, alloc: Global, frame: u64) -> Done
+    // A frame that arrives, and waits no more.
+    fn deliver(&mut self, alloc: Global, frame: u64) -> Result<Done, StepFault>
         requires taken { IsTaken self.old }
         requires room { event_count self.old.state < 2 ^ 42 }
-        requires refused { refusal self.old.state (event_of.Lose frame) ≡ None }
-        ensures { IsDone self.old (event_of.Lose frame) result.effects result.walks result.matched self.new }
+        ensures { IsTried result self.old (event_of.Deliver frame) self.new }
     {
-        self.lose(u128::from(frame));
-        self.finish();
-        done_with(alloc, List::new(alloc))
+        if let Some(why) = self.refusal_of_frame(frame) {
+            return Err(StepFault::Refused(why));
+        }
+        Ok(self.take_arrival(alloc, frame, false)?)
+    }
+
+    // A frame that arrives, and still waits.
+    fn repeat(&mut self, alloc: Global, frame: u64) -> Result<Done, StepFault>
+        requires taken { IsTaken self.old }
+        requires room { event_count self.old.state < 2 ^ 42 }
+        ensures { IsTried result self.old (event_of.Repeat frame) self.new }
+    {
+        if let Some(why) = self.refusal_of_frame(frame) {
+            return Err(StepFault::Refused(why));
+        }
+        if let Some(why) = self.too_many_wait() {
+            return Err(StepFault::Refused(why));
+        }
+        Ok(self.take_arrival(alloc, frame, true)?)
     }
 
     // All frames that wait arrive.
@@ -269,27 +173,29 @@ impl World {
         Ok(done_from(out))
     }
 
-    /// Does what an event of packets asks for that is not refused.
-    pub(super) fn accept(&mut self, alloc: Global, event: &Event) -> Result<Done, NoMemory>
-        requires packet { is_turn event.now ≡ false }
+    /// Does what an event that moves packets asks for, or tells why it is refused.
+    pub(super) fn accept(&mut self, alloc: Global, event: &Event) -> Result<Done, StepFault>
+        requires moves { moves_packets event.now ≡ true }
         requires taken { IsTaken self.old }
         requires room { event_count self.old.state < 2 ^ 42 }
-        requires refused { refusal self.old.state event.now ≡ None }
-        requires admitted { IsAdmitted event.now }
-        ensures { IfOk result (λ done. IsDone self.old event.now done.effects done.walks done.matched self.new) }
+        ensures { IsTried result self.old event.now self.new }
     {
         match event {
-            Event::Inject { port, frame } => self.take_entry(alloc, port, frame),
-            Event::Deliver { frame } => self.take_arrival(alloc, *frame, false),
-            Event::Lose { frame } => Ok(self.take_loss(alloc, *frame)),
-            Event::Repeat { frame } => self.take_arrival(alloc, *frame, true),
-            Event::Drain => self.take_drain(alloc),
-            Event::Packet { port, frame } => self.take_packet(alloc, port, frame),
+            Event::Inject { port, frame } => self.inject(alloc, port, frame),
+            Event::Deliver { frame } => self.deliver(alloc, *frame),
+            Event::Repeat { frame } => self.repeat(alloc, *frame),
+            Event::Drain => Ok(self.take_drain(alloc)?),
+            Event::Packet { port, frame } => self.send(alloc, port, frame),
             Event::Edit(_)
             | Event::Bind { .. }
+            | Event::Unbind { .. }
             | Event::AddChassis(_)
-            | Event::Unread(_)
-            | Event::NotBuilt => unreachable!(),
+            | Event::RemoveChassis(_)
+            | Event::Keys { .. }
+            | Event::Health { .. }
+            | Event::Clock { .. }
+            | Event::Lose { .. }
+            | Event::Unread(_) => unreachable!(),
         }
     }
 }

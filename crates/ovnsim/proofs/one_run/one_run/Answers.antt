@@ -19,4 +19,4 @@ pub returns-clause-network : goal.returns-clause-network
 returns-clause-network c = one.network_run
 
 pub returns-clause-admitted : goal.returns-clause-admitted
-returns-clause-admitted c = all_admitted
+returns-clause-admitted c = all_admitted c.read_is_in_grammar.ensures

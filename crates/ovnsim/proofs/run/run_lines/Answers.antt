@@ -27,7 +27,7 @@ returns-in_err-event-clause-stopped g c =
 pub returns-in_err-is_accepted-in-Found-clause-stopped : goal.returns-in_err-is_accepted-in-Found-clause-stopped
 returns-in_err-is_accepted-in-Found-clause-stopped g c =
     let found = rw c.in-Found.is at c.in_ok-event.ensures in
-    let stopped = give_stands c.in_err-is_accepted-in-Found.field-0.0 _ _ _ _ _ _ _ c.lines.buf c.next_event.new.buf c.lines.world c.in-Found.event found.progress c.lines.invariant.within c.next_event.ensures.within
+    let stopped = give_stands c.read_is_in_grammar.ensures c.in_err-is_accepted-in-Found.field-0.0 _ _ _ _ _ _ _ c.lines.buf c.next_event.new.buf c.lines.world c.in-Found.event found.progress c.lines.invariant.within c.next_event.ensures.within
     c.lines.invariant.ran found.next c.in_err-is_accepted-in-Found.ensures.stopped in
     passed_on c.from_residual-in_err-is_accepted-in-Found.result c.in_err-is_accepted-in-Found.field-0.0 _ c.from_residual-in_err-is_accepted-in-Found.ensures.1 stopped
 
@@ -40,7 +40,7 @@ lines-preserved-in-Found g c =
     let one = one_more_event ok _ _ _ _ text.taken in
     let before = c.lines.invariant in
     let few = before.events in record {
-      ran = turn_event _ _ _ _ _ _ c.lines.buf c.next_event.new.buf c.lines.world c.run_event.new.world c.in-Found.event ok more before.ran found.next text;
+      ran = turn_event c.read_is_in_grammar.ensures _ _ _ _ _ _ c.lines.buf c.next_event.new.buf c.lines.world c.run_event.new.world c.in-Found.event ok more before.ran found.next text;
       within = c.next_event.ensures.within;
       unbroken = found.sound;
       at_end = stays_at_end _ _ _ _ before.at_end (λ h. ap (λ s. g.S.Source.left s) (c.next_event.ensures.after_end h)) c.next_event.ensures.at_end;

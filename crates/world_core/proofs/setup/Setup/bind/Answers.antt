@@ -3,32 +3,35 @@ use Rattle.conn_zones.specs.Rezoning.{IsHomeChange, IsRezoned}
 use Rattle.conn_zones.specs.Zoning.{Zoned}
 use Rattle.conn_zones.specs.declared.change.HomeChange.{HomeChange}
 use Rattle.edit_reader.specs.declared.event.Event.TheVariants as event_of
-use Rattle.nb_records.specs.Network.{Network}
-use Rattle.nb_records.specs.declared.switch.SwitchPort.{SwitchPort}
 use Rattle.ovn_base.specs.declared.name.Name.{Name}
-use Rattle.ovn_base.specs.lists.Among.{Among}
-use Rattle.ovn_base.specs.lists.Once.{EachOnce}
 use Rattle.ovn_base.specs.names.ByName.{at}
-use Rattle.physical_flows.specs.declared.unit.FlowUnit.{FlowUnit}
 use Rattle.world_core.specs.Ground.{GroundView, changed}
-use Rattle.world_core.specs.Setup.{SetupView, units_of}
-use Rattle.world_core.specs.Turning.{IsTurned}
+use Rattle.world_core.specs.Setup.{AreTouched, SetupView, units_of}
+use Rattle.net_model.specs.State.{State}
+use Rattle.std.proofs.lemmas.Result.{err_from_is_err_and}
+use Rattle.world_core.specs.Refusing.{refusal}
+use Rattle.world_core.specs.Turning.{IsTurned, MayTurn, Tells}
 use Rattle.world_core.specs.Zones.{home_change}
 use Rattle.world_core.specs.declared.setup.Setup.TheInside.{Inside}
-use Rattle.world_core.proofs.ReadiedChanges.{IsReadied, binding_can_come, binding_readied, binding_turns, ground_with, tables_then}
-use Rattle.world_core.proofs.SetupTurns.{units_once}
+use Rattle.world_core.proofs.ReadiedChanges.{IsReadied, binding_can_come, binding_readied, binding_turns, ground_with, port_may_be_bound, tables_then}
 use Rattle.world_core.proofs.setup.Setup.bind.Goals as goal
 
 pub prepare-requires : goal.prepare-requires
 prepare-requires c =
+    let allowed_here =
+    port_may_be_bound c.args.self.now.ground c.args.number c.args.port c.args.chassis c.requires.may.0 c.requires.may.1 c.self.inside.ground (ap (λ (s : SetupView). s.ground) c.self.view_is)
+    (sym c.is_virtual_port.ensures ∙ c.if-not-is_virtual_port.false) (sym c.is_chassis.ensures ∙ c.if-not-is_chassis.false) in
     let start = ap (λ (i : Inside). i.ground) c.self-inside.view_is ∙ ap (λ (s : SetupView). s.ground) c.self.view_is in
     subst (λ (x : GroundView). IsHomeChange x.zones.homes c.in_ok-home_change.field-0) (sym start)
     (subst (λ (h : HomeChange). IsHomeChange c.args.self.now.ground.zones.homes h) (sym c.in_ok-home_change.ensures)
-    (binding_can_come c.args.self.now.ground c.args.number c.args.port c.args.chassis c.requires.may.0 c.requires.may.1))
+    (binding_can_come c.args.self.now.ground c.args.number c.args.port c.args.chassis c.requires.may.0 c.requires.may.1 (allowed_here)))
 
 -- what `prepare` asks for
 readied : (c : goal.After-as_slice) → IsReadied (ground_with c.self-inside.inside.0.0.records c.self-inside.inside.0.0.chassis c.self-inside.inside.0.0.keys c.prepare.new.self) (record { records = None; chassis = None; keys = None; zones = Some c.in_ok-zones.zones }) (units_of (at c.args.self.now.ground.config.net.switch_ports c.args.port) c.args.port)
 readied c =
+    let allowed =
+    port_may_be_bound c.args.self.now.ground c.args.number c.args.port c.args.chassis c.requires.may.0 c.requires.may.1 c.self.inside.ground (ap (λ (s : SetupView). s.ground) c.self.view_is)
+    (sym c.is_virtual_port.ensures ∙ c.if-not-is_virtual_port.false) (sym c.is_chassis.ensures ∙ c.if-not-is_chassis.false) in
     let g = c.args.self.now.ground in
     let start = ap (λ (i : Inside). i.ground) c.self-inside.view_is ∙ ap (λ (s : SetupView). s.ground) c.self.view_is in
     let rezoned : IsRezoned g.zones (home_change c.args.port c.args.chassis) c.in_ok-zones.zones =
@@ -36,7 +39,7 @@ readied c =
     (subst (λ (h : HomeChange). IsRezoned c.self-inside.inside.0.0.zones h c.in_ok-zones.zones) c.in_ok-home_change.ensures c.in_ok-zones.ensures.rezoned) in
     subst (λ (x : GroundView). IsReadied x (record { records = None; chassis = None; keys = None; zones = Some c.in_ok-zones.zones }) (units_of (at g.config.net.switch_ports c.args.port) c.args.port))
     (sym (ap (λ (z : Zoned). ground_with c.self-inside.inside.0.0.records c.self-inside.inside.0.0.chassis c.self-inside.inside.0.0.keys z) c.prepare.ensures.kept ∙ start))
-    (binding_readied g c.args.number c.args.port c.args.chassis c.requires.may.0 c.requires.may.1 c.in_ok-zones.zones rezoned g refl)
+    (binding_readied g c.args.number c.args.port c.args.chassis c.requires.may.0 c.requires.may.1 allowed c.in_ok-zones.zones rezoned g refl)
 
 -- the touched units
 touched_are : (c : goal.After-as_slice) → c.as_slice.result.now ≡ units_of (at c.args.self.now.ground.config.net.switch_ports c.args.port) c.args.port
@@ -50,11 +53,18 @@ prepare-requires-2-clause-fits c = (readied c).fits
 pub prepare-requires-2-clause-once : goal.prepare-requires-2-clause-once
 prepare-requires-2-clause-once c = (readied c).once
 
-pub prepare-requires-2-clause-units_once : goal.prepare-requires-2-clause-units_once
-prepare-requires-2-clause-units_once c = subst (λ l. EachOnce l) (sym (touched_are c)) (units_once (at c.args.self.now.ground.config.net.switch_ports c.args.port) c.args.port)
+pub prepare-requires-2-clause-tables : goal.prepare-requires-2-clause-tables
+prepare-requires-2-clause-tables c = (readied c).tables
 
 pub prepare-requires-2-clause-touched : goal.prepare-requires-2-clause-touched
-prepare-requires-2-clause-touched c = λ d among u apart. (readied c).touched_alone d among u (λ m. apart (subst (λ l. Among u l) (sym (touched_are c)) m))
+prepare-requires-2-clause-touched c = subst
+    (λ l. AreTouched (ground_with c.self-inside.inside.0.0.records c.self-inside.inside.0.0.chassis c.self-inside.inside.0.0.keys c.prepare.new.self) (changed (record { records = None; chassis = None; keys = None; zones = Some c.in_ok-zones.zones }) (ground_with c.self-inside.inside.0.0.records c.self-inside.inside.0.0.chassis c.self-inside.inside.0.0.keys c.prepare.new.self)) l)
+    (sym (touched_are c)) (readied c).touched_alone
+
+pub returns-in_err-push-clause-refused : goal.returns-in_err-push-clause-refused
+returns-in_err-push-clause-refused c =
+    let failed = err_from_is_err_and c.from_residual-in_err-push.result c.from_residual-in_err-push.ensures.1 in
+    rw failed.1 (λ m may. subst (λ f. Tells f (refusal m (event_of.Bind c.args.port c.args.chassis))) (sym failed.2) tt)
 
 pub returns-clause-turn : goal.returns-clause-turn
 returns-clause-turn c =
@@ -67,11 +77,14 @@ returns-clause-turn c =
     let start = ap (λ (i : Inside). i.ground) c.self-inside.view_is ∙ ap (λ (s : SetupView). s.ground) c.self.view_is in
     let rezoned : IsRezoned g.zones (home_change p chassis) zones =
     subst (λ (x : GroundView). IsRezoned x.zones (home_change p chassis) zones) start (subst (λ (h : HomeChange). IsRezoned c.self-inside.inside.0.0.zones h zones) c.in_ok-home_change.ensures c.in_ok-zones.ensures.rezoned) in
-    let bound : c.push.new.self ≡ (p, Some chassis) ∷ [] = c.in_ok-push.ensures.ok ∙ ap (λ (l : List (Name × Option Name)). l ++ (p, Some chassis) ∷ []) c.in_ok-turn.ensures.bound in
+    let bound : c.push.new.self ≡ (p, Some chassis) ∷ [] = c.in_ok-push.ensures.ok ∙ ap (λ (l : List (Name × Option Name)). l ++ (p, Some chassis) ∷ []) c.in_ok-turn.ensures.bare.bound in
+    let allowed : (m : State) → MayTurn g c.args.number (event_of.Bind p chassis) m → refusal m (event_of.Bind p chassis) ≡ None = λ m may.
+    port_may_be_bound g c.args.number p chassis m may c.self.inside.ground (ap (λ (s : SetupView). s.ground) c.self.view_is)
+    (sym c.is_virtual_port.ensures ∙ c.if-not-is_virtual_port.false) (sym c.is_chassis.ensures ∙ c.if-not-is_chassis.false) in
     record {
       patch = c.in_ok-turn.ensures.patch;
-      tables = tables_then _ g (ap (λ (z : Zoned). ground_with c.self-inside.inside.0.0.records c.self-inside.inside.0.0.chassis c.self-inside.inside.0.0.keys z) c.prepare.ensures.kept ∙ start) turn.patch.change _ c.in_ok-turn.ensures.change turn.sim sim refl refl refl c.in_ok-turn.ensures.tables;
+      tables = tables_then _ g (ap (λ (z : Zoned). ground_with c.self-inside.inside.0.0.records c.self-inside.inside.0.0.chassis c.self-inside.inside.0.0.keys z) c.prepare.ensures.kept ∙ start) turn.patch.change _ c.in_ok-turn.ensures.change turn.sim sim refl refl refl c.in_ok-turn.ensures.turned;
       turned = λ m may.
           subst (λ ch. IsTurned m g.zones (event_of.Bind p chassis) turn.effects sim (changed ch g)) (sym c.in_ok-turn.ensures.change)
-          (binding_turns g c.args.number p chassis m may zones rezoned turn.effects c.in_ok-turn.ensures.effects sim bound c.in_ok-turn.ensures.names);
+          (binding_turns g c.args.number p chassis m may (allowed m may) zones rezoned turn.effects c.in_ok-turn.ensures.bare.effects sim bound c.in_ok-turn.ensures.bare.names);
     }

@@ -44,8 +44,8 @@ returns-clause-patch c =
       room = λ some. c.in_ok-reserve.ensures.ok;
     }
 
-pub returns-clause-tables : goal.returns-clause-tables
-returns-clause-tables c =
+pub returns-clause-turned : goal.returns-clause-turned
+returns-clause-turned c =
     let before = c.self.inside.ground in
     let after = changed c.args.change before in
     let over : ComesOver before.config.chassis c.args.come after.config.chassis = subst (λ (s : SetupView). ComesOver s.ground.config.chassis c.args.come (changed c.args.change s.ground).config.chassis) (sym c.self.view_is) c.requires.chassis in

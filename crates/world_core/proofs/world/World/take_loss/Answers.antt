@@ -1,11 +1,36 @@
-use Rattle.std.proofs.Common.{subst, ◌∙◌}
+use Rattle.std.proofs.Common.{◌≡◌, ◌+◌, ◌++◌, [], ap, None, refl, subst, true, sym, ◌∙◌}
 use Rattle.edit_reader.specs.declared.event.Event.TheVariants as event_of
-use Rattle.world_core.specs.StepParts.{IsDone}
-use Rattle.world_core.proofs.PacketEvents.{loss_done}
+use Rattle.event_lines.specs.Lines.{accepted_lines}
+use Rattle.net_model.specs.State.{event_count}
+use Rattle.world_core.specs.Inside.{seen_of}
+use Rattle.world_core.specs.Outcome.{IsAccepted}
+use Rattle.world_core.specs.Refusing.{no_frame}
+use Rattle.world_core.specs.WorldView.{IsSound, WorldView}
+use Rattle.world_core.proofs.PacketEvents.{counted_world, loss_taken, lost_world}
 use Rattle.world_core.proofs.world.World.take_loss.Goals as goal
+
+pub invariant_of-self-3 : goal.invariant_of-self-3
+invariant_of-self-3 c =
+    let old = c.args.self.now in
+    let n = c.from.result in
+    let lost : seen_of c.self-2.inside ≡ lost_world old n = c.self-2.view_is ∙ c.lose.ensures ∙ ap (λ (w : WorldView). lost_world w n) c.self.view_is in
+    let end : seen_of (record c.self-3.inside { whole = true }) ≡ counted_world (lost_world old n) [] =
+    ap (λ (w : WorldView). record w { whole = true }) (c.self-3.view_is ∙ c.finish.ensures) ∙ (λ i. counted_world (lost i) (c.clear.ensures i)) in
+    let allowed : no_frame old.state n ≡ None = ap (λ k. no_frame old.state k) c.from.ensures ∙ sym c.refusal_of_frame.ensures ∙ c.in_default.is in
+    let taken = loss_taken old n c.requires.sound c.requires.room allowed [] (accepted_lines (event_count old.state + 1) [] 0) refl in
+    record { sound = λ whole. subst (λ w. IsSound w) (sym end) taken.1 }
 
 pub returns : goal.returns
 returns c =
-    subst (λ n. IsDone c.args.self.now (event_of.Lose n) c.done_with.result.effects c.done_with.result.walks c.done_with.result.matched c.finish.new.self) c.from.ensures
-    (loss_done c.args.self.now c.from.result c.lose.new.self c.finish.new.self c.done_with.result.effects c.done_with.result.walks c.done_with.result.matched c.requires.taken c.requires.room c.lose.ensures c.finish.ensures
-    (c.done_with.ensures.effects ∙ c.new.ensures) c.done_with.ensures.walks c.done_with.ensures.matched)
+    let old = c.args.self.now in
+    let n = c.from.result in
+    let before = c.args.text.now.items in
+    let text = c.write_accepted.new.text.items in
+    let lost : seen_of c.self-2.inside ≡ lost_world old n = c.self-2.view_is ∙ c.lose.ensures ∙ ap (λ (w : WorldView). lost_world w n) c.self.view_is in
+    let end : seen_of (record c.self-3.inside { whole = true }) ≡ counted_world (lost_world old n) [] =
+    ap (λ (w : WorldView). record w { whole = true }) (c.self-3.view_is ∙ c.finish.ensures) ∙ (λ i. counted_world (lost i) (c.clear.ensures i)) in
+    let allowed : no_frame old.state n ≡ None = ap (λ k. no_frame old.state k) c.from.ensures ∙ sym c.refusal_of_frame.ensures ∙ c.in_default.is in
+    let lines : text ≡ before ++ accepted_lines (event_count old.state + 1) [] 0 = c.in_ok-write_accepted.ensures.ok ∙ ap (λ (w : WorldView). before ++ accepted_lines (event_count w.state + 1) [] 0) c.self.view_is in
+    let taken = loss_taken old n c.requires.sound c.requires.room allowed before text lines in
+    subst (λ w. IsAccepted old c.args.event.now before text w × IsSound w) (sym end)
+    (subst (λ e. IsAccepted old e before text (counted_world (lost_world old n) [])) (ap (λ k. event_of.Lose k) c.from.ensures ∙ sym c.requires.event) taken.0, taken.1)

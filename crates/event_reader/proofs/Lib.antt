@@ -1,5 +1,0 @@
--- Lemmas on reading.
-mod Counts
-mod Exits
-mod Lines
-mod Loops

@@ -1,9 +1,0 @@
--- Definitions that contracts cite.
-pub mod Outcomes
-pub mod Fields
-pub mod Grammars
-pub mod Vips
-pub mod Tables
-pub mod Records
-pub mod Operations
-pub mod Events

@@ -1,0 +1,259 @@
+-- A planned edit: what it does to the state, and that the state stays consistent.
+use Rattle.std.specs.Prelude.{◌≡◌, ◌<◌, ◌+◌, ◌^◌, ◌↔◌, ℕ, List, [], None, IsSome, map, option_map, true, refl}
+use Rattle.std.proofs.Common.{arith, sym, ap, subst, ◌∙◌, inl, inr}
+use Rattle.chassis_sim.specs.Settings.{set_in_turn}
+use Rattle.chassis_sim.specs.declared.change.SimChange.{SimChange}
+use Rattle.conn_zones.specs.Zoning.{Zoned}
+use Rattle.edit_reader.specs.Fitting.{IsEventInGrammar}
+use Rattle.edit_reader.specs.declared.event.Event.TheVariants as event_of
+use Rattle.nb_edits.specs.EditLeaves as edits
+use Rattle.nb_edits.specs.OpFaults.{fault_of}
+use Rattle.nb_edits.proofs.EditSoundness.{edit_sound}
+use Rattle.nb_edits.proofs.KeyEdits.{key_edit}
+use Rattle.nb_records.specs.Network.{Network}
+use Rattle.nb_records.specs.declared.change.Op.{Op}
+use Rattle.nb_edits.specs.declared.plan.EditPlan.{EditPlan}
+use Rattle.nb_rules.specs.Valid as rules
+use Rattle.net_model.specs.Owners.{owners_only_in}
+use Rattle.net_model.specs.State.{State, event_count, finished}
+use Rattle.net_model.specs.Transition.{still_bound}
+use Rattle.ovn_base.specs.declared.address.Birth.{Birth}
+use Rattle.ovn_base.specs.declared.name.Name.{Name}
+use Rattle.ovn_base.specs.lists.Among.{Among}
+use Rattle.ovn_base.specs.names.ByName.{at}
+use Rattle.ovn_base.specs.names.SameName.{same_name}
+use Rattle.ovn_base.proofs.ByNameLaws.{among_at}
+use Rattle.physical_flows.specs.Built.{IsBuilt}
+use Rattle.physical_flows.proofs.FlowSearch.{is_some_of, some_of}
+use Rattle.physical_flows.proofs.TouchedUnits.{IsSameBeside}
+use Rattle.physical_flows.specs.RecordKeys.{HaveKeys}
+use Rattle.physical_flows.specs.declared.unit.FlowUnit.{FlowUnit}
+use Rattle.physical_flows.specs.declared.unit.FlowUnit.TheVariants as unit
+use Rattle.sim_laws.proofs.PlainRecords.{plain_valid}
+use Rattle.sim_laws.specs.Consistent.{IsConsistent}
+use Rattle.sim_laws.specs.Sound.{AreBorn}
+use Rattle.switch_engine.specs.declared.effect.NetEffect.{NetEffect}
+use Rattle.tunnel_keys.proofs.Births.{born_later}
+use Rattle.tunnel_keys.specs.Causes.{HasKeys, IsCause}
+use Rattle.tunnel_keys.specs.Edits.{GivesKeys, IsAfter, IsKeyEdit}
+use Rattle.tunnel_keys.specs.Keys.{Keys, settled}
+use Rattle.tunnel_keys.specs.declared.fault.KeyFault.{KeyFault}
+use Rattle.tuple_space.specs.declared.space.TupleSpace.{TupleSpace}
+use Rattle.world_core.specs.Built.{is_built_edit}
+use Rattle.world_core.specs.Editing.{edited, next_net, Edits}
+use Rattle.world_core.specs.KeyCauses.{key_lack}
+use Rattle.world_core.specs.Ground.{ground_of}
+use Rattle.world_core.specs.KeyLines.{key_effects, key_name}
+use Rattle.world_core.specs.Refusing.{refusal}
+use Rattle.world_core.specs.Touched.{touched_by}
+use Rattle.world_core.specs.Turning.{IsPlannedEdit, IsTurned}
+use Rattle.world_core.specs.Untracked.{untracked}
+use Rattle.world_core.proofs.ComingOwners.{HasNoRouters}
+use Rattle.world_core.proofs.EditedKeys.{HasRecordsFrom, edited_born, edited_have, keys_of_records, own_place, port_number_same, switch_number_same, switch_number_stays}
+use Rattle.world_core.proofs.EditedNames.{AreNamesOf, names_listed, names_set}
+use Rattle.world_core.proofs.EditedRecords.{edited_built}
+use Rattle.world_core.proofs.StayingOwners.{bindings_stay, none_gone}
+use Rattle.world_core.proofs.StayingRecords.{port_births, ports_stay, switch_births, switches_stay}
+use Rattle.world_core.proofs.TouchedRecords.{port_kept, port_with_switch, switch_kept}
+use Rattle.world_core.proofs.EditedWaiting.{edit_kept}
+use Rattle.world_core.proofs.FreedKeys.{counted, finished_consistent}
+use Rattle.world_core.proofs.KeyLacks.{IsLack, datapaths_after, enough_keys, lack_is}
+use Rattle.world_core.proofs.NewKeys.{given_beside}
+use Rattle.world_core.proofs.RecordChanges.{bound_kept}
+use Rattle.world_core.proofs.RefusedTurns.{edit_allowed}
+use Rattle.world_core.proofs.WaitingFrames.{AreKept, frames_same, way_on}
+
+-- where there are only switches and plain ports, there are no routers
+pub no_routers : (net : Network) → rules.IsValid net → IsBuilt net → HasNoRouters net
+no_routers net valid built = record { order = valid.in_order; routers = ap (λ (w : Network). w.routers) built.others; router_ports = ap (λ (w : Network). w.router_ports) built.others }
+
+-- ---- what an edit leaves that is built and has no fault
+
+module _ (m : State) (zones : Zoned) (old : IsConsistent m zones) (ops : List Op) (grammar : IsEventInGrammar (event_of.Edit ops)) (built : is_built_edit ops ≡ true) (faultless : fault_of m.config.net ops (event_count m + 1) ≡ None) where
+  abbrev before : Network
+  before = m.config.net
+
+  abbrev leaves : Network
+  leaves = next_net m ops
+
+  pub edit_sound_then : edits.IsSound before ops (event_count m + 1)
+  edit_sound_then = edit_sound before ops (event_count m + 1) old.valid grammar.each faultless
+
+  pub edit_built_then : IsBuilt leaves
+  edit_built_then = edited_built before ops (event_count m + 1) old.built built edit_sound_then.valid
+
+  pub edit_records_from : HasRecordsFrom before leaves
+  edit_records_from = record {
+    switches = switches_stay before ops (event_count m + 1) old.valid grammar.each faultless built;
+    ports = ports_stay before ops (event_count m + 1) old.valid grammar.each faultless built;
+    before = no_routers before old.valid old.built;
+    after = no_routers leaves edit_sound_then.valid edit_built_then;
+  }
+
+  pub edit_owns : edits.AreKeysOf before (event_count m + 1) m.keys
+  edit_owns = keys_of_records before m.keys old.keys edit_records_from.before (event_count m) (event_count m + 1) (omega arith) old.born.keys
+
+  pub edit_fits : IsKeyEdit m.keys (owners_only_in leaves before) (owners_only_in before leaves)
+  edit_fits = key_edit before leaves (event_count m + 1) m.keys old.valid edit_sound_then.valid edit_sound_then.owners edit_owns
+
+  -- which keys are lacking
+  pub edit_lack : (fault : KeyFault) → IsCause m.keys (owners_only_in leaves before) (owners_only_in before leaves) fault → IsLack fault (key_lack m.keys before leaves)
+  edit_lack fault cause = lack_is before leaves m.keys (datapaths_after before leaves (event_count m + 1) m.keys edit_owns edit_sound_then.valid) fault cause
+
+  pub edit_enough : HasKeys m.keys (owners_only_in leaves before) (owners_only_in before leaves) → key_lack m.keys before leaves ≡ None
+  edit_enough enough = enough_keys before leaves m.keys (datapaths_after before leaves (event_count m + 1) m.keys edit_owns edit_sound_then.valid) enough
+
+-- ---- a planned edit
+
+module _ (m : State) (zones : Zoned) (lists : m.lists ≡ untracked m.config) (old : IsConsistent m zones) (room : event_count m < 2 ^ 42) (ops : List Op) (grammar : IsEventInGrammar (event_of.Edit ops)) (plan : EditPlan) (keys : Keys)
+    (planned : IsPlannedEdit (ground_of m zones) (event_count m + 1) ops plan keys) where
+  abbrev net : Network
+  net = m.config.net
+
+  abbrev next : Network
+  next = next_net m ops
+
+  -- ---- records
+
+  pub sound : edits.IsSound net ops (event_count m + 1)
+  sound = edit_sound_then m zones old ops grammar planned.built planned.faultless
+
+  pub next_built : IsBuilt next
+  next_built = edit_built_then m zones old ops grammar planned.built planned.faultless
+
+  pub records_from : HasRecordsFrom net next
+  records_from = edit_records_from m zones old ops grammar planned.built planned.faultless
+
+  -- ---- keys
+
+  pub fits : IsKeyEdit m.keys (owners_only_in next net) (owners_only_in net next)
+  fits = edit_fits m zones old ops grammar planned.built planned.faultless
+
+  pub after : IsAfter m.keys (owners_only_in next net) (owners_only_in net next) keys
+  after = subst (λ owners. IsAfter m.keys owners (owners_only_in net next) keys) planned.stands.added (subst (λ owners. IsAfter m.keys plan.added owners keys) planned.stands.removed planned.after)
+
+  none : owners_only_in net next ≡ []
+  none = none_gone net ops (event_count m + 1) old.valid grammar.each planned.faultless planned.built old.built
+
+  pub gives : GivesKeys m.keys (owners_only_in next net) [] keys
+  gives = subst (λ owners. GivesKeys m.keys (owners_only_in next net) owners keys) none after.gives
+
+  pub have : HaveKeys next keys
+  have = edited_have net next m.keys keys old.keys after.hold gives records_from
+
+  -- no key is retired
+  pub unretired : settled keys ≡ keys
+  unretired = λ i. record keys { retired_datapaths = sym have.no_retired_datapaths i; retired_ports = sym have.no_retired_ports i }
+
+  -- ---- the state
+
+  abbrev pub mid : State
+  mid = edited m next keys
+
+  bindings_are : still_bound net next m.config.bindings ≡ m.config.bindings
+  bindings_are =
+      bindings_stay net ops (event_count m + 1) old.valid grammar.each planned.faultless planned.built m.config.bindings
+      (λ e among. old.bound.port_there e.0 e.1 (among_at e.0 e.1 m.config.bindings old.bound.bindings_sorted among))
+
+  pub mid_ground : ground_of mid zones ≡ record { config = record m.config { net = next }; keys = keys; zones = zones }
+  mid_ground = λ i. record { config = record m.config { net = next; bindings = bindings_are i }; keys = keys; zones = zones }
+
+  pub edits_so : (effects : List NetEffect) → effects ≡ key_effects plan.added keys → Edits m ops effects mid
+  edits_so effects named = record {
+    keys = keys;
+    rekeys = record { hold = after.hold; given = after.gives };
+    effects_are = named ∙ ap (λ owners. key_effects owners keys) planned.stands.added;
+    state = refl;
+  }
+
+  pub kept : AreKept m mid
+  kept = edit_kept m mid (owners_only_in next net) next keys (event_count m + 1) old.keys.hold after.hold gives (omega arith) records_from.before sound.owners refl refl
+
+  -- no record is younger than the event
+  born_then : AreBorn (counted mid)
+  born_then = record {
+    switches = λ a s is. elim (switch_births net ops (event_count m + 1) old.valid grammar.each planned.faultless a s is) [
+      | inl was ↦ let early = old.born.switches a was.0 was.1 in let same = ap (λ (b : Birth). b.0) was.2 in omega (arith, early, same)
+      | inr new ↦ omega (arith, new)
+    ];
+    ports = λ q p is. elim (port_births net ops (event_count m + 1) old.valid grammar.each planned.faultless q p is) [
+      | inl was ↦ let early = old.born.ports q was.0 was.1 in let same = ap (λ (b : Birth). b.0) was.2 in omega (arith, early, same)
+      | inr new ↦ omega (arith, new)
+    ];
+    keys = born_later keys (event_count m + 1) (event_count (counted mid)) (omega arith) (edited_born net next m.keys keys old.keys after.hold gives records_from (event_count m) (event_count m + 1) (omega arith) old.born.keys sound.owners);
+    none = λ h. absurd (omega (arith, h));
+  }
+
+  pub consistent_then : IsConsistent (finished mid) zones
+  consistent_then = finished_consistent mid zones (record {
+    valid = sound.valid;
+    built = next_built;
+    keys = have;
+    bound = bound_kept m (counted mid) zones old.bound bindings_are (λ q h. port_there q h) (λ c h. h) old.bound.chassis_sorted old.bound.few_chassis;
+    born = born_then;
+    on_the_way = way_on m (counted mid) old.born kept_then old.on_the_way refl refl (omega arith) (λ h. omega arith);
+    few = omega (arith, room);
+  })
+    where
+      port_there : (q : Name) → IsSome (at net.switch_ports q) → IsSome (at next.switch_ports q)
+      port_there q h =
+          let port = some_of (at net.switch_ports q) h in
+          let stays = records_from.ports q port.0 port.1 in
+          is_some_of (at next.switch_ports q) stays.0 stays.1
+
+      kept_then : AreKept m (counted mid)
+      kept_then = edit_kept m (counted mid) (owners_only_in next net) next keys (event_count m + 1) old.keys.hold after.hold gives (omega arith) records_from.before sound.owners refl refl
+
+  -- ---- nothing is refused
+
+  enough : HasKeys m.keys (owners_only_in next net) (owners_only_in net next)
+  enough = subst (λ owners. HasKeys m.keys owners (owners_only_in net next)) planned.stands.added (subst (λ owners. HasKeys m.keys plan.added owners) planned.stands.removed planned.enough)
+
+  pub allowed : refusal m (event_of.Edit ops) ≡ None
+  allowed = edit_allowed m ops planned.built planned.faultless (edit_enough m zones old ops grammar planned.built planned.faultless enough)
+
+  -- ---- units
+
+  module _ (units : List FlowUnit) (are : (u : FlowUnit) → Among u units ↔ Among u (touched_by net next ops)) where
+    same_switch : (a : Name) → (¬ Among (unit.Switch a) units) → at next.switches a ≡ at net.switches a
+    same_switch a out = switch_kept net ops (event_count m + 1) old.valid grammar.each planned.faultless a (λ t. out ((are (unit.Switch a)).1 t))
+
+    same_port : (q : Name) → (¬ Among (unit.Port q) units) → at next.switch_ports q ≡ at net.switch_ports q
+    same_port q out = port_kept net ops (event_count m + 1) old.valid grammar.each planned.faultless q (λ t. out ((are (unit.Port q)).1 t))
+
+    pub same_beside : IsSameBeside units net next m.keys keys
+    same_beside = record {
+      switches = same_switch;
+      datapaths = λ a out. switch_number_same net next m.keys keys old.keys after.hold gives records_from a (same_switch a out);
+      ports = same_port;
+      numbers = λ q out. port_number_same net next m.keys keys old.keys after.hold gives records_from q (ap (option_map own_place) (same_port q out));
+      beneath = λ q port out is.
+          let on = some_of (at net.switches port.switch) ((plain_valid net old.valid old.built).on_switch q port is) in
+          switch_number_stays net next m.keys keys old.keys after.hold gives records_from port.switch on.0 on.1;
+      on = λ q port in' is. (are (unit.Switch port.switch)).1 (port_with_switch net next ops q port ((are (unit.Port q)).0 in') is);
+    }
+
+  -- ---- the turn
+
+  are_names : (given : List (ℕ × ℕ × Name)) → given ≡ map (key_name keys) plan.added → AreNamesOf keys (owners_only_in next net) given
+  are_names given is =
+      subst (λ l. AreNamesOf keys (owners_only_in next net) l) (sym (is ∙ ap (λ owners. map (key_name keys) owners) planned.stands.added))
+      (names_listed m.keys keys (owners_only_in next net) (given_beside m.keys (owners_only_in next net) keys gives) (key_name keys) (λ a birth. refl) (λ d q birth. refl))
+
+  pub edit_turned : (effects : List NetEffect) → effects ≡ key_effects plan.added keys → (change : SimChange TupleSpace) → change.bound ≡ [] → change.names ≡ map (key_name keys) plan.added
+      → IsTurned m zones (event_of.Edit ops) effects change (record { config = record m.config { net = next }; keys = keys; zones = zones })
+  edit_turned effects named change bound names = record {
+    allowed = allowed;
+    mid = mid;
+    does = edits_so effects named;
+    ground = mid_ground;
+    consistent = consistent_then;
+    unretired = unretired;
+    zones = refl;
+    frames = frames_same m mid old.born kept old.keys.hold m.waiting old.on_the_way.crossings.may;
+    waiting = refl;
+    next = refl;
+    bindings = λ q. ap (λ l. set_in_turn same_name l q (at m.config.bindings q)) bound ∙ ap (λ l. at l q) (sym bindings_are);
+    names = λ before later called set.
+        names_set next m.keys keys (owners_only_in next net) change.names before later old.keys.hold have (given_beside m.keys (owners_only_in next net) keys gives) (are_names change.names names) set called;
+  }

@@ -1,0 +1,72 @@
+-- What is built of edits, kind by kind.
+use Rattle.std.specs.Prelude.{◌&&◌, Bool, true, false, not, List, [], ◌∷◌, Option, Some, None}
+use Rattle.nb_records.specs.Switches.{has_some, is_virtual}
+use Rattle.nb_records.specs.declared.change.Change.{Change}
+use Rattle.nb_records.specs.declared.change.Change.TheVariants as change
+use Rattle.nb_records.specs.declared.change.Op.{Op}
+use Rattle.nb_records.specs.declared.change.Op.TheVariants.{Add, Set, Remove, Health}
+use Rattle.nb_records.specs.declared.kinds.Kind.{Kind}
+use Rattle.nb_records.specs.declared.kinds.Kind.TheVariants as kind
+use Rattle.nb_records.specs.declared.record.Record.{Record}
+use Rattle.nb_records.specs.declared.record.Record.TheVariants as row
+use Rattle.nb_records.specs.declared.switch.SwitchPort.{SwitchPort}
+
+abbrev pub is_built_kind : Kind → Bool
+is_built_kind kind.Switch = true
+is_built_kind kind.Router = false
+is_built_kind kind.RouterPort = false
+is_built_kind kind.SwitchPort = true
+is_built_kind kind.AddressSet = true
+is_built_kind kind.PortGroup = true
+is_built_kind kind.Acl = false
+is_built_kind kind.Route = false
+is_built_kind kind.Nat = false
+is_built_kind kind.LoadBalancer = false
+is_built_kind kind.StaticMac = false
+
+-- a virtual port that is enabled, without port security
+abbrev pub is_built_port : SwitchPort → Bool
+is_built_port port = is_virtual port && port.enabled && not (has_some port.port_security)
+
+abbrev pub is_built_record : Record → Bool
+is_built_record (row.Switch switch) = true
+is_built_record (row.Router router) = false
+is_built_record (row.RouterPort port) = false
+is_built_record (row.SwitchPort port) = is_built_port port
+is_built_record (row.AddressSet set) = true
+is_built_record (row.PortGroup group) = true
+is_built_record (row.Acl rule) = false
+is_built_record (row.Route route) = false
+is_built_record (row.Nat row) = false
+is_built_record (row.LoadBalancer balancer) = false
+is_built_record (row.StaticMac row) = false
+
+-- it isn't given, or passes the test
+abbrev pub passes_if_given : {X : Type 0} → (X → Bool) → Option X → Bool
+passes_if_given test None = true
+passes_if_given test (Some x) = test x
+
+-- no port is disabled, or given port security
+abbrev pub is_built_change : Change → Bool
+is_built_change change.Switch = true
+is_built_change change.Router = false
+is_built_change (change.RouterPort mac networks peer) = false
+is_built_change (change.SwitchPort addresses port_security enabled) = passes_if_given (λ entries. not (has_some entries)) port_security && passes_if_given (λ b. b) enabled
+is_built_change (change.AddressSet addresses) = true
+is_built_change (change.PortGroup ports) = true
+is_built_change (change.Acl priority matching action) = false
+is_built_change (change.Route prefix nexthop) = false
+is_built_change (change.Nat external_ip logical_ip) = false
+is_built_change (change.LoadBalancer vips switches routers) = false
+is_built_change (change.StaticMac ip mac) = false
+
+abbrev pub is_built_op : Op → Bool
+is_built_op (Add record') = is_built_record record'
+is_built_op (Set k name c) = is_built_kind k && is_built_change c
+is_built_op (Remove k name) = false
+is_built_op (Health balancer backend online) = false
+
+-- each operation is
+abbrev pub is_built_edit : List Op → Bool
+is_built_edit [] = true
+is_built_edit (o ∷ ops) = is_built_op o && is_built_edit ops

@@ -1,0 +1,41 @@
+-- The units of flows that an edit touches.
+use Rattle.std.specs.Prelude.{◌++◌, List, [], ◌∷◌, Option, Some, None, flat_map}
+use Rattle.ovn_base.specs.declared.name.Name.{Name}
+use Rattle.ovn_base.specs.names.ByName.{at}
+use Rattle.nb_records.specs.Network.{Network, kind_of, name_of}
+use Rattle.nb_records.specs.declared.change.Op.{Op}
+use Rattle.nb_records.specs.declared.change.Op.TheVariants.{Add, Set, Remove, Health}
+use Rattle.nb_records.specs.declared.kinds.Kind.{Kind}
+use Rattle.nb_records.specs.declared.kinds.Kind.TheVariants as kind
+use Rattle.nb_records.specs.declared.switch.SwitchPort.{SwitchPort}
+use Rattle.physical_flows.specs.declared.unit.FlowUnit.{FlowUnit}
+use Rattle.physical_flows.specs.declared.unit.FlowUnit.TheVariants as unit
+
+-- the switch of a port, if the port is there
+abbrev pub switch_of : Option SwitchPort → List FlowUnit
+switch_of None = []
+switch_of (Some port) = unit.Switch port.switch ∷ []
+
+-- those of the record of this kind and name: its own, and with a port those of the switches that it was and is on
+abbrev pub units_named : Network → Network → Kind → Name → List FlowUnit
+units_named before after kind.Switch a = unit.Switch a ∷ []
+units_named before after kind.Router a = []
+units_named before after kind.RouterPort q = []
+units_named before after kind.SwitchPort q = unit.Port q ∷ switch_of (at before.switch_ports q) ++ switch_of (at after.switch_ports q)
+units_named before after kind.AddressSet s = []
+units_named before after kind.PortGroup g = []
+units_named before after kind.Acl r = []
+units_named before after kind.Route r = []
+units_named before after kind.Nat r = []
+units_named before after kind.LoadBalancer b = []
+units_named before after kind.StaticMac s = []
+
+-- those of the record that the operation names
+abbrev pub units_by : Network → Network → Op → List FlowUnit
+units_by before after (Add r) = units_named before after (kind_of r) (name_of r)
+units_by before after (Set k name change) = units_named before after k name
+units_by before after (Remove k name) = units_named before after k name
+units_by before after (Health balancer backend online) = []
+
+abbrev pub touched_by : Network → Network → List Op → List FlowUnit
+touched_by before after ops = flat_map (λ o. units_by before after o) ops
