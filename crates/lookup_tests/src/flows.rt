@@ -39,7 +39,24 @@ fn cube(asks: u32, wants: u32) -> Cube {
             cube.ip_proto = Bits::exactly(8, 17);
         }
         4 => cube.eth_src = Bits::exactly(48, wants),
-        _ => cube.at = Some(At::Tunnel),
+        5 => cube.at = Some(At::Tunnel),
+        6 => cube.in_port = Bits::exactly(16, wants),
+        7 => {
+            cube.in_port = Bits::exactly(16, wants);
+            cube.eth_src = Bits::exactly(48, wants);
+        }
+        8 => cube.out_port = Bits::exactly(16, wants),
+        9 => cube.next = Bits::exactly(32, wants),
+        10 => {
+            cube.dp = Bits::exactly(24, wants);
+            cube.next = Bits { value: 0, mask: 4 };
+        }
+        11 => cube.z_in = Bits::exactly(16, wants),
+        12 => cube.udp_dst = Bits::exactly(16, 52 + wants),
+        _ => {
+            cube.z_in = Bits::exactly(16, wants);
+            cube.udp_dst = Bits::exactly(16, 52 + wants);
+        }
     }
     cube
 }
@@ -60,10 +77,10 @@ pub fn flow(alloc: Global, row: &Row) -> Flow {
 fn regs(number: u32) -> Regs {
     Regs {
         dp: number,
-        in_port: 0,
-        out_port: 0,
-        next: 0,
-        z_in: 0,
+        in_port: number,
+        out_port: number,
+        next: number,
+        z_in: number,
         z_out: 0,
         z_dnat: 0,
         z_snat: 0,

@@ -22,11 +22,12 @@ impl Dice {
         if self.throw(2) == 0 { 8 } else { 14 }
     }
 
-    fn flow(&mut self, alloc: Global) -> Flow {
+    // A flow of one of so many masks.
+    fn flow(&mut self, alloc: Global, masks: u32) -> Flow {
         let table = self.table();
         let priority = if self.throw(2) == 0 { 100 } else { 200 };
         let rank = if self.throw(2) == 0 { 0 } else { 1 };
-        let asks = self.throw(6);
+        let asks = self.throw(masks);
         let wants = self.throw(3);
         let row = Row {
             table,
@@ -38,22 +39,22 @@ impl Dice {
         flow(alloc, &row)
     }
 
-    fn flows(&mut self, alloc: Global, many: usize) -> Result<List<Flow>, NoMemory> {
+    fn flows(&mut self, alloc: Global, masks: u32, many: usize) -> Result<List<Flow>, NoMemory> {
         let mut flows = List::new(alloc);
         for _ in 0..many {
-            flows.push(self.flow(alloc))?;
+            flows.push(self.flow(alloc, masks))?;
         }
         Ok(flows)
     }
 }
 
 // The answers of a run as one number. In each round a flow comes, eleven go if they are there, and a packet asks.
-fn run<T: Lookup>(alloc: Global, held: &mut T, rounds: u32) -> Result<u32, NoMemory> {
+fn run<T: Lookup>(alloc: Global, held: &mut T, masks: u32, rounds: u32) -> Result<u32, NoMemory> {
     let mut dice = Dice(1);
     let mut told: u32 = 0;
     for _ in 0..rounds {
-        let comes = dice.flow(alloc);
-        let goes = dice.flows(alloc, 11)?;
+        let comes = dice.flow(alloc, masks);
+        let goes = dice.flows(alloc, masks, 11)?;
         change(held, comes, goes)?;
         let table = dice.table();
         let number = if dice.throw(2) == 0 { 1 } else { 2 };
@@ -99,7 +100,7 @@ fn falling<T: Lookup>(alloc: Global, held: &mut T) -> Result<[Option<(u16, u8)>;
 #[test]
 fn the_list_answers_as_told(rt: HostRuntime) -> Result<(), Fail> {
     let mut list = Tables::new(rt.alloc())?;
-    let told = run(rt.alloc(), &mut list, 300)?;
+    let told = run(rt.alloc(), &mut list, 6, 300)?;
     assert_eq!(rt; (told, count(&list, 100)), (602_776_310, 9));
     Ok(())
 }
@@ -107,8 +108,18 @@ fn the_list_answers_as_told(rt: HostRuntime) -> Result<(), Fail> {
 #[test]
 fn the_classifier_answers_as_the_list(rt: HostRuntime) -> Result<(), Fail> {
     let mut masks = TupleSpace::new(rt.alloc())?;
-    let told = run(rt.alloc(), &mut masks, 300)?;
+    let told = run(rt.alloc(), &mut masks, 6, 300)?;
     assert_eq!(rt; (told, count(&masks, 100)), (602_776_310, 9));
+    Ok(())
+}
+
+#[test]
+fn among_many_masks_the_classifier_answers_as_the_list(rt: HostRuntime) -> Result<(), Fail> {
+    let mut list = Tables::new(rt.alloc())?;
+    let told = run(rt.alloc(), &mut list, 14, 600)?;
+    let mut masks = TupleSpace::new(rt.alloc())?;
+    let same = run(rt.alloc(), &mut masks, 14, 600)?;
+    assert_eq!(rt; (same, count(&masks, 200)), (told, count(&list, 200)));
     Ok(())
 }
 

@@ -223,3 +223,7 @@ pub get_shown : (es : List (Vec ℕ Global × Bunch)) (i : ℕ) (k : Vec ℕ Glo
 get_shown [] i k b h = absurd (none-some (k, b) h)
 get_shown (x ∷ es) zero k b h = ap (λ (y : Vec ℕ Global × Bunch). Some (y.0.items, y.1)) (same_Some x (k, b) h)
 get_shown (x ∷ es) (suc i) k b h = get_shown es i k b h
+
+pub shown_len : (es : List (Vec ℕ Global × Bunch)) → length (bunches_of es) ≡ length es
+shown_len [] = refl
+shown_len (e ∷ es) = ap (λ n. suc n) (shown_len es)

@@ -11,3 +11,4 @@ pub mod MaskLaws
 pub mod LookLaws
 pub mod EachLaws
 pub mod ClearLaws
+pub mod SieveLaws

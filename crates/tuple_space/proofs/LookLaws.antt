@@ -1,5 +1,5 @@
 -- The answer to a look-up, turn by turn.
-use Rattle.std.specs.Prelude.{◌≡◌, ◌<◌, ◌⊎◌, ℕ, List, [], ◌∷◌, Option, Some, None, IfNone, IfSome, length, take, drop, slice_get, refl}
+use Rattle.std.specs.Prelude.{◌≡◌, ◌<◌, ◌⊎◌, ◌%◌, ℕ, List, [], ◌∷◌, Option, Some, None, IfNone, IfSome, length, take, drop, slice_get, refl}
 use Rattle.std.proofs.Common.{get_or}
 use mathlib.Core.Path.{sym, ap, subst, ◌∙◌}
 use mathlib.Core.Logic.{inl, inr}
@@ -16,13 +16,15 @@ use Rattle.flow_table.specs.declared.flow.Flow.{Flow}
 use Rattle.flow_table.specs.Matching.{Matches, Beats, IsBest, NoneMatches}
 use Rattle.tuple_space.specs.declared.mask.Mask.{Mask}
 use Rattle.tuple_space.specs.declared.turn.Turn.{Turn}
-use Rattle.tuple_space.specs.Masks.{cube_mask, values_wanted, values_under}
+use Rattle.tuple_space.specs.declared.sieve.Sieve.{Sieve}
+use Rattle.tuple_space.specs.Masks.{cube_mask, field_values, values_wanted, values_under}
+use Rattle.tuple_space.specs.Sieving.{HasBit, IsLetIn, bit_of}
 use Rattle.tuple_space.specs.Bunches.{Bunch, IsFalling, flows_in, flows_under, AreBunches, IsBetter}
 use Rattle.tuple_space.specs.Turns.{IsUnder, IsByBound, HasTurn, turns_of}
-use Rattle.tuple_space.specs.Space.{mask_number, AreFiled, first_under}
+use Rattle.tuple_space.specs.Space.{mask_number, AreFiled, AreLetThrough, first_under}
 use Rattle.tuple_space.proofs.BunchLaws.{under_in, in_under}
 use Rattle.tuple_space.proofs.FallLaws.{not_through}
-use Rattle.tuple_space.proofs.MaskLaws.{fits_key}
+use Rattle.tuple_space.proofs.MaskLaws.{fits_all, fits_key}
 use Rattle.tuple_space.proofs.NumberLaws.{number_get}
 use Rattle.tuple_space.proofs.RankLaws.{ranked_from}
 
@@ -101,6 +103,24 @@ module _ (masks : List Mask) (tables : List (ℕ × List Turn)) (bunches : List 
 
       by : (o : Option Mask) → slice_get masks number ≡ o → IsAnswerOf (λ g. number ≡ mask_number masks (cube_mask g.cube)) (flows_in bunches) table regs packet (option_map_or (λ m. slice_get (flows_under bunches (table ∷ number ∷ values_under m regs packet)) 0) o None)
       by None none = λ g held is match. let r = in_under bunches law.keys g held in let k = filed r.0 g r.1 in none-some (cube_mask g.cube) (sym none ∙ ap (λ n. slice_get masks n) is ∙ number_get masks (cube_mask g.cube) k.1.known)
+      by (Some m) at = first m at (flows_under bunches (table ∷ number ∷ values_under m regs packet)) refl
+
+  -- a mask that isn't let through answers nothing
+  pub left_out : (sieves : List (ℕ × Sieve)) (number passed : ℕ) → AreLetThrough masks sieves bunches → ((bit : ℕ) → bit < 128 → IsLetIn sieves table (field_values regs packet) bit → HasBit passed bit) → ¬ HasBit passed (bit_of number) → first_under masks bunches table number regs packet ≡ None
+  left_out sieves number passed lets all out = by (slice_get masks number) refl
+    where
+      first : (m : Mask) → slice_get masks number ≡ Some m → (fs : List Flow) → flows_under bunches (table ∷ number ∷ values_under m regs packet) ≡ fs → slice_get fs 0 ≡ None
+      first m at [] none = refl
+      first m at (f ∷ fs) some =
+          let key = table ∷ number ∷ values_under m regs packet in
+          let there_f : Among f (flows_under bunches key) = subst (λ l. Among f l) (sym some) here in
+          let is : mask_number masks (cube_mask f.cube) ≡ number = sym (ap (λ l. get_or l 1 0) (filed key f there_f).0) in
+          let match = under_match number m f at there_f in
+          let through = lets key f there_f (field_values regs packet) ((fits_all f.cube regs packet).0 match.fits).1 in
+          absurd (out (all (bit_of number) (let small : number % 128 < 128 = omega arith in small) (subst (λ n. IsLetIn sieves table (field_values regs packet) (bit_of n)) is (subst (λ t. IsLetIn sieves t (field_values regs packet) (bit_of (mask_number masks (cube_mask f.cube)))) match.in_table through))))
+
+      by : (o : Option Mask) → slice_get masks number ≡ o → option_map_or (λ m. slice_get (flows_under bunches (table ∷ number ∷ values_under m regs packet)) 0) o None ≡ None
+      by None none = refl
       by (Some m) at = first m at (flows_under bunches (table ∷ number ∷ values_under m regs packet)) refl
 
   module _ (turns : List Turn) (all : turns ≡ turns_of tables table) where

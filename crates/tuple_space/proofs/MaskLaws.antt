@@ -13,14 +13,7 @@ use Rattle.inet_packet.specs.declared.regs.At.{At}
 use Rattle.inet_packet.specs.declared.regs.At.TheVariants.{Tunnel, Local}
 use Rattle.inet_packet.specs.declared.regs.Regs.{Regs}
 use Rattle.inet_packet.specs.Fits.{BitsFit, EntryFits, CubeFits}
-use Rattle.tuple_space.specs.Masks.{cube_bits, field_values, is_open, one_asked, one_wanted, each_field, masked, entry_numbers, wanted_entry, entry_under, cube_mask, values_wanted, values_under}
-
--- the value of each field fits
-abbrev pub AllFit : List Bits → List ℕ → Type 0
-AllFit [] [] = Unit {0}
-AllFit [] (x ∷ xs) = ⊥
-AllFit (b ∷ bs) [] = ⊥
-AllFit (b ∷ bs) (x ∷ xs) = BitsFit b x × AllFit bs xs
+use Rattle.tuple_space.specs.Masks.{cube_bits, field_values, AllFit, is_open, one_asked, one_wanted, each_field, masked, entry_numbers, wanted_entry, entry_under, cube_mask, values_wanted, values_under}
 
 and_zero : (n : ℕ) → bit_and n 0 ≡ 0
 and_zero n = search rules
@@ -63,7 +56,7 @@ unfolding cube_bits field_values
 same_many cube regs packet = refl
 
 -- a cube holds a packet where the entry and all fields fit
-fits_all : (cube : Cube) (regs : Regs) (packet : Packet) → CubeFits cube regs packet ↔ (EntryFits cube.at regs.at × AllFit (cube_bits cube) (field_values regs packet))
+pub fits_all : (cube : Cube) (regs : Regs) (packet : Packet) → CubeFits cube regs packet ↔ (EntryFits cube.at regs.at × AllFit (cube_bits cube) (field_values regs packet))
 unfolding cube_bits field_values
 fits_all cube regs packet = (
   λ h. (h.entry, (h.place.dp_fits, (h.place.in_port_fits, (h.place.out_port_fits, (h.place.next_fits, (h.zones.z_in_fits, (h.zones.z_out_fits, (h.zones.z_dnat_fits, (h.zones.z_snat_fits, (h.state.state_fits, (h.state.verdict_fits, (h.state.tier_fits, (h.state.flags_fits, (h.ether.eth_src_fits, (h.ether.eth_dst_fits, (h.ether.eth_type_fits, (h.ip.ip4_src_fits, (h.ip.ip4_dst_fits, (h.ip.ip_proto_fits, (h.ip.ip_ttl_fits, (h.ports.tcp_src_fits, (h.ports.tcp_dst_fits, (h.ports.udp_src_fits, (h.ports.udp_dst_fits, (h.icmp.icmp4_type_fits, (h.icmp.icmp4_code_fits, (h.arp.arp_op_fits, (h.arp.arp_spa_fits, (h.arp.arp_tpa_fits, (h.arp.arp_sha_fits, (h.arp.arp_tha_fits, tt))))))))))))))))))))))))))))))),

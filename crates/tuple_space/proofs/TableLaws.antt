@@ -14,7 +14,7 @@ use Rattle.tuple_space.specs.declared.turn.Turn.{Turn}
 use Rattle.tuple_space.specs.Turns.{IsByBound, HasTurn, turns_of, tables_of, AreByBound}
 use Rattle.tuple_space.proofs.MapLaws.{lookup_shown, set_shown, insert_shown, at_write, at_push, everywhere}
 
-nat_own : (n : ℕ) → nat_eq n n ≡ true
+pub nat_own : (n : ℕ) → nat_eq n n ≡ true
 nat_own n = (Decides-eqb n n).1 refl
 
 abbrev pub turns_there : Option (List Turn) → List Turn

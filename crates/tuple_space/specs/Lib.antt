@@ -3,4 +3,5 @@ pub mod Masks
 pub mod Ranked
 pub mod Bunches
 pub mod Turns
+pub mod Sieving
 pub mod Space

@@ -7,6 +7,7 @@ use Rattle.inet_packet.specs.declared.packet.Packet.{Packet}
 use Rattle.inet_packet.specs.declared.regs.At.{At}
 use Rattle.inet_packet.specs.declared.regs.At.TheVariants.{Tunnel, Local}
 use Rattle.inet_packet.specs.declared.regs.Regs.{Regs}
+use Rattle.inet_packet.specs.Fits.{BitsFit}
 use Rattle.inet_packet.specs.Fields.{ether_type, ip4_src, ip4_dst, ip_proto, ip_ttl, tcp_src, tcp_dst, udp_src, udp_dst, icmp4_type, icmp4_code, arp_op, arp_spa, arp_tpa, arp_sha, arp_tha}
 use Rattle.tuple_space.specs.declared.mask.Asked.{Asked}
 use Rattle.tuple_space.specs.declared.mask.Mask.{Mask}
@@ -18,6 +19,13 @@ cube_bits cube = cube.dp ∷ cube.in_port ∷ cube.out_port ∷ cube.next ∷ cu
 -- what the registers and the packet have in each field
 unfoldable pub field_values : Regs → Packet → List ℕ
 field_values regs packet = regs.dp ∷ regs.in_port ∷ regs.out_port ∷ regs.next ∷ regs.z_in ∷ regs.z_out ∷ regs.z_dnat ∷ regs.z_snat ∷ regs.state ∷ regs.verdict ∷ regs.tier ∷ regs.flags.0 ∷ mac_number packet.src ∷ mac_number packet.dst ∷ ether_type packet.body ∷ ip4_src packet.body ∷ ip4_dst packet.body ∷ ip_proto packet.body ∷ ip_ttl packet.body ∷ tcp_src packet.body ∷ tcp_dst packet.body ∷ udp_src packet.body ∷ udp_dst packet.body ∷ icmp4_type packet.body ∷ icmp4_code packet.body ∷ arp_op packet.body ∷ arp_spa packet.body ∷ arp_tpa packet.body ∷ arp_sha packet.body ∷ arp_tha packet.body ∷ []
+
+-- the value of each field fits
+abbrev pub AllFit : List Bits → List ℕ → Type 0
+AllFit [] [] = Unit {0}
+AllFit [] (x ∷ xs) = ⊥
+AllFit (b ∷ bs) [] = ⊥
+AllFit (b ∷ bs) (x ∷ xs) = BitsFit b x × AllFit bs xs
 
 -- nothing is asked for
 abbrev pub is_open : Bits → Bool

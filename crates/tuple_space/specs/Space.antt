@@ -11,14 +11,17 @@ use Rattle.flow_table.specs.Change.{IsDeltaOf}
 use Rattle.tuple_space.specs.declared.mask.Asked.{Asked}
 use Rattle.tuple_space.specs.declared.mask.Mask.{Mask}
 use Rattle.tuple_space.specs.declared.turn.Turn.{Turn}
-use Rattle.tuple_space.specs.Masks.{cube_mask, values_wanted, values_under}
+use Rattle.tuple_space.specs.declared.sieve.Sieve.{Sieve}
+use Rattle.tuple_space.specs.Masks.{cube_bits, cube_mask, values_wanted, values_under, AllFit}
 use Rattle.tuple_space.specs.Bunches.{Bunch, flows_in, flows_under, promised_under}
 use Rattle.tuple_space.specs.Turns.{HasTurn, turns_of}
+use Rattle.tuple_space.specs.Sieving.{bit_of, IsLetIn}
 
--- the masks, each at its number, the turns of each table, and the flows by key
+-- the masks, each at its number, the turns of each table, the sieves of tables, and the flows by key
 pub record Space : Type 0 where
   pub masks : List Mask
   pub turns : List (ℕ × List Turn)
+  pub sieves : List (ℕ × Sieve)
   pub bunches : List (List ℕ × Bunch)
 
 abbrev pub same_asked : Asked → Asked → Bool
@@ -51,13 +54,22 @@ pub record IsServed (masks : List Mask) (turns : List (ℕ × List Turn)) (f : F
 abbrev pub AreFiled : List Mask → List (ℕ × List Turn) → List (List ℕ × Bunch) → Type 0
 AreFiled masks turns bunches = (key : List ℕ) (f : Flow) → Among f (flows_under bunches key) → (key ≡ key_in masks f) × IsServed masks turns f f.priority f.rank
 
+-- the sieve of the flow's table lets the flow's mask through wherever all fields of its cube fit
+abbrev pub IsLetThrough : List Mask → List (ℕ × Sieve) → Flow → Type 0
+IsLetThrough masks sieves f = (xs : List ℕ) → AllFit (cube_bits f.cube) xs → IsLetIn sieves f.table xs (bit_of (mask_number masks (cube_mask f.cube)))
+
+-- no flow is left out by a sieve
+abbrev pub AreLetThrough : List Mask → List (ℕ × Sieve) → List (List ℕ × Bunch) → Type 0
+AreLetThrough masks sieves bunches = (key : List ℕ) (f : Flow) → Among f (flows_under bunches key) → IsLetThrough masks sieves f
+
 -- no mask asks for more fields than there are
 abbrev pub AreFew : List Mask → Type 0
 AreFew masks = (m : Mask) → Among m masks → length m.asks ≤ 30
 
 -- what always holds
-pub record IsSpace (masks : List Mask) (turns : List (ℕ × List Turn)) (bunches : List (List ℕ × Bunch)) : Type 0 where
+pub record IsSpace (masks : List Mask) (turns : List (ℕ × List Turn)) (sieves : List (ℕ × Sieve)) (bunches : List (List ℕ × Bunch)) : Type 0 where
   pub filed : AreFiled masks turns bunches
+  pub let_through : AreLetThrough masks sieves bunches
   pub few : AreFew masks
 
 -- how many of the flows belong at the key

@@ -1,12 +1,18 @@
 //! The flows of one mask with the same values.
-ghost use Rattle.std.specs.Prelude.{◌≡◌, ◌↔◌, ◌⊎◌, ◌+◌, ◌<◌, ◌≤◌, [], length, take, drop, slice_get, IsTrue, OnOk, OnErr};
+ghost use Rattle.std.specs.Prelude.{◌≡◌, ◌↔◌, ◌⊎◌, ◌+◌, ◌<◌, ◌≤◌, ℕ, List, [], length, take, drop, slice_get, IsTrue, OnOk, OnErr};
 ghost use Rattle.std.specs.Option.{option_copied};
 ghost use Rattle.ovn_base.specs.lists.Among.{Among};
 ghost use Rattle.ovn_base.specs.lists.Once.{EachOnce};
 ghost use Rattle.flow_table.specs.declared.flow.Flow.{Flow};
 ghost use Rattle.flow_table.specs.Matching.{Beats};
 ghost use Rattle.tuple_space.specs.Bunches.{IsFalling};
+ghost use Rattle.tuple_space.specs.Masks.{cube_bits, cube_mask};
+ghost use Rattle.tuple_space.specs.Sieving.{bit_of, IsLet, IsLetWhole};
+ghost use Rattle.tuple_space.specs.Space.{mask_number};
 
+use crate::mask::Mask;
+use crate::number::note_in;
+use crate::sieve::Sieve;
 use flow_table::exact::exact_flow;
 use flow_table::flow::Flow;
 use flow_table::matching::beats;
@@ -78,6 +84,16 @@ impl Bucket {
         ensures { IsTrue result ↔ ((self.now.flows ≡ []) × (self.now.promised ≡ 0)) }
     {
         self.flows.is_empty() && self.promised == 0
+    }
+
+    /// Marks the masks of the flows of the table in its sieve.
+    pub fn note_all(&self, masks: &[Mask], table: u8, sieve: &mut Sieve)
+        ensures kept { (xs : List ℕ) (b : ℕ) → IsLet sieve.old xs b → IsLet sieve.new xs b }
+        ensures noted { (f : Flow) → Among f self.now.flows → f.table ≡ table → IsLetWhole sieve.new (cube_bits f.cube) (bit_of (mask_number masks.now (cube_mask f.cube))) }
+    {
+        for flow in &self.flows {
+            note_in(sieve, masks, table, flow);
+        }
     }
 
     /// Makes room for one flow more than was promised. The flows stay, also without memory.

@@ -6,8 +6,13 @@ ghost use Rattle.std.specs.Option.{option_copied};
 ghost use Rattle.ovn_base.specs.lists.Among.{Among};
 ghost use Rattle.flow_table.specs.declared.flow.Flow.{Flow};
 ghost use Rattle.tuple_space.specs.Bunches.{flows_in, flows_under, promised_under, AreBunches, bunches_of};
+ghost use Rattle.tuple_space.specs.Masks.{cube_bits, cube_mask};
+ghost use Rattle.tuple_space.specs.Sieving.{bit_of, IsLetWhole};
+ghost use Rattle.tuple_space.specs.Space.{mask_number};
 
 use crate::bucket::Bucket;
+use crate::mask::Mask;
+use crate::sieve::Sieve;
 use flow_table::flow::Flow;
 use indexmap::IndexMap;
 use ovn_base::memory::NoMemory;
@@ -82,6 +87,34 @@ impl Buckets {
         ensures { option_copied result ≡ slice_get (flows_in self.now) index }
     {
         flow_in(&self.places, index)
+    }
+
+    /// How many buckets there are.
+    pub fn len(&self) -> usize {
+        self.places.len()
+    }
+
+    /// How many flows the table has.
+    pub fn len_of(&self, table: u8) -> usize {
+        let mut many: usize = 0;
+        for (key, bucket) in self.places.iter() {
+            if key.first() == Some(&u64::from(table)) {
+                many = many.saturating_add(bucket.len());
+            }
+        }
+        many
+    }
+
+    /// Marks the masks of all flows of the table in its sieve.
+    pub fn note_all(&self, masks: &[Mask], table: u8, sieve: &mut Sieve)
+        ensures { (f : Flow) → Among f (flows_in self.now) → f.table ≡ table → IsLetWhole sieve.new (cube_bits f.cube) (bit_of (mask_number masks.now (cube_mask f.cube))) }
+    {
+        for i in 0..self.places.len() {
+            match self.places.get_index(i) {
+                Some((_, bucket)) => bucket.note_all(masks, table, sieve),
+                None => unreachable!(),
+            }
+        }
     }
 
     /// Puts a flow in, where room was promised. No memory is taken.

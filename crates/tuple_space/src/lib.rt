@@ -4,8 +4,11 @@
 mod bucket;
 mod buckets;
 mod fields;
+mod marks;
 mod mask;
 mod number;
+mod sieve;
+mod sieves;
 pub mod space;
 mod turn;
 mod turn_list;

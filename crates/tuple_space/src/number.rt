@@ -1,11 +1,13 @@
 //! The numbers of masks, and where flows belong.
-ghost use Rattle.std.specs.Prelude.{◌≡◌, ◌<◌, ◌≤◌, IfOk, length};
+ghost use Rattle.std.specs.Prelude.{◌≡◌, ◌<◌, ◌≤◌, ℕ, List, IfOk, length};
 ghost use Rattle.tuple_space.specs.declared.mask.Mask.{Mask};
-ghost use Rattle.tuple_space.specs.Masks.{cube_mask};
+ghost use Rattle.tuple_space.specs.Masks.{cube_bits, cube_mask};
+ghost use Rattle.tuple_space.specs.Sieving.{bit_of, IsLet, IsLetWhole};
 ghost use Rattle.tuple_space.specs.Space.{same_mask, mask_number, key_in, AreFew};
 
 use crate::fields::bits_of;
 use crate::mask::{Asked, Key, Mask, asks_of, write_wanted};
+use crate::sieve::Sieve;
 use flow_table::flow::Flow;
 use ovn_base::list::List;
 use ovn_base::memory::NoMemory;
@@ -58,4 +60,18 @@ pub fn write_key(masks: &[Mask], flow: &Flow, key: &mut Key) -> usize
     let number = number_of(masks, asks.as_slice(), flow.cube.at.is_some());
     write_wanted(flow.table, number, &bits, &flow.cube.at, key);
     number
+}
+
+/// Marks the flow's mask in the sieve of the table, if the flow is of this table.
+pub fn note_in(sieve: &mut Sieve, masks: &[Mask], table: u8, flow: &Flow)
+    ensures kept { (xs : List ℕ) (b : ℕ) → IsLet sieve.old xs b → IsLet sieve.new xs b }
+    ensures noted { flow.now.table ≡ table → IsLetWhole sieve.new (cube_bits flow.now.cube) (bit_of (mask_number masks.now (cube_mask flow.now.cube))) }
+{
+    if flow.table != table {
+        return;
+    }
+    let bits = bits_of(&flow.cube);
+    let asks = asks_of(&bits);
+    let number = number_of(masks, asks.as_slice(), flow.cube.at.is_some());
+    sieve.note(number, &bits);
 }

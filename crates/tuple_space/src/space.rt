@@ -8,12 +8,18 @@ ghost use Rattle.std.specs.Option.{option_copied};
 ghost use Rattle.flow_table.specs.Matching.{IsBest, NoneMatches};
 ghost use Rattle.tuple_space.specs.Masks.{field_values};
 ghost use Rattle.tuple_space.specs.Bunches.{flows_in, promised_under, IsBetter};
+ghost use Rattle.tuple_space.specs.Sieving.{HasBit, IsLetIn};
 ghost use Rattle.tuple_space.specs.Space.{key_in, IsServed, IsSpaceReady, count_under, first_under};
+
+mod each;
 
 use crate::buckets::Buckets;
 use crate::fields::{bits_of, values_of};
+use crate::marks::{bit_for, has_bit};
 use crate::mask::{Key, Mask, asks_of, write_masked};
 use crate::number::{number_for, write_key};
+use crate::sieve::Sieve;
+use crate::sieves::Sieves;
 use crate::turns::Turns;
 use flow_table::flow::Flow;
 use flow_table::lookup::Lookup;
@@ -26,11 +32,15 @@ use ovn_base::memory::NoMemory;
 use std::alloc::Global;
 use std::marker::Model;
 
+// A table with no more masks than this has no sieve.
+const FEW: usize = 8;
+
 /// Flows by table, mask and values, each once. A look-up asks the masks of its table in the order of their bounds.
 #[derive(Drop)]
 pub struct TupleSpace {
     masks: Vec<Mask>,
     turns: Turns,
+    sieves: Sieves,
     buckets: Buckets,
 }
 
@@ -39,9 +49,9 @@ impl Model for TupleSpace {
 
     ghost Value = { Space };
 
-    ghost view = { λ s. record { masks = s.masks.items; turns = s.turns; bunches = s.buckets } };
+    ghost view = { λ s. record { masks = s.masks.items; turns = s.turns; sieves = s.sieves; bunches = s.buckets } };
 
-    ghost invariant = { λ s. IsSpace s.masks.items s.turns s.buckets };
+    ghost invariant = { λ s. IsSpace s.masks.items s.turns s.sieves s.buckets };
 }
 
 impl TupleSpace {
@@ -52,6 +62,7 @@ impl TupleSpace {
         Ok(TupleSpace {
             masks: Vec::new(alloc),
             turns: Turns::new(alloc),
+            sieves: Sieves::new(alloc),
             buckets: Buckets::new(alloc),
         })
     }
@@ -94,6 +105,27 @@ impl TupleSpace {
         self.buckets.hold();
     }
 
+    // Makes the table's sieve anew, of all flows that are held, for so many more.
+    fn sift(&mut self, table: u8, coming: usize) -> Result<(), NoMemory>
+        ensures masks { self.new.masks ≡ self.old.masks }
+        ensures turns { self.new.turns ≡ self.old.turns }
+        ensures bunches { self.new.bunches ≡ self.old.bunches }
+    {
+        let alloc = *self.masks.allocator();
+        let masks = self.masks.as_slice();
+        let flows = self.buckets.len_of(table).saturating_add(coming);
+        let more = self.buckets.len() / 8;
+        let mut sieve = Sieve::new(alloc, masks, self.turns.of(table), flows, more)?;
+        self.buckets.note_all(masks, table, &mut sieve);
+        self.sieves.set(table, sieve)
+    }
+
+    // Whether the table wants a sieve for so many flows more, and has none.
+    fn wants_sieve(&self, table: u8, coming: usize) -> bool {
+        let masks = self.turns.of(table).len();
+        FEW < masks && self.sieves.is_small(table, masks, coming)
+    }
+
     // Puts a flow in whose mask has a number and a turn, where room was promised.
     fn put(&mut self, flow: Flow)
         requires served { IsServed self.old.masks self.old.turns flow 0 0 }
@@ -109,57 +141,9 @@ impl TupleSpace {
         self.buckets.hold();
         self.turns
             .raise(flow.table, number, flow.priority, flow.rank);
+        self.sieves.note(flow.table, number, &bits_of(&flow.cube));
         self.buckets.put(key.as_slice(), flow);
         self.buckets.hold();
-    }
-
-    // Gives the mask of each flow a number and a turn.
-    fn serve_each(&mut self, flows: &[Flow]) -> Result<(), NoMemory>
-        ensures served { OnOk result ((f : Flow) → Among f flows.now → IsServed self.new.masks self.new.turns f 0 0) }
-        ensures bunches { self.new.bunches ≡ self.old.bunches }
-    {
-        for flow in flows {
-            self.serve(flow)?;
-        }
-        Ok(())
-    }
-
-    // Makes room for each flow.
-    fn promise_each(&mut self, flows: &[Flow]) -> Result<(), NoMemory>
-        ensures masks { self.new.masks ≡ self.old.masks }
-        ensures turns { self.new.turns ≡ self.old.turns }
-        ensures flows { flows_in self.new.bunches ≡ flows_in self.old.bunches }
-        ensures room { OnOk result ((k : List ℕ) → count_under self.old.masks k flows.now ≤ promised_under self.new.bunches k) }
-    {
-        for flow in flows {
-            self.promise(flow)?;
-        }
-        Ok(())
-    }
-
-    // Takes the flows out.
-    fn take_out_each(&mut self, flows: &[Flow])
-        ensures masks { self.new.masks ≡ self.old.masks }
-        ensures turns { self.new.turns ≡ self.old.turns }
-        ensures kept { (f : Flow) → Among f (flows_in self.new.bunches) ↔ (Among f (flows_in self.old.bunches) × ¬ Among f flows.now) }
-        ensures promised { (k : List ℕ) → promised_under self.new.bunches k ≡ promised_under self.old.bunches k }
-    {
-        for flow in flows {
-            self.take_out(flow);
-        }
-    }
-
-    // Puts flows in that aren't held, and for which all is ready.
-    fn put_each(&mut self, flows: List<Flow>)
-        requires once { EachOnce flows }
-        requires served { (f : Flow) → Among f flows → IsServed self.old.masks self.old.turns f 0 0 }
-        requires room { (k : List ℕ) → count_under self.old.masks k flows ≤ promised_under self.old.bunches k }
-        requires fresh { (f : Flow) → Among f flows → ¬ Among f (flows_in self.old.bunches) }
-        ensures { (f : Flow) → Among f (flows_in self.new.bunches) ↔ (Among f flows ⊎ Among f (flows_in self.old.bunches)) }
-    {
-        for flow in flows {
-            self.put(flow);
-        }
     }
 
     // The first of the flows that match under the mask of this number.
@@ -170,17 +154,34 @@ impl TupleSpace {
         regs: &Regs,
         packet: &Packet,
         values: &[u64; 30],
+        passed: u128,
         key: &mut Key,
     ) -> Option<&Flow>
-        requires { values.now ≡ field_values regs.now packet.now }
+        requires values { values.now ≡ field_values regs.now packet.now }
+        requires passed { (bit : ℕ) → bit < 128 → IsLetIn self.now.sieves table values.now bit → HasBit passed bit }
         ensures { option_copied result ≡ first_under self.now.masks self.now.bunches table number regs.now packet.now }
     {
+        self.buckets.hold();
+        if !has_bit(passed, bit_for(number)) {
+            return None;
+        }
         match mask_at(self.masks.as_slice(), number) {
             Some(mask) => {
                 write_masked(table, number, mask, values, &regs.at, key);
                 self.buckets.first(key.as_slice())
             }
             None => None,
+        }
+    }
+
+    // The masks of the table, so many, that are let through where the fields have these values.
+    fn passed(&self, table: u8, masks: usize, values: &[u64; 30]) -> u128
+        ensures { (bit : ℕ) → bit < 128 → IsLetIn self.now.sieves table values.now bit → HasBit result bit }
+    {
+        if masks <= FEW {
+            u128::MAX
+        } else {
+            self.sieves.passed(table, values)
         }
     }
 
@@ -191,15 +192,17 @@ impl TupleSpace {
     {
         self.buckets.hold();
         let values = values_of(regs, packet);
+        let turns = self.turns.of(table);
+        let passed = self.passed(table, turns.len(), &values);
         let mut key = Key::new();
         let mut best: Option<&Flow> = None;
-        for turn in self.turns.of(table) {
+        for turn in turns {
             if let Some(held) = best {
                 if !turn.is_above(held) {
                     return best;
                 }
             }
-            let found = self.ask(table, turn.number, regs, packet, &values, &mut key);
+            let found = self.ask(table, turn.number, regs, packet, &values, passed, &mut key);
             best = better(best, found);
         }
         best
@@ -237,7 +240,8 @@ impl Lookup for TupleSpace {
 
     fn prepare(&mut self, delta: &Delta<Flow>) -> Result<(), NoMemory> {
         self.serve_each(delta.added.as_slice())?;
-        self.promise_each(delta.added.as_slice())
+        self.promise_each(delta.added.as_slice())?;
+        self.sift_each(delta.added.as_slice())
     }
 
     fn replace(&mut self, delta: Delta<Flow>) {

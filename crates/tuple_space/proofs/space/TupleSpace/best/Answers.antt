@@ -17,12 +17,12 @@ returns-then-not-is_above-clause-found c =
     let ms = c.self.inside.masks.items in
     let ts = c.self.inside.turns in
     let bs = c.self.inside.buckets in
-    let items = c.of-turn-items.result.now in
+    let items = c.of-turns.result.now in
     let i = c.loop-turn.turn-index in
     let so : IsAnswerOf (HasOneOf ms (take i items)) (flows_in bs) c.args.table c.args.regs.now c.args.packet.now (option_copied c.loop-turn.best) = subst (λ v. IsAnswerOf (HasOneOf v.masks (take i items)) (flows_in v.bunches) c.args.table c.args.regs.now c.args.packet.now (option_copied c.loop-turn.best)) (sym c.self.view_is) c.loop-turn.invariant in
     let u = get_or items i (record { number = 0; priority = 0; rank = 0 }) in
     let held : IsBestOf (HasOneOf ms (take i items)) (flows_in bs) c.args.table c.args.regs.now c.args.packet.now c.in-Some.held.now = subst (λ o. IsAnswerOf (HasOneOf ms (take i items)) (flows_in bs) c.args.table c.args.regs.now c.args.packet.now (option_copied o)) c.in-Some.is so in
-    let best = answer_stops ms ts bs c.self.invariant.filed c.hold.ensures c.args.table c.args.regs.now c.args.packet.now items c.of-turn-items.ensures.turns i (record { number = 0; priority = 0; rank = 0 }) u c.in-Some.held.now c.of-turn-items.ensures.order c.loop-turn-test.true refl (λ h. false≢true (sym c.if-not-is_above.true ∙ c.is_above.ensures.1 h)) held in
+    let best = answer_stops ms ts bs c.self.invariant.filed c.hold.ensures c.args.table c.args.regs.now c.args.packet.now items c.of-turns.ensures.turns i (record { number = 0; priority = 0; rank = 0 }) u c.in-Some.held.now c.of-turns.ensures.order c.loop-turn-test.true refl (λ h. false≢true (sym c.if-not-is_above.true ∙ c.is_above.ensures.1 h)) held in
     subst (λ o. IfSome o (λ f. IsBest (flows_in c.args.self.now.bunches) c.args.table c.args.regs.now c.args.packet.now f.now)) (sym c.in-Some.is) (subst (λ v. IsBest (flows_in v.bunches) c.args.table c.args.regs.now c.args.packet.now c.in-Some.held.now) c.self.view_is best)
 
 pub loop-turn-preserved : goal.loop-turn-preserved
@@ -30,7 +30,7 @@ loop-turn-preserved c =
     let ms = c.self.inside.masks.items in
     let ts = c.self.inside.turns in
     let bs = c.self.inside.buckets in
-    let items = c.of-turn-items.result.now in
+    let items = c.of-turns.result.now in
     let i = c.loop-turn.turn-index in
     let so : IsAnswerOf (HasOneOf ms (take i items)) (flows_in bs) c.args.table c.args.regs.now c.args.packet.now (option_copied c.loop-turn.best) = subst (λ v. IsAnswerOf (HasOneOf v.masks (take i items)) (flows_in v.bunches) c.args.table c.args.regs.now c.args.packet.now (option_copied c.loop-turn.best)) (sym c.self.view_is) c.loop-turn.invariant in
     let d : Turn = record { number = 0; priority = 0; rank = 0 } in
@@ -47,11 +47,11 @@ returns-clause-found c =
     let ms = c.self.inside.masks.items in
     let ts = c.self.inside.turns in
     let bs = c.self.inside.buckets in
-    let items = c.of-turn-items.result.now in
+    let items = c.of-turns.result.now in
     let i = c.loop-turn.turn-index in
     let so : IsAnswerOf (HasOneOf ms (take i items)) (flows_in bs) c.args.table c.args.regs.now c.args.packet.now (option_copied c.loop-turn.best) = subst (λ v. IsAnswerOf (HasOneOf v.masks (take i items)) (flows_in v.bunches) c.args.table c.args.regs.now c.args.packet.now (option_copied c.loop-turn.best)) (sym c.self.view_is) c.loop-turn.invariant in
     let all : IsAnswerOf (HasOneOf ms items) (flows_in bs) c.args.table c.args.regs.now c.args.packet.now (option_copied c.loop-turn.best) = subst (λ l. IsAnswerOf (HasOneOf ms l) (flows_in bs) c.args.table c.args.regs.now c.args.packet.now (option_copied c.loop-turn.best)) (take_all i items c.loop-turn-test.false) so in
-    let whole = answer_all ms ts bs c.self.invariant.filed c.hold.ensures c.args.table c.args.regs.now c.args.packet.now items c.of-turn-items.ensures.turns (option_copied c.loop-turn.best) all in
+    let whole = answer_all ms ts bs c.self.invariant.filed c.hold.ensures c.args.table c.args.regs.now c.args.packet.now items c.of-turns.ensures.turns (option_copied c.loop-turn.best) all in
     subst (λ v. IfSome c.loop-turn.best (λ f. IsBest (flows_in v.bunches) c.args.table c.args.regs.now c.args.packet.now f.now)) c.self.view_is (answer_found (flows_in bs) c.args.table c.args.regs.now c.args.packet.now c.loop-turn.best whole)
 
 pub returns-clause-none : goal.returns-clause-none
@@ -59,9 +59,9 @@ returns-clause-none c =
     let ms = c.self.inside.masks.items in
     let ts = c.self.inside.turns in
     let bs = c.self.inside.buckets in
-    let items = c.of-turn-items.result.now in
+    let items = c.of-turns.result.now in
     let i = c.loop-turn.turn-index in
     let so : IsAnswerOf (HasOneOf ms (take i items)) (flows_in bs) c.args.table c.args.regs.now c.args.packet.now (option_copied c.loop-turn.best) = subst (λ v. IsAnswerOf (HasOneOf v.masks (take i items)) (flows_in v.bunches) c.args.table c.args.regs.now c.args.packet.now (option_copied c.loop-turn.best)) (sym c.self.view_is) c.loop-turn.invariant in
     let all : IsAnswerOf (HasOneOf ms items) (flows_in bs) c.args.table c.args.regs.now c.args.packet.now (option_copied c.loop-turn.best) = subst (λ l. IsAnswerOf (HasOneOf ms l) (flows_in bs) c.args.table c.args.regs.now c.args.packet.now (option_copied c.loop-turn.best)) (take_all i items c.loop-turn-test.false) so in
-    let whole = answer_all ms ts bs c.self.invariant.filed c.hold.ensures c.args.table c.args.regs.now c.args.packet.now items c.of-turn-items.ensures.turns (option_copied c.loop-turn.best) all in
+    let whole = answer_all ms ts bs c.self.invariant.filed c.hold.ensures c.args.table c.args.regs.now c.args.packet.now items c.of-turns.ensures.turns (option_copied c.loop-turn.best) all in
     subst (λ v. IfNone c.loop-turn.best (NoneMatches (flows_in v.bunches) c.args.table c.args.regs.now c.args.packet.now)) c.self.view_is (answer_none (flows_in bs) c.args.table c.args.regs.now c.args.packet.now c.loop-turn.best whole)

@@ -6,4 +6,4 @@ use Rattle.tuple_space.proofs.space.TupleSpace.best.Given as goal
 
 -- the best of the flows whose masks were asked
 abbrev pub invariant-loop-turn : goal.invariant-loop-turn
-invariant-loop-turn l = IsAnswerOf (HasOneOf l.self.masks (take l.turn-index l.turn-items)) (flows_in l.self.bunches) l.table l.regs l.packet (option_copied l.best)
+invariant-loop-turn l = IsAnswerOf (HasOneOf l.self.masks (take l.turn-index l.turns)) (flows_in l.self.bunches) l.table l.regs l.packet (option_copied l.best)
