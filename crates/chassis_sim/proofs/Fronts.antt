@@ -1,5 +1,5 @@
 -- Lists that stand at the front of others.
-use Rattle.std.specs.Prelude.{◌≡◌, List, [], ◌∷◌, ◌++◌, Result, Ok, Err, OnOk, OnErr, IfOk, refl}
+use Rattle.std.specs.Prelude.{◌≡◌, List, [], ◌∷◌, ◌++◌, Result, Ok, Err, OnOk, OnErr, IfOk}
 use Rattle.std.proofs.Common.{sym, ◌∙◌, append-nil}
 use Rattle.chassis_sim.specs.declared.out.SimOut.{SimOut}
 use Rattle.chassis_sim.specs.Passing.{IsFront, KeepsOut}
@@ -19,6 +19,11 @@ ok_map (Err e) f p = tt
 pub if_ok_map : {X E : Type 0} {P Q : X → Type 0} (result : Result X E) → ((x : X) → P x → Q x) → IfOk result P → IfOk result Q
 if_ok_map (Ok x) f p = f x p
 if_ok_map (Err e) f p = tt
+
+-- what holds of a value at `Ok`, and what else does
+pub if_ok_both : {X E : Type 0} (P Q : X → Type 0) (result : Result X E) → IfOk result P → IfOk result Q → IfOk result (λ x. P x × Q x)
+if_ok_both P Q (Ok x) p q = (p, q)
+if_ok_both P Q (Err e) p q = tt
 
 -- what was told stands at its own front
 pub keeps_out : (out : SimOut) → KeepsOut out out

@@ -5,7 +5,8 @@ use Rattle.std.specs.Map.{keys_of, lookup, set_value}
 use Rattle.std.specs.Option.{option_map}
 use Rattle.std.proofs.Common.{sym, ap, subst, ◌∙◌, get_or, arith, drop-cons}
 use Rattle.std.proofs.lemmas.List.{take-append-drop}
-use Rattle.std.proofs.lemmas.Option.{none-some, same_Some}
+use Rattle.std.proofs.lemmas.Bool.{false≢true}
+use Rattle.std.proofs.lemmas.Option.{same_Some}
 use Rattle.ovn_base.specs.lists.Among.{Among, here, there}
 use Rattle.ovn_base.specs.lists.Once.{EachOnce}
 use Rattle.ovn_base.specs.names.SameName.{same_name, bytes_decides}
@@ -34,6 +35,16 @@ module _ {T X : Type 0} (f : T → X) where
       by true found ih = ap (λ x. (e.0, x) ∷ map (seen_by f) es) (same ∙ ap f (sym (same_Some e.1 old found)))
       by false found ih = ap (λ rest. (e.0, f e.1) ∷ rest) (ih found same)
 
+  -- a value that is written is seen where it was
+  pub seen_written : (test : Name → Bool) (es : List (Name × T)) (new : T) → map (seen_by f) (set_value test es new) ≡ set_value test (map (seen_by f) es) (f new)
+  seen_written test [] new = refl
+  seen_written test (e ∷ es) new = by (test e.0) (seen_written test es new)
+    where
+      by : (b : Bool) → map (seen_by f) (set_value test es new) ≡ set_value test (map (seen_by f) es) (f new)
+          → map (seen_by f) (cond b ((e.0, new) ∷ es) (e ∷ set_value test es new)) ≡ cond b ((e.0, f new) ∷ map (seen_by f) es) ((e.0, f e.1) ∷ set_value test (map (seen_by f) es) (f new))
+      by true ih = refl
+      by false ih = ap (λ rest. (e.0, f e.1) ∷ rest) ih
+
   -- of a value that is found, and of none
   pub seen_found : (es : List (Name × T)) (name : Name) (t : T) → at_name es name ≡ Some t → at_name (map (seen_by f) es) name ≡ Some (f t)
   seen_found es name t found = seen_lookup (same_name name) es ∙ ap (option_map f) found
@@ -60,6 +71,24 @@ module _ {K V : Type 0} (same : K → K → Bool) where
   set_append (s ∷ ss) rest key had = set_append ss rest key (cond (same s.0 key) s.1 had)
 
 module _ {X : Type 0} where
+  -- the same names stand there after a value is written
+  pub written_some : (test other : Name → Bool) (es : List (Name × X)) (new : X) → is_some (lookup other (set_value test es new)) ≡ is_some (lookup other es)
+  written_some test other [] new = refl
+  written_some test other (e ∷ es) new = by (test e.0) (written_some test other es new)
+    where
+      by : (b : Bool) → is_some (lookup other (set_value test es new)) ≡ is_some (lookup other es)
+          → is_some (lookup other (cond b ((e.0, new) ∷ es) (e ∷ set_value test es new))) ≡ is_some (cond (other e.0) (Some e.1) (lookup other es))
+      by true ih = both (other e.0)
+        where
+          both : (d : Bool) → is_some (cond d (Some new) (lookup other es)) ≡ is_some (cond d (Some e.1) (lookup other es))
+          both true = refl
+          both false = refl
+      by false ih = rest (other e.0)
+        where
+          rest : (d : Bool) → is_some (cond d (Some e.1) (lookup other (set_value test es new))) ≡ is_some (cond d (Some e.1) (lookup other es))
+          rest true = refl
+          rest false = ih
+
   -- a name that isn't there is found nowhere
   pub none_named : (es : List (Name × X)) (name : Name) → ¬ Among name (keys_of es) → at_name es name ≡ None
   none_named [] name absent = refl
@@ -109,3 +138,12 @@ split_at xs i x below is = sym (take-append-drop i xs) ∙ ap (λ l. take i xs +
 -- what is found is some
 pub is_found : {X : Type 0} (found : Option X) (x : X) → found ≡ Some x → is_some found ≡ true
 is_found found x is = ap is_some is
+
+-- what is there on both sides or on neither
+pub not_both : {A B : Type 0} (a : Option A) (b : Option B) (x : B) → is_some a ≡ is_some b → a ≡ None → b ≡ Some x → ⊥
+not_both a b x same none found = false≢true (sym (ap is_some none) ∙ same ∙ ap is_some found)
+
+-- what is seen of a value, is there where the value is
+pub map_some : {A B : Type 0} (f : A → B) (o : Option A) → is_some (option_map f o) ≡ is_some o
+map_some f None = refl
+map_some f (Some x) = refl

@@ -1,18 +1,12 @@
 -- What the frames between chassis carry.
 use Rattle.std.specs.Prelude.{◌≡◌, ◌<◌, ◌^◌, ℕ, List}
-use Rattle.std.specs.List.{AllByRecursion}
 use Rattle.inet_packet.specs.declared.packet.Packet.{Packet}
 use Rattle.inet_packet.specs.Frame.{frame_of}
 use Rattle.inet_packet.specs.Whole.{IsWhole}
-use Rattle.flow_table.specs.declared.flow.Flow.{Flow}
 use Rattle.geneve_frames.specs.Meaning.{Spells, canon}
-use Rattle.switch_engine.specs.declared.effect.Effect.{Effect}
-use Rattle.switch_engine.specs.declared.effect.Effect.TheVariants.{Out, Frame, Drop, Lost}
 use Rattle.switch_engine.specs.declared.effect.Entry.{Entry}
 use Rattle.switch_engine.specs.declared.effect.Entry.TheVariants.{Vif, Tunnel}
-use Rattle.switch_engine.specs.declared.walk.Step.{Step}
-use Rattle.switch_engine.specs.Proper.{IsProper, IsEntry}
-use Rattle.switch_engine.specs.Walk.{IsWalkOf}
+use Rattle.switch_engine.specs.Proper.{IsEntry}
 use Rattle.chassis_sim.specs.declared.underlay.WaitingFrame.{WaitingFrame}
 
 -- the bytes are a Geneve frame with these keys, in which the frame of the packet lies
@@ -47,20 +41,3 @@ pub record IsWaiting (next : ℕ) (entry : ℕ × WaitingFrame) : Type 0 where
 abbrev pub Brings : List ℕ → Entry → Packet → Type 0
 Brings bytes (Vif port) packet = ⊥
 Brings bytes (Tunnel vni in_key out_key) packet = Carries bytes vni in_key out_key packet × IsEntry (Tunnel vni in_key out_key)
-
--- a packet that is sent is whole, and its keys fit into the header
-abbrev pub CanBeSent : Effect → Type 0
-CanBeSent (Out port packet) = Unit {0}
-CanBeSent (Frame chassis vni in_key out_key packet) = (vni < 2 ^ 24) × (in_key < 2 ^ 15) × IsWhole packet
-CanBeSent (Drop vni port cause) = Unit {0}
-CanBeSent Lost = Unit {0}
-
--- so are all frames of each walk of a whole packet through proper tables
-abbrev pub WalksCanBeSent : Type 0
-WalksCanBeSent =
-    (flows : List Flow) (entry : Entry) (now : ℕ) (packet : Packet) (steps : List Step) (effects : List Effect)
-    → IsProper flows
-    → IsEntry entry
-    → IsWhole packet
-    → IsWalkOf flows entry now packet steps effects
-    → AllByRecursion CanBeSent effects

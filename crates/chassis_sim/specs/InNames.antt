@@ -6,7 +6,7 @@ use Rattle.ovn_base.specs.declared.name.Name.{Name}
 use Rattle.inet_packet.specs.Frame.{frame_of}
 use Rattle.geneve_frames.specs.Meaning.{canon}
 use Rattle.switch_engine.specs.declared.effect.Effect.{Effect}
-use Rattle.switch_engine.specs.declared.effect.Effect.TheVariants.{Out, Frame, Drop, Lost}
+use Rattle.switch_engine.specs.declared.effect.Effect.TheVariants.{Out, Frame, Drop, PickBackend, PickPort, Lost}
 use Rattle.switch_engine.specs.declared.effect.NetEffect.{NetEffect}
 use Rattle.switch_engine.specs.declared.effect.NetEffect.TheVariants as net
 use Rattle.switch_engine.specs.declared.walk.Start.{Start}
@@ -28,6 +28,8 @@ abbrev pub in_names : List (KeyPair × Name) → Name → Start → ℕ → Effe
 in_names names chassis from next (Out port packet) = net.Out port packet
 in_names names chassis from next (Frame to vni in_key out_key packet) = net.Tunnel next chassis to (canon vni in_key out_key (frame_of packet))
 in_names names chassis from next (Drop vni port cause) = net.Drop (name_of names vni 0) (name_of names vni port) cause
+in_names names chassis from next (PickBackend vni vip backend) = net.PickBackend (name_of names vni 0) vip backend
+in_names names chassis from next (PickPort vni port) = net.PickPort (name_of names vni 0) port
 in_names names chassis from next Lost = net.Lost (arrived_as from)
 
 -- the number of the next frame after the effect
@@ -35,6 +37,8 @@ abbrev pub next_after : ℕ → Effect → ℕ
 next_after next (Out port packet) = next
 next_after next (Frame to vni in_key out_key packet) = next + 1
 next_after next (Drop vni port cause) = next
+next_after next (PickBackend vni vip backend) = next
+next_after next (PickPort vni port) = next
 next_after next Lost = next
 
 -- all effects in names: their frames take the next numbers in order
@@ -51,6 +55,8 @@ next_after_all next (effect ∷ effects) = next_after_all (next_after next effec
 abbrev pub sent_by : NetEffect → List (ℕ × WaitingFrame)
 sent_by (net.DatapathKey name key) = []
 sent_by (net.PortKey name key) = []
+sent_by (net.PickBackend datapath vip backend) = []
+sent_by (net.PickPort router port) = []
 sent_by (net.Tunnel n from to bytes) = (n, record { to = to; bytes = bytes }) ∷ []
 sent_by (net.Out port packet) = []
 sent_by (net.Drop datapath port cause) = []

@@ -8,6 +8,7 @@ use Rattle.std.proofs.Math.Dec.{eqb as nat_eq}
 use Rattle.ovn_base.specs.declared.name.Name.{Name}
 use Rattle.ovn_base.specs.names.SameName.{same_name}
 use Rattle.flow_table.specs.declared.flow.Flow.{Flow}
+use Rattle.switch_engine.specs.Zones.{HeldZones, ZoneLists}
 use Rattle.chassis_sim.specs.declared.underlay.WaitingFrame.{WaitingFrame}
 
 -- a datapath key and a port key
@@ -18,6 +19,8 @@ KeyPair = ℕ × ℕ
 pub record SimState : Type 0 where
   -- the flows that each chassis holds
   pub chassis : List (Name × List Flow)
+  -- the connection lists of each of these chassis, under their numbers
+  pub zones : List (Name × ZoneLists)
   -- the chassis of each bound port
   pub bindings : List (Name × Name)
   -- the name of each pair of keys; at port key 0 that of the datapath itself
@@ -29,7 +32,7 @@ pub record SimState : Type 0 where
 
 -- no chassis, no binding, no name and no frame
 abbrev pub nothing_held : SimState
-nothing_held = record { chassis = []; bindings = []; names = []; waiting = []; next = 1 }
+nothing_held = record { chassis = []; zones = []; bindings = []; names = []; waiting = []; next = 1 }
 
 -- what stands under the name
 abbrev pub at_name : {X : Type 0} → List (Name × X) → Name → Option X
@@ -52,13 +55,16 @@ abbrev pub flow_at : SimState → Name → ℕ → Option Flow
 flow_at state chassis index = option_and_then (λ flows. slice_get flows index) (at_name state.chassis chassis)
 
 module _ (T : Type 0) where
-  -- the tables of each chassis, and for how much more there is room
+  -- the tables and the zones of each chassis, zones for chassis that come, and for how much more there is room
   pub record SimRoom : Type 0 where
     pub chassis : ℕ
+    pub zoned : ℕ
     pub bindings : ℕ
     pub names : ℕ
     -- what the tables have room for they say themselves
     pub tables : List (Name × T)
+    pub zones : List (Name × HeldZones)
+    pub fresh : List HeldZones
 
   -- what is seen of the simulated chassis
   pub record SimView : Type 0 where

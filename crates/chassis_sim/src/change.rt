@@ -5,16 +5,17 @@ use ovn_base::delta::Delta;
 use ovn_base::list::List;
 use ovn_base::name::Name;
 
-/// What comes to the chassis and what goes: first the deltas of tables are made, then chassis go, and then chassis come.
+/// What comes to the chassis and what goes: first the deltas of tables are made, then chassis go, then chassis come, and
+/// then zones are emptied.
 #[derive(Drop)]
 pub struct SimChange<T> {
-    /// The chassis that come, each with its tables. One that is there already gets these tables.
+    /// The chassis that come, each with its tables and without a zone. One that is there already gets these tables.
     pub added: List<(Name, T)>,
-    /// The chassis that go.
+    /// The chassis that go, with their zones.
     pub removed: List<Name>,
     /// How the tables of chassis change. No chassis stands twice; one that isn't held has no tables.
     pub tables: List<(Name, Delta<Flow>)>,
-    /// The zones that are emptied, by chassis and number. There are none yet, so nothing comes of it.
+    /// The zones that are emptied, by chassis and number. One that isn't there comes; on a chassis that isn't held nothing comes of it.
     pub emptied: List<(Name, u16)>,
     /// The ports that are bound to a chassis, or to none.
     pub bound: List<(Name, Option<Name>)>,

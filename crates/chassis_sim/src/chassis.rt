@@ -1,16 +1,19 @@
 //! The tables of each chassis, and values that are set under keys.
-ghost use Rattle.std.specs.Prelude.{◌≡◌, ◌≤◌, ◌<◌, ◌+◌, ℕ, Bool, false, cond, is_some, if◌then◌else◌, IsSome, OnOk, Some, None, length, map};
+ghost use Rattle.std.specs.Prelude.{◌≡◌, ◌≤◌, ◌<◌, ◌+◌, ℕ, Bool, false, cond, is_some, if◌then◌else◌, IsSome, IfOk, OnOk, Some, None, length, map};
+ghost use Rattle.std.specs.List.{AllByRecursion};
 ghost use Rattle.std.specs.Map.{keys_of, lookup};
 ghost use Rattle.indexmap.specs.IndexMap.{get, spare};
 ghost use Rattle.ovn_base.specs.declared.name.Name.{Name};
 ghost use Rattle.ovn_base.specs.lists.Once.{EachOnce};
 ghost use Rattle.ovn_base.specs.names.SameName.{same_name};
-ghost use Rattle.chassis_sim.specs.Changing.{AllAreDeltas, AreReady, AreReplaced, IsDeltaOfAny, IsReadyFor, given_name, gone, come};
+ghost use Rattle.chassis_sim.specs.Changing.{AllAreDeltas, AreReady, AreReplaced, IsDeltaOfAny, IsReadyFor, given_name, gone, come, without_zone, HasRoomFor, HaveRoom, IsFresh};
 ghost use Rattle.chassis_sim.specs.Settings.{AreSet};
 ghost use Rattle.chassis_sim.specs.State.{at_name, same_pair};
-ghost use Rattle.chassis_sim.specs.Tables.{flows_held};
+ghost use Rattle.chassis_sim.specs.Tables.{flows_held, zones_held};
 
+use crate::change::SimChange;
 use crate::names::Names;
+use crate::zones::{ZoneMap, fresh_zones, prepare_zones};
 use flow_table::flow::Flow;
 use flow_table::lookup::Lookup;
 use indexmap::IndexMap;
@@ -19,6 +22,7 @@ use ovn_base::list::List;
 use ovn_base::memory::NoMemory;
 use ovn_base::name::Name;
 use std::hash::Hash;
+use switch_engine::zones::Zones;
 
 // Makes the tables of the chassis ready for the delta, if it has any.
 fn prepare_one<T: Lookup>(
@@ -55,6 +59,31 @@ pub(crate) fn prepare_each<T: Lookup>(
     Ok(())
 }
 
+// Makes ready for what the change brings to chassis, and gives fresh zones for those that come. What is held stays.
+pub(crate) fn make_ready<T: Lookup>(
+    held: &mut IndexMap<Name, T>,
+    zones: &mut ZoneMap,
+    change: &SimChange<T>,
+) -> Result<List<Zones>, NoMemory>
+    requires once { EachOnce (keys_of change.now.tables) }
+    requires deltas { AllAreDeltas (flows_held T.flows held.old.entries) change.now.tables }
+    ensures flows { flows_held T.flows held.new.entries ≡ flows_held T.flows held.old.entries }
+    ensures lists { zones_held zones.new.entries ≡ zones_held zones.old.entries }
+    ensures room { OnOk result (length change.now.added ≤ spare held.new) }
+    ensures zoned { OnOk result (length change.now.added ≤ spare zones.new) }
+    ensures tables { OnOk result (AreReady T.ready held.new.entries change.now.tables) }
+    ensures zones { OnOk result (HaveRoom (length change.now.emptied) zones.new.entries change.now.emptied) }
+    ensures enough { IfOk result (λ fresh. length change.now.added ≤ length fresh) }
+    ensures fresh { IfOk result (λ fresh. AllByRecursion (IsFresh (length change.now.emptied)) fresh) }
+{
+    let alloc = *held.allocator();
+    held.reserve(change.added.len())?;
+    zones.reserve(change.added.len())?;
+    prepare_each(held, change.tables.as_slice())?;
+    prepare_zones(zones, change.emptied.as_slice())?;
+    fresh_zones(alloc, change.added.as_slice(), change.emptied.len())
+}
+
 // Changes the tables of the chassis by the delta, if it has any.
 fn replace_one<T: Lookup>(held: &mut IndexMap<Name, T>, name: &Name, delta: Delta<Flow>)
     requires { IsReadyFor T.ready delta (at_name held.old.entries name.now) }
@@ -83,23 +112,53 @@ pub(crate) fn replace_each<T: Lookup>(
     }
 }
 
-// Takes the chassis out.
-pub(crate) fn remove_each<T: Lookup + Drop>(held: &mut IndexMap<Name, T>, names: List<Name>)
+// Takes the chassis out, with their zones.
+pub(crate) fn remove_each<T: Lookup + Drop>(
+    held: &mut IndexMap<Name, T>,
+    zones: &mut ZoneMap,
+    names: List<Name>,
+)
     ensures gone { AreSet same_name (map gone names) (flows_held T.flows held.old.entries) (flows_held T.flows held.new.entries) }
+    ensures zones { AreSet same_name (map gone names) (zones_held zones.old.entries) (zones_held zones.new.entries) }
+    ensures room { (n z : ℕ) (name : Name) → HasRoomFor n z (at_name zones.old.entries name) → HasRoomFor n z (at_name zones.new.entries name) }
     ensures spare { spare held.old ≤ spare held.new }
+    ensures zoned { spare zones.old ≤ spare zones.new }
 {
     'names: for name in names {
-        held.swap_remove(&name);
+        take_out(held, &name);
+        take_out(zones, &name);
     }
 }
 
-// Puts each chassis in with its tables.
-pub(crate) fn add_each<T: Lookup + Drop>(held: &mut IndexMap<Name, T>, added: List<(Name, T)>)
-    requires { length added ≤ spare held.old }
-    ensures { AreSet same_name (map (come T.flows) added) (flows_held T.flows held.old.entries) (flows_held T.flows held.new.entries) }
+// Takes out what stands under the name.
+fn take_out<V: Drop>(map: &mut IndexMap<Name, V>, name: &Name)
+    ensures taken { (other : Name) → at_name map.new.entries other ≡ cond (same_name name.now other) None (at_name map.old.entries other) }
+    ensures spare { spare map.old ≤ spare map.new }
+{
+    map.swap_remove(name);
+}
+
+// Puts each chassis in with its tables, and with fresh zones.
+pub(crate) fn add_each<T: Lookup + Drop>(
+    held: &mut IndexMap<Name, T>,
+    zones: &mut ZoneMap,
+    fresh: &mut List<Zones>,
+    added: List<(Name, T)>,
+)
+    requires room { length added ≤ spare held.old }
+    requires zoned { length added ≤ spare zones.old }
+    requires fresh { length added ≤ length fresh.old }
+    requires each_fresh { AllByRecursion (IsFresh 0) fresh.old }
+    ensures come { AreSet same_name (map (come T.flows) added) (flows_held T.flows held.old.entries) (flows_held T.flows held.new.entries) }
+    ensures zones { AreSet same_name (map without_zone added) (zones_held zones.old.entries) (zones_held zones.new.entries) }
+    ensures room { (n z : ℕ) (name : Name) → AllByRecursion (IsFresh n) fresh.old → HasRoomFor n z (at_name zones.old.entries name) → HasRoomFor n z (at_name zones.new.entries name) }
 {
     'added: for (name, tables) in added {
+        let Some(none) = fresh.pop() else {
+            unreachable!();
+        };
         set(held, name, Some(tables));
+        set(zones, name, Some(none));
     }
 }
 

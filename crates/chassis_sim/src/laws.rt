@@ -4,11 +4,10 @@ ghost use Rattle.inet_packet.specs.declared.packet.Packet.{Packet};
 ghost use Rattle.inet_packet.specs.Frame.{frame_of};
 ghost use Rattle.inet_packet.specs.Whole.{IsWhole};
 ghost use Rattle.geneve_frames.specs.Meaning.{canon};
-ghost use Rattle.chassis_sim.specs.Frames.{Carries, WalksCanBeSent};
+ghost use Rattle.chassis_sim.specs.Frames.{Carries};
 
 use geneve_frames::{one_reading, reads_back};
 use inet_packet::decode::one_packet;
-use switch_engine::laws::frames_fit;
 
 /// What is sent carries the packet with its keys.
 pub fn sent_carries()
@@ -30,11 +29,4 @@ pub fn one_carried()
 {
     one_reading();
     one_packet();
-}
-
-/// The frames of a walk of a whole packet through proper tables can be sent: their packets are whole, and their keys fit.
-pub fn walks_can_be_sent()
-    ensures { WalksCanBeSent }
-{
-    frames_fit();
 }

@@ -4,7 +4,8 @@ ghost use Rattle.std.specs.List.{AllByRecursion};
 ghost use Rattle.inet_packet.specs.Frame.{frame_of};
 ghost use Rattle.inet_packet.specs.Whole.{IsWhole};
 ghost use Rattle.geneve_frames.specs.Meaning.{canon};
-ghost use Rattle.chassis_sim.specs.Frames.{IsSent, CanBeSent};
+ghost use Rattle.switch_engine.specs.Framed.{CanBeSent};
+ghost use Rattle.chassis_sim.specs.Frames.{IsSent};
 ghost use Rattle.chassis_sim.specs.InNames.{name_of, arrived_as, in_names, all_in_names, next_after, next_after_all, sent_by, frames_sent};
 ghost use Rattle.chassis_sim.specs.Passing.{AddsWalk, KeepsOut, IsFront};
 
@@ -92,6 +93,15 @@ fn tell_one(
             datapath: name_at(names, vni, 0),
             port: name_at(names, vni, port),
             cause,
+        }),
+        Effect::PickBackend { vni, vip, backend } => told.push(NetEffect::PickBackend {
+            datapath: name_at(names, vni, 0),
+            vip,
+            backend,
+        }),
+        Effect::PickPort { vni, port } => told.push(NetEffect::PickPort {
+            router: name_at(names, vni, 0),
+            port,
         }),
         Effect::Lost => told.push(NetEffect::Lost {
             frame: arrived_as(start),

@@ -1,41 +1,47 @@
 //! The simulated chassis.
-ghost use Rattle.std.specs.Prelude.{◌≡◌, ◌+◌, ◌<◌, ◌≤◌, ◌^◌, ℕ, List, Some, IfOk, OnOk, length};
+ghost use Rattle.std.specs.Prelude.{◌≡◌, ◌+◌, ◌<◌, ◌≤◌, ◌^◌, List, Some, IfOk, OnOk, length, map};
 ghost use Rattle.std.specs.Option.{option_copied};
-ghost use Rattle.std.specs.List.{AllByRecursion};
 ghost use Rattle.std.specs.Map.{keys_of};
 ghost use Rattle.ovn_base.specs.lists.Once.{EachOnce};
 ghost use Rattle.inet_packet.specs.Whole.{IsWhole};
 ghost use Rattle.flow_table.specs.declared.flow.Flow.{Flow};
 ghost use Rattle.chassis_sim.specs.Changing.{AllAreDeltas, IsApplied, IsPrepared, IsProperChange};
-ghost use Rattle.chassis_sim.specs.Holding.{IsSimState, RunsAt, RunsFrom};
-ghost use Rattle.chassis_sim.specs.Frames.{CanBeSent, IsSent};
+ghost use Rattle.chassis_sim.specs.Holding.{IsSimState};
 ghost use Rattle.chassis_sim.specs.Passing.{AnswersInject, AnswersArrive, AnswersLose};
 ghost use Rattle.chassis_sim.specs.State.{nothing_held, at_name, flow_at};
+ghost use Rattle.chassis_sim.specs.Tables.{rooms_held, seen_by};
+ghost use Rattle.switch_engine.specs.Zones.{all_expired};
 
 use crate::change::SimChange;
-use crate::chassis::{add_each, bind_each, name_each, prepare_each, remove_each, replace_each};
+use crate::chassis::{add_each, bind_each, make_ready, name_each, remove_each, replace_each};
 use crate::frames::opened;
 use crate::names::{Names, tell};
 use crate::out::{SimFault, SimOut};
 use crate::passing::pass;
 use crate::underlay::Underlay;
+use crate::zones::{ZoneMap, empty_each, expire_each};
 use flow_table::flow::Flow;
 use flow_table::lookup::Lookup;
 use indexmap::IndexMap;
 use inet_packet::packet::Packet;
+use ovn_base::list::List;
 use ovn_base::memory::NoMemory;
 use ovn_base::name::Name;
 use std::alloc::Global;
 use std::marker::Model;
-use switch_engine::effect::{Effect, Entry};
-use switch_engine::walk::{RunOut, Start};
+use switch_engine::effect::Entry;
+use switch_engine::walk::Start;
+use switch_engine::zones::Zones;
 
-/// The tables of each chassis, the chassis to which ports are bound, and the frames that wait between chassis.
+/// The tables and the zones of each chassis, the chassis to which ports are bound, and the frames that wait between chassis.
 ///
-/// It holds over any proper tables, and isn't handed the records from which they were made.
+/// It holds over any proper tables and any zones, and isn't handed the records from which they were made.
 #[derive(Drop)]
 pub struct Sim<T: Lookup> {
     chassis: IndexMap<Name, T>,
+    zones: ZoneMap,
+    // Zones for the chassis that come by the change that was prepared.
+    fresh: List<Zones>,
     bindings: IndexMap<Name, Name>,
     names: Names,
     underlay: Underlay,
@@ -44,14 +50,14 @@ pub struct Sim<T: Lookup> {
 impl<T: Lookup> Model for Sim<T> {
     ghost use Rattle.indexmap.specs.IndexMap.{spare};
     ghost use Rattle.chassis_sim.specs.State.{SimView};
-    ghost use Rattle.chassis_sim.specs.Holding.{AreProper};
-    ghost use Rattle.chassis_sim.specs.Tables.{flows_held};
+    ghost use Rattle.chassis_sim.specs.Holding.{AreChassis};
+    ghost use Rattle.chassis_sim.specs.Tables.{flows_held, zones_held};
 
     ghost Value = { SimView T };
 
-    ghost view = { λ s. record { state = record { chassis = flows_held T.flows s.chassis.entries; bindings = s.bindings.entries; names = s.names.entries; waiting = s.underlay.waiting; next = s.underlay.next }; room = record { chassis = spare s.chassis; bindings = spare s.bindings; names = spare s.names; tables = s.chassis.entries } } };
+    ghost view = { λ s. record { state = record { chassis = flows_held T.flows s.chassis.entries; zones = zones_held s.zones.entries; bindings = s.bindings.entries; names = s.names.entries; waiting = s.underlay.waiting; next = s.underlay.next }; room = record { chassis = spare s.chassis; zoned = spare s.zones; bindings = spare s.bindings; names = spare s.names; tables = s.chassis.entries; zones = s.zones.entries; fresh = s.fresh } } };
 
-    ghost invariant = { λ s. AreProper (flows_held T.flows s.chassis.entries) };
+    ghost invariant = { λ s. AreChassis (flows_held T.flows s.chassis.entries) (zones_held s.zones.entries) };
 }
 
 impl<T: Lookup + Drop> Sim<T> {
@@ -61,6 +67,8 @@ impl<T: Lookup + Drop> Sim<T> {
     {
         Ok(Sim {
             chassis: IndexMap::new(alloc),
+            zones: IndexMap::new(alloc),
+            fresh: List::new(alloc),
             bindings: IndexMap::new(alloc),
             names: IndexMap::new(alloc),
             underlay: Underlay::new(alloc),
@@ -93,8 +101,8 @@ impl<T: Lookup + Drop> Sim<T> {
         }
     }
 
-    /// What always holds: the flows are proper, and each frame that waits carries a whole packet and has a number below the
-    /// next one. It does nothing.
+    /// What always holds: the flows are proper, just the chassis that are held have zones, and each frame that waits carries
+    /// a whole packet and has a number below the next one. It does nothing.
     pub fn state_holds(&self)
         ensures { IsSimState self.now.state }
     {
@@ -111,12 +119,13 @@ impl<T: Lookup + Drop> Sim<T> {
     {
         self.bindings.reserve(change.bound.len())?;
         self.names.reserve(change.names.len())?;
-        self.chassis.reserve(change.added.len())?;
-        prepare_each(&mut self.chassis, change.tables.as_slice())
+        let fresh = make_ready(&mut self.chassis, &mut self.zones, change)?;
+        self.fresh = fresh;
+        Ok(())
     }
 
-    /// Makes the change, which was prepared and nothing was changed since: chassis come and go, tables are changed by their
-    /// deltas, ports are bound, and pairs of keys get their names. No memory is taken.
+    /// Makes the change, which was prepared and nothing was changed since: tables are changed by their deltas, chassis go and
+    /// come, zones are emptied, ports are bound, and pairs of keys get their names. No memory is taken.
     ///
     /// The flows that come must be proper. The waiting frames stay, also those to a chassis that goes.
     pub fn apply(&mut self, change: SimChange<T>)
@@ -128,28 +137,33 @@ impl<T: Lookup + Drop> Sim<T> {
             added,
             removed,
             tables,
-            emptied: _,
+            emptied,
             bound,
             names,
         } = change;
         replace_each(&mut self.chassis, tables);
-        remove_each(&mut self.chassis, removed);
-        add_each(&mut self.chassis, added);
+        remove_each(&mut self.chassis, &mut self.zones, removed);
+        add_each(&mut self.chassis, &mut self.zones, &mut self.fresh, added);
+        empty_each(&mut self.zones, emptied);
         bind_each(&mut self.bindings, bound);
         name_each(&mut self.names, names);
     }
 
-    /// Ends what was idle for too long at the time. There are no connections yet, so nothing ends. No memory is taken.
-    pub fn expire(&mut self, _now: u64)
-        ensures { self.new ≡ self.old }
-    {}
+    /// Ends the connections on all chassis that weren't used for as long as they may be idle at the time. No memory is taken.
+    pub fn expire(&mut self, now: u64)
+        ensures state { self.new.state ≡ record self.old.state { zones = map (seen_by (all_expired now)) self.old.state.zones } }
+        ensures kept { self.new.room ≡ record self.old.room { zones = self.new.room.zones; zoned = self.new.room.zoned } }
+    {
+        expire_each(&mut self.zones, now);
+    }
 
-    /// Takes a whole packet at the port through the tables of the chassis to which the port is bound, and adds what came of it:
-    /// the effects in names, and the walk. The frames among the effects take the next numbers in order, and wait. Where the
-    /// chassis isn't held the packet meets no flow.
+    /// Takes a whole packet at the port through the tables and the zones of the chassis to which the port is bound, and adds
+    /// what came of it: the effects in names, and the walk. The frames among the effects take the next numbers in order, and
+    /// wait. Where the chassis isn't held the packet meets no flow.
     ///
-    /// `NotBound` comes exactly where the port has no binding, and leaves everything as it was. Without memory the waiting
-    /// frames and the next number may have changed, and `out` keeps what it held, with a part of what came.
+    /// `NotBound` comes exactly where the port has no binding, and leaves everything as it was. Without memory the zones of
+    /// the chassis, the waiting frames and the next number may have changed, and `out` keeps what it held, with a part of
+    /// what came.
     pub fn inject(
         &mut self,
         port: &Name,
@@ -161,23 +175,33 @@ impl<T: Lookup + Drop> Sim<T> {
         requires room { self.old.state.next < 2 ^ 127 }
         ensures answer { AnswersInject result self.old port.now now packet out.old out.new self.new }
         ensures few { self.new.state.next + length out.old.effects ≤ self.old.state.next + length out.new.effects }
-        ensures kept { self.new.room ≡ self.old.room }
+        ensures kept { self.new.room ≡ record self.old.room { zones = self.new.room.zones } }
+        ensures rooms { rooms_held self.new.room.zones ≡ rooms_held self.old.room.zones }
     {
         let Some(&chassis) = self.bindings.get(port) else {
             return Err(SimFault::NotBound(*port));
         };
-        let run = self.run_at(&chassis, port, packet, now)?;
+        let entry = Entry::Vif(*port);
+        let run = pass(
+            &self.chassis,
+            &mut self.zones,
+            &chassis,
+            &entry,
+            packet,
+            now,
+        )?;
         let start = Start::Port(*port);
         tell(&self.names, &mut self.underlay, chassis, &start, run, out)?;
         Ok(())
     }
 
-    /// Takes the frame of this number through the tables of the chassis to which it goes, and adds what came of it, as
-    /// [`Sim::inject`] does. Afterwards the frame still waits exactly where `keep` is true. Where the chassis is gone the frame
-    /// is lost, and the walk has no step.
+    /// Takes the frame of this number through the tables and the zones of the chassis to which it goes, and adds what came of
+    /// it, as [`Sim::inject`] does. Afterwards the frame still waits exactly where `keep` is true. Where the chassis is gone
+    /// the frame is lost, and the walk has no step.
     ///
-    /// `NoFrame` comes exactly where no frame of this number waits, and leaves everything as it was. Without memory the waiting
-    /// frames and the next number may have changed, and `out` keeps what it held, with a part of what came.
+    /// `NoFrame` comes exactly where no frame of this number waits, and leaves everything as it was. Without memory the zones
+    /// of the chassis, the waiting frames and the next number may have changed, and `out` keeps what it held, with a part of
+    /// what came.
     pub fn arrive(
         &mut self,
         frame: u128,
@@ -188,13 +212,23 @@ impl<T: Lookup + Drop> Sim<T> {
         requires room { self.old.state.next < 2 ^ 127 }
         ensures answer { AnswersArrive result self.old frame keep now out.old out.new self.new }
         ensures few { self.new.state.next + length out.old.effects ≤ self.old.state.next + length out.new.effects }
-        ensures kept { self.new.room ≡ self.old.room }
+        ensures kept { self.new.room ≡ record self.old.room { zones = self.new.room.zones } }
+        ensures rooms { rooms_held self.new.room.zones ≡ rooms_held self.old.room.zones }
     {
         let Some(arriving) = self.underlay.frame(frame) else {
             return Err(SimFault::NoFrame(frame));
         };
         let chassis = arriving.to;
-        let run = self.run_from(&chassis, arriving.bytes.as_slice(), now)?;
+        let alloc = *self.chassis.allocator();
+        let (entry, packet) = opened(alloc, arriving.bytes.as_slice())?;
+        let run = pass(
+            &self.chassis,
+            &mut self.zones,
+            &chassis,
+            &entry,
+            packet,
+            now,
+        )?;
         self.underlay.arrived(frame, keep);
         let start = Start::Frame(frame);
         tell(&self.names, &mut self.underlay, chassis, &start, run, out)?;
@@ -211,44 +245,5 @@ impl<T: Lookup + Drop> Sim<T> {
         }
         self.underlay.take(frame);
         Ok(())
-    }
-
-    // What comes of the packet at the port on the chassis: nothing where no such chassis is held.
-    fn run_at(
-        &self,
-        chassis: &Name,
-        port: &Name,
-        packet: Packet,
-        now: u64,
-    ) -> Result<RunOut, NoMemory>
-        requires whole { IsWhole packet }
-        ensures run { IfOk result (RunsAt (at_name self.now.state.chassis chassis.now) port.now now packet) }
-        ensures can { IfOk result (λ run. AllByRecursion CanBeSent run.effects) }
-    {
-        let alloc = *self.chassis.allocator();
-        match self.chassis.get(chassis) {
-            Some(tables) => pass(alloc, tables, &Entry::Vif(*port), packet, now),
-            None => Ok(RunOut::new(alloc)),
-        }
-    }
-
-    // What comes of the frame on the chassis: it is lost where no such chassis is held.
-    fn run_from(&self, chassis: &Name, bytes: &[u8], now: u64) -> Result<RunOut, NoMemory>
-        requires sent { IsSent bytes.now }
-        ensures run { IfOk result (RunsFrom (at_name self.now.state.chassis chassis.now) bytes.now now) }
-        ensures can { IfOk result (λ run. AllByRecursion CanBeSent run.effects) }
-    {
-        let alloc = *self.chassis.allocator();
-        match self.chassis.get(chassis) {
-            Some(tables) => {
-                let (entry, packet) = opened(alloc, bytes)?;
-                pass(alloc, tables, &entry, packet, now)
-            }
-            None => {
-                let mut run = RunOut::new(alloc);
-                run.effects.push(Effect::Lost)?;
-                Ok(run)
-            }
-        }
     }
 }

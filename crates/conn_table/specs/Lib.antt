@@ -3,3 +3,4 @@ pub mod Order
 pub mod Tuples
 pub mod Connections
 pub mod Tracking
+pub mod Picks

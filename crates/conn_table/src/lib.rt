@@ -3,6 +3,6 @@
 
 pub mod connection;
 pub mod idle;
-mod rewrite;
+pub mod rewrite;
 pub mod tuple;
 pub mod zone;

@@ -7,8 +7,9 @@ ghost use Rattle.conn_table.specs.Tuples.{tuple_of, with_tuple, CanBecome};
 use crate::tuple::Tuple;
 use inet_packet::packet::Packet;
 
-// The packet with the addresses and ports of the tuple.
-pub(crate) fn rewrite(packet: &mut Packet, to: &Tuple)
+/// Gives the packet the addresses and ports of the tuple, which is one of its protocol. A packet stays whole, and a right
+/// transport sum stays right.
+pub fn rewrite(packet: &mut Packet, to: &Tuple)
     requires { CanBecome to.now packet.old }
     ensures packet { packet.new ≡ with_tuple to.now packet.old }
     ensures tuple { tuple_of packet.new ≡ Some to.now }

@@ -1,10 +1,10 @@
 //! The tuples of packets.
-ghost use Rattle.std.specs.Prelude.{◌≡◌, ◌↔◌, true, IsTrue, Some, refl};
+ghost use Rattle.std.specs.Prelude.{◌≡◌, ◌↔◌, true, IsTrue, IfSome, Some, refl};
 ghost use Rattle.std.specs.BTreeMap.{is_at};
 ghost use Rattle.std.specs.Cmp.{partial_equiv_from_equiv, on_po};
 ghost use Rattle.std.specs.Cmp.Lexicographic.{on_texts, on_texts_equal, texts_po, texts_ties};
 ghost use Rattle.conn_table.specs.Order.{protocol_number, tuple_numbers, same_tuple, tuple_cmp};
-ghost use Rattle.conn_table.specs.Tuples.{tuple_between, echo_protocol, ip4_tuple, tuple_of, reversed_protocol, reversed, is_echo_reply, has_ports};
+ghost use Rattle.conn_table.specs.Tuples.{tuple_between, echo_protocol, ip4_tuple, tuple_of, reversed_protocol, reversed, is_echo_reply, has_ports, HasItsPorts};
 
 use inet_packet::packet::{Body, Ip4Packet, Packet, Part};
 use ovn_base::address::Ip4;
@@ -84,7 +84,8 @@ impl Protocol {
 impl Tuple {
     /// The tuple of the packet. A fragment has none, nor has ICMP that is no echo or is cut, nor what isn't IPv4.
     pub fn of(packet: &Packet) -> Option<Tuple>
-        ensures { result ≡ tuple_of packet.now }
+        ensures tuple { result ≡ tuple_of packet.now }
+        ensures ports { IfSome result (λ t. HasItsPorts t.protocol t.src_port t.dst_port) }
     {
         match &packet.body {
             Body::Ip4(ip) => ip4_tuple(ip),

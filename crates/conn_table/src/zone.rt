@@ -1,5 +1,5 @@
 //! Lists of connections.
-ghost use Rattle.std.specs.Prelude.{◌≡◌, ◌≤◌, [], not, nat_lt, is_some, length, Option, Ok, Some, IfOk, OnOk, IfErr, OnErr, IsSome, MatchResult};
+ghost use Rattle.std.specs.Prelude.{◌≡◌, ◌≤◌, [], not, nat_lt, is_some, length, Option, Ok, Some, IsOk, IfOk, OnOk, IfErr, OnErr, IsSome, MatchResult};
 ghost use Rattle.std.specs.Option.{option_map, option_copied};
 ghost use Rattle.inet_packet.specs.Transport.{HasRightSum};
 ghost use Rattle.inet_packet.specs.Whole.{IsWhole};
@@ -48,7 +48,8 @@ impl Model for Zone {
 impl Zone {
     /// No connection.
     pub fn new(alloc: Global) -> Result<Zone, NoMemory>
-        ensures { IfOk result (λ zone. zone ≡ []) }
+        ensures ok { IfOk result (λ zone. zone ≡ []) }
+        ensures succeeds { IsOk result }
     {
         Ok(Zone {
             entries: BTreeMap::new(alloc),
@@ -160,6 +161,13 @@ impl Zone {
                 Err(NoMemory)
             }
         }
+    }
+
+    /// Whether the entry of the slot is there.
+    pub fn has(&self, slot: Slot) -> bool
+        ensures { result ≡ is_some (entry_of self.now slot.forward) }
+    {
+        self.entries.contains_key(&slot.forward)
     }
 
     /// The entry of the slot.

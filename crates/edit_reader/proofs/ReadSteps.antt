@@ -39,10 +39,6 @@ mapped_some f (Some x) y e = (x, refl, some_is (f x) y e)
 mapped_some f None y e = absurd (not_none y e)
 
 -- which way a test went
-pub chosen : {A : Type 0} (b : Bool) (x y z : A) → cond b x y ≡ z → ((b ≡ true) × (x ≡ z)) ⊎ ((b ≡ false) × (y ≡ z))
-chosen true x y z e = inl (refl, e)
-chosen false x y z e = inr (refl, e)
-
 pub chosen_some : {A : Type 0} (b : Bool) (o : Option A) (z : A) → cond b o None ≡ Some z → (b ≡ true) × (o ≡ Some z)
 chosen_some true o z e = (refl, e)
 chosen_some false o z e = absurd (not_none z e)

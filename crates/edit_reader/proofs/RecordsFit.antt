@@ -19,6 +19,7 @@ use Rattle.nb_records.specs.declared.kinds.Kind.{Kind}
 use Rattle.nb_records.specs.declared.kinds.Kind.TheVariants as kind
 use Rattle.nb_records.specs.declared.switch.PortKind.{PortKind}
 use Rattle.nb_records.specs.declared.switch.PortKind.TheVariants as port_kind
+use Rattle.match_language.proofs.Steps.{chosen}
 use Rattle.edit_reader.specs.Outcomes.{of_kind, in_range}
 use Rattle.edit_reader.specs.Fields.{default_at, default_or, text_by}
 use Rattle.edit_reader.specs.Fitting.{IsEdit, AreOps}
@@ -30,7 +31,7 @@ use Rattle.edit_reader.specs.declared.event.ReadRefusal.TheVariants.{NotObject}
 use Rattle.edit_reader.specs.declared.operations.Verb.{Verb}
 use Rattle.edit_reader.specs.declared.operations.Verb.TheVariants as verb
 use Rattle.edit_reader.proofs.NamesOnce.{InOrder, ItemsInOrder}
-use Rattle.edit_reader.proofs.ReadSteps.{found, ok_is, some_is, not_none, bound, chosen, chosen_some, chosen_ok, kind_is, range_is}
+use Rattle.edit_reader.proofs.ReadSteps.{found, ok_is, some_is, not_none, bound, chosen_some, chosen_ok, kind_is, range_is}
 use Rattle.edit_reader.proofs.TablesFit.{FitsWhere, text_spelled, value_fits, needed_fits, values_read, read_fit, values_fit, FitChanges, changes_fit}
 
 -- ---- fields that go with one another

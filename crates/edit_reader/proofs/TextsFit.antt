@@ -26,9 +26,10 @@ use Rattle.nb_records.specs.Grammar.{IsIp4, IsCidr, IsBackend, IsPortAddress, Is
 use Rattle.nb_records.specs.declared.switch.PortAddress.{PortAddress}
 use Rattle.nb_records.specs.declared.switch.PortAddress.TheVariants as address
 use Rattle.nb_records.specs.declared.switch.SecurityEntry.{SecurityEntry}
+use Rattle.match_language.proofs.Steps.{chosen}
 use Rattle.edit_reader.specs.Fields.{each_by}
 use Rattle.edit_reader.specs.Grammars.{has_slash, spelled_prefix, set_entry_by, spelled_set_entry, ether_by, spelled_ether, spelled_port_address, spelled_security, some_port, spelled_port, spelled_backend}
-use Rattle.edit_reader.proofs.ReadSteps.{found, some_is, not_none, and_then_some, mapped_some, chosen, chosen_some}
+use Rattle.edit_reader.proofs.ReadSteps.{found, some_is, not_none, and_then_some, mapped_some, chosen_some}
 
 -- the value of a step of addresses that spelled one
 spelled_some : {A B : Type 0} (o : Option A) (f : A → Option B) (y : B) → (o >>= f) ≡ Some y → (x : A) × (o ≡ Some x) × (f x ≡ Some y)

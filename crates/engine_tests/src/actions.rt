@@ -1,6 +1,7 @@
 //! Single actions, and copies of what came of them.
 
-use crate::tables::{name, row, sent, set, stranger, tables, visits};
+use crate::rows::row;
+use crate::tables::{name, sent, set, stranger, tables, visits};
 use flow_table::flow::{Cause, FlowOp};
 use inet_packet::cube::Cube;
 use inet_packet::regs::Reg;

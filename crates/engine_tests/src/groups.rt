@@ -1,6 +1,7 @@
 //! Packets for groups of ports.
 
-use crate::tables::{at, name, row, sent, set, stranger, tables, to, visits};
+use crate::rows::row;
+use crate::tables::{at, name, sent, set, stranger, tables, to, visits};
 use flow_table::flow::{FlowOp, Member};
 use inet_packet::regs::{At, Reg};
 use ovn_base::list::List;

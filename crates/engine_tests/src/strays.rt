@@ -1,6 +1,7 @@
 //! Copies whose port isn't here.
 
-use crate::tables::{at, name, row, sent, set, tables};
+use crate::rows::row;
+use crate::tables::{at, name, sent, set, tables};
 use flow_table::flow::{Cause, FlowOp};
 use inet_packet::cube::Cube;
 use inet_packet::regs::{At, Reg};

@@ -1,16 +1,15 @@
 //! Tables of proper flows, and what comes of a packet in them.
 ghost use Rattle.std.specs.Prelude.{IfOk};
-ghost use Rattle.switch_engine.specs.Proper.{IsEntry, IsProper, IsProperFlow};
+ghost use Rattle.inet_packet.specs.Whole.{IsWhole};
+ghost use Rattle.switch_engine.specs.Proper.{IsEntry, IsProper};
 
-use crate::proper::is_proper;
+use crate::rows::{put_all, row};
 use flow_table::flow::{Flow, FlowOp};
-use flow_table::lookup::Lookup;
 use flow_table::tables::Tables;
 use inet_packet::cube::{Bits, Cube};
 use inet_packet::packet::{Body, Packet};
 use inet_packet::regs::{At, Reg};
 use ovn_base::address::Mac;
-use ovn_base::delta::Delta;
 use ovn_base::list::List;
 use ovn_base::memory::NoMemory;
 use ovn_base::name::Name;
@@ -39,7 +38,9 @@ pub fn to(key: u16) -> Cube {
 }
 
 /// A packet for an address that no port has.
-pub fn stranger(alloc: Global) -> Packet {
+pub fn stranger(alloc: Global) -> Packet
+    ensures { IsWhole result }
+{
     Packet {
         dst: Mac([10, 0, 0, 0, 0, 9]),
         src: Mac([10, 0, 0, 0, 0, 1]),
@@ -51,52 +52,6 @@ pub fn stranger(alloc: Global) -> Packet {
 /// The action that sets the register.
 pub fn set(reg: Reg, value: u32) -> FlowOp {
     FlowOp::Set { reg, value }
-}
-
-/// The row of the table that does the actions.
-pub fn row<const N: usize>(
-    alloc: Global,
-    table: u8,
-    cube: Cube,
-    ops: [FlowOp; N],
-) -> Result<Flow, NoMemory> {
-    Ok(Flow {
-        table,
-        priority: 100,
-        rank: 0,
-        cube,
-        ops: List::from_vec(Vec::from_array(alloc, ops)?),
-        cookie: 0,
-    })
-}
-
-// Adds a proper flow.
-fn put(tables: &mut Tables, flow: Flow) -> Result<(), NoMemory>
-    requires tables { IsProper tables.old.flows }
-    requires flow { IsProperFlow flow }
-    ensures { IsProper tables.new.flows }
-{
-    let mut added = List::new(flow.ops.allocator());
-    let mut removed = List::new(flow.ops.allocator());
-    removed.push(flow.copy()?)?;
-    added.push(flow)?;
-    let delta = Delta { added, removed };
-    tables.prepare(&delta)?;
-    tables.replace(delta);
-    Ok(())
-}
-
-// The flows whose actions may stand in their tables.
-fn put_all(alloc: Global, flows: Vec<Flow>) -> Result<Tables, NoMemory>
-    ensures { IfOk result (λ t. IsProper t.flows) }
-{
-    let mut tables = Tables::new(alloc)?;
-    'flows: for flow in flows {
-        if is_proper(&flow) {
-            put(&mut tables, flow)?;
-        }
-    }
-    Ok(tables)
 }
 
 /// Tables with the rows, and with one for each pair of tables on the way, which takes every packet from the one to the other.
@@ -114,23 +69,41 @@ pub fn tables<const N: usize>(
     put_all(alloc, flows)
 }
 
-/// What the packet comes to.
+/// What the packet comes to, with these zones at the time.
+pub fn sent_in(
+    alloc: Global,
+    tables: &Tables,
+    zones: &mut Zones,
+    entry: Entry,
+    packet: Packet,
+    now: u64,
+) -> Result<RunOut, NoMemory>
+    requires tables { IsProper tables.now.flows }
+    requires entry { IsEntry entry }
+    requires packet { IsWhole packet }
+{
+    let mut out = RunOut::new(alloc);
+    run(alloc, tables, zones, &entry, packet, now, &mut out)?;
+    Ok(out)
+}
+
+/// What a packet for a stranger comes to, without zones.
 pub fn sent(alloc: Global, tables: &Tables, entry: Entry) -> Result<RunOut, NoMemory>
     requires tables { IsProper tables.now.flows }
     requires entry { IsEntry entry }
 {
-    let mut out = RunOut::new(alloc);
-    let mut zones = Zones::new();
-    run(
-        alloc,
-        tables,
-        &mut zones,
-        &entry,
-        stranger(alloc),
-        0,
-        &mut out,
-    )?;
-    Ok(out)
+    let mut zones = Zones::new(alloc);
+    sent_in(alloc, tables, &mut zones, entry, stranger(alloc), 0)
+}
+
+/// Zones of these numbers, without connections.
+pub fn zones(alloc: Global, numbers: &[u16]) -> Result<Zones, NoMemory> {
+    let mut zones = Zones::new(alloc);
+    for number in numbers {
+        zones.reserve(1)?;
+        zones.empty(*number);
+    }
+    Ok(zones)
 }
 
 /// Whether the steps are of these tables.

@@ -40,13 +40,17 @@ pub no_feed_joined : (xs ys : List ℕ) → HaveNoFeed xs → HaveNoFeed ys → 
 no_feed_joined [] ys h k = k
 no_feed_joined (x ∷ xs) ys h k = (h.0, no_feed_joined xs ys h.1 k)
 
+pub in_word_joined : (xs ys : List ℕ) → AreInWord xs → AreInWord ys → AreInWord (xs ++ ys)
+in_word_joined [] ys h k = k
+in_word_joined (x ∷ xs) ys h k = (h.0, in_word_joined xs ys h.1 k)
+
 pub no_feed_in : (xs : List ℕ) → AreInWord xs → HaveNoFeed xs
 no_feed_in [] h = tt
 no_feed_in (x ∷ xs) h = (h.0.no_feed, no_feed_in xs h.1)
 
 -- ---- the digits of a number
 
-abbrev IsDigit : ℕ → Type 0
+abbrev pub IsDigit : ℕ → Type 0
 IsDigit b = (48 ≤ b) × (b ≤ 57)
 
 glyph_digit : (n : ℕ) → n < 10 → IsDigit (digit_glyph false n)
@@ -85,7 +89,7 @@ digits_some k n = by (n / 10 == 0)
     by true = omega arith
     by false = let rest : 1 ≤ length (digits_onto k 10 false (n / 10) (digit_glyph false (n % 10) ∷ [])) = digits_grow k (n / 10) (digit_glyph false (n % 10) ∷ []) in omega (arith, rest)
 
-decimal_digits : (n : ℕ) → AllByRecursion IsDigit (decimal n)
+pub decimal_digits : (n : ℕ) → AllByRecursion IsDigit (decimal n)
 unfolding digits
 decimal_digits n = digits_put 64 n [] tt
 

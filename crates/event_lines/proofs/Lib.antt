@@ -1,5 +1,6 @@
 -- Lemmas.
 pub mod Pieces
 pub mod Feeds
+pub mod BackendWords
 pub mod RefusalFeeds
 pub mod PickLines

@@ -1,5 +1,5 @@
 -- The picks that are read off the lines of effects are those of the effects.
-use Rattle.std.proofs.Common.{◌≡◌, ◌<◌, ◌^◌, ◌++◌, ◌==◌, ◌&&◌, ℕ, Bool, true, false, List, [], ◌∷◌, codes, decimal, flat_map, if◌then◌else◌, refl, sym, ap, ◌∙◌, inl, inr, arith, append_assoc, append-nil}
+use Rattle.std.proofs.Common.{◌≡◌, ◌<◌, ◌^◌, ◌++◌, ◌==◌, ℕ, Bool, true, false, List, [], ◌∷◌, Option, Some, codes, decimal, flat_map, if◌then◌else◌, refl, sym, ap, ◌∙◌, inl, inr, arith, append_assoc, append-nil}
 use Rattle.std.specs.List.{AllByRecursion, onto_first}
 use Rattle.std.specs.Str.Parse.{digits_value}
 use Rattle.std.proofs.lemmas.Bool.{cases_Bool}
@@ -10,17 +10,23 @@ use Rattle.std.proofs.lemmas.List.Elements.{All-from_recursion}
 use Rattle.std.proofs.lemmas.List.Splits.{slice_split_at, slice_split_none}
 use Rattle.hex.specs.Hex.{encode_lower}
 use Rattle.ovn_base.specs.lines.Lines.{ended_lines, onto_ended, HasNoFeed}
+use Rattle.ovn_base.specs.names.NameText.{IsName}
 use Rattle.ovn_base.proofs.LineLaws.{ended_lines-feed}
+use Rattle.ovn_base.specs.declared.address.Backend.{Backend}
+use Rattle.nb_records.specs.Grammar.{IsBackend}
+use Rattle.edit_reader.specs.Grammars.{spelled_backend}
 use Rattle.flow_table.specs.declared.flow.Cause.{Cause}
 use Rattle.flow_table.specs.declared.flow.Cause.TheVariants as cause
 use Rattle.flow_table.specs.Causes.{cause_name}
 use Rattle.inet_packet.specs.Frame.{frame_of}
 use Rattle.switch_engine.specs.declared.effect.NetEffect.{NetEffect}
-use Rattle.switch_engine.specs.declared.effect.NetEffect.TheVariants.{DatapathKey, PortKey, Tunnel, Out, Drop, Lost}
+use Rattle.switch_engine.specs.declared.effect.NetEffect.TheVariants.{DatapathKey, PortKey, PickBackend, PickPort, Tunnel, Out, Drop, Lost}
 use Rattle.event_lines.specs.declared.refusal.Refusal.{Refusal}
 use Rattle.event_lines.specs.Lines.{route_words, words_of, line_of, ok_line, accepted_lines, refused_line, end_line}
 use Rattle.event_lines.specs.Refusals.{refusal_words}
-use Rattle.event_lines.specs.Picks.{Pick, words_in, is_word, is_number, key_of, named_by, picks_in, picks_of, IsNamedEffect, AreNamed, AreWholeLines}
+use Rattle.event_lines.specs.Picks.{Pick, vip_backend, source_port, words_in, is_word, is_number, key_of, backend_for, port_for, key_pick, port_pick, backend_pick, told_by, named_by, picks_in, picks_of, IsNamedEffect, AreNamed, AreWholeLines}
+use Rattle.event_lines.specs.Text.{backend_text}
+use Rattle.event_lines.proofs.BackendWords.{backend_in_word, backend_read, port_read}
 use Rattle.event_lines.proofs.Feeds.{AreInWord, IsNoFeed, HaveNoFeed, have_none, tested, no_feed_joined, no_feed_in, decimal_in_word, decimal_is_number, name_is_word, hex_no_feed}
 use Rattle.event_lines.proofs.RefusalFeeds.{refusal_no_feed}
 
@@ -39,22 +45,36 @@ first_word xs ys h = slice_split_at (λ b. b == 32) xs 32 ys (All-from_recursion
 last_word : (xs : List ℕ) → AreInWord xs → words_in xs ≡ xs ∷ []
 last_word xs h = slice_split_none (λ b. b == 32) xs (All-from_recursion (λ b. (b == 32) ≡ false) xs (no_blank_in xs h))
 
--- a line whose second word isn't `key` names nothing
-other_words : (number what : List ℕ) (more : List (List ℕ)) → is_word what (codes "key") ≡ false → named_by (number ∷ what ∷ more) ≡ []
-other_words number what [] e = refl
-other_words number what (a ∷ []) e = refl
-other_words number what (a ∷ b ∷ []) e = refl
-other_words number what (a ∷ b ∷ c ∷ []) e = ap (λ (t : Bool). if t && is_number number && is_number c then key_of a b (digits_value 10 c) else []) e
-other_words number what (a ∷ b ∷ c ∷ d ∷ more) e = refl
+-- words of which the first is neither `key` nor `pick` tell of no pick
+none_told : (what : List ℕ) (more : List (List ℕ)) → is_word what (codes "key") ≡ false → is_word what (codes "pick") ≡ false → told_by (what ∷ more) ≡ []
+none_told what [] e f = refl
+none_told what (a ∷ []) e f = refl
+none_told what (a ∷ b ∷ []) e f = refl
+none_told what (a ∷ b ∷ c ∷ []) e f =
+    ap (λ (t : Bool). if t then key_pick a b c else (if is_word what (codes "pick") then port_pick a b c else [])) e
+    ∙ ap (λ (t : Bool). if t then port_pick a b c else []) f
+none_told what (a ∷ b ∷ c ∷ d ∷ []) e f = ap (λ (t : Bool). if t then backend_pick a b c d else []) f
+none_told what (a ∷ b ∷ c ∷ d ∷ g ∷ more) e f = refl
 
--- a line whose second word is `key` names the key
-key_words : (number kind name : List ℕ) (key : ℕ) → is_number number ≡ true → key < 2 ^ 64 → named_by (number ∷ codes "key" ∷ kind ∷ name ∷ decimal key ∷ []) ≡ key_of kind name key
-key_words number kind name key is small =
-    let text : is_number (decimal key) ≡ true = decimal_is_number key in
-    let value : digits_value 10 (decimal key) ≡ key = (decimal_is_IsNumeral key small).1 in
-    ap (λ (t : Bool). if t && is_number (decimal key) then key_of kind name (digits_value 10 (decimal key)) else []) is
-    ∙ ap (λ (t : Bool). if t then key_of kind name (digits_value 10 (decimal key)) else []) text
-    ∙ ap (λ n. key_of kind name n) value
+-- a line whose second word is neither `key` nor `pick` names nothing
+other_words : (number what : List ℕ) (more : List (List ℕ)) → is_word what (codes "key") ≡ false → is_word what (codes "pick") ≡ false → named_by (number ∷ what ∷ more) ≡ []
+other_words number what more e f = nothing (is_number number) (told_by (what ∷ more)) (none_told what more e f)
+  where
+    nothing : (t : Bool) (ps : List Pick) → ps ≡ [] → (if t then ps else []) ≡ []
+    nothing true ps none = none
+    nothing false ps none = refl
+
+-- a line of an event names what the words behind its number tell of
+numbered_words : (number : ℕ) (words : List (List ℕ)) → named_by (decimal number ∷ words) ≡ told_by words
+numbered_words number words = ap (λ (t : Bool). if t then told_by words else []) (decimal_is_number number)
+
+key_told : (kind name : List ℕ) (key : ℕ) → key < 2 ^ 64 → key_pick kind name (decimal key) ≡ key_of kind name key
+key_told kind name key small =
+    ap (λ (t : Bool). if t then key_of kind name (digits_value 10 (decimal key)) else []) (decimal_is_number key) ∙ ap (λ n. key_of kind name n) (decimal_is_IsNumeral key small).1
+
+backends_told : (datapath : List ℕ) (vip backend : Backend) → IsBackend vip → IsBackend backend → backend_for datapath (spelled_backend (backend_text vip)) (spelled_backend (backend_text backend)) ≡ vip_backend datapath vip backend ∷ []
+backends_told datapath vip backend is also =
+    ap (λ (o : Option Backend). backend_for datapath o (spelled_backend (backend_text backend))) (backend_read vip is) ∙ ap (λ (o : Option Backend). backend_for datapath (Some vip) o) (backend_read backend also)
 
 -- ---- lines
 
@@ -115,6 +135,15 @@ words_no_feed (DatapathKey name key) is =
 words_no_feed (PortKey name key) is =
     no_feed_joined (codes "key port ") _ (tested (codes "key port ") refl)
     (no_feed_joined name _ (no_feed_in name (name_is_word name is.0)) ((λ e. omega arith), no_feed_in (decimal key) (decimal_in_word key)))
+words_no_feed (PickBackend datapath vip backend) is =
+    no_feed_joined (codes "pick backend ") _ (tested (codes "pick backend ") refl)
+    (no_feed_joined datapath _ (no_feed_in datapath (name_is_word datapath is.0)) (
+      (λ e. omega arith),
+      no_feed_joined (backend_text vip) _ (no_feed_in (backend_text vip) (backend_in_word vip)) ((λ e. omega arith), no_feed_in (backend_text backend) (backend_in_word backend)),
+    ))
+words_no_feed (PickPort router port) is =
+    no_feed_joined (codes "pick port ") _ (tested (codes "pick port ") refl)
+    (no_feed_joined router _ (no_feed_in router (name_is_word router is.0)) ((λ e. omega arith), no_feed_in (decimal port) (decimal_in_word port)))
 words_no_feed (Tunnel frame from to bytes) is =
     no_feed_joined (codes "tunnel ") _ (tested (codes "tunnel ") refl)
     (no_feed_joined (decimal frame) _ (no_feed_in (decimal frame) (decimal_in_word frame)) (
@@ -131,25 +160,41 @@ words_no_feed (Drop datapath port cause) is =
     ((λ e. omega arith), no_feed_joined port _ (no_feed_in port (name_is_word port is.1)) ((λ e. omega arith), cause_no_feed cause)))
 words_no_feed (Lost frame) is = no_feed_joined (codes "lost ") _ (tested (codes "lost ") refl) (no_feed_in (decimal frame) (decimal_in_word frame))
 
+-- the words of a name and of what stands behind it
+two_words : (name last : List ℕ) → IsName name → AreInWord last → words_in (name ++ 32 ∷ last) ≡ name ∷ last ∷ []
+two_words name last is word = first_word name last (name_is_word name is) ∙ ap (λ ws. name ∷ ws) (last_word last word)
+
 effect_named : (number : ℕ) (effect : NetEffect) → IsNamedEffect effect → named_by (decimal number ∷ words_in (words_of effect)) ≡ one_pick effect
 effect_named number (DatapathKey name key) is =
-    let words : words_in (name ++ 32 ∷ decimal key) ≡ name ∷ decimal key ∷ [] = first_word name (decimal key) (name_is_word name is.0) ∙ ap (λ ws. name ∷ ws) (last_word (decimal key) (decimal_in_word key)) in
-    ap (λ ws. named_by (decimal number ∷ codes "key" ∷ codes "datapath" ∷ ws)) words
-    ∙ key_words (decimal number) (codes "datapath") name key (decimal_is_number number) is.1
+    numbered_words number (words_in (words_of (DatapathKey name key)))
+    ∙ ap (λ ws. told_by (codes "key" ∷ codes "datapath" ∷ ws)) (two_words name (decimal key) is.0 (decimal_in_word key))
+    ∙ key_told (codes "datapath") name key is.1
 effect_named number (PortKey name key) is =
-    let words : words_in (name ++ 32 ∷ decimal key) ≡ name ∷ decimal key ∷ [] = first_word name (decimal key) (name_is_word name is.0) ∙ ap (λ ws. name ∷ ws) (last_word (decimal key) (decimal_in_word key)) in
-    ap (λ ws. named_by (decimal number ∷ codes "key" ∷ codes "port" ∷ ws)) words
-    ∙ key_words (decimal number) (codes "port") name key (decimal_is_number number) is.1
+    numbered_words number (words_in (words_of (PortKey name key)))
+    ∙ ap (λ ws. told_by (codes "key" ∷ codes "port" ∷ ws)) (two_words name (decimal key) is.0 (decimal_in_word key))
+    ∙ key_told (codes "port") name key is.1
+effect_named number (PickBackend datapath vip backend) is =
+    let rest : words_in (backend_text vip ++ 32 ∷ backend_text backend) ≡ backend_text vip ∷ backend_text backend ∷ [] =
+    first_word (backend_text vip) (backend_text backend) (backend_in_word vip) ∙ ap (λ ws. backend_text vip ∷ ws) (last_word (backend_text backend) (backend_in_word backend)) in
+    numbered_words number (words_in (words_of (PickBackend datapath vip backend)))
+    ∙ ap (λ ws. told_by (codes "pick" ∷ codes "backend" ∷ ws)) (first_word datapath (backend_text vip ++ 32 ∷ backend_text backend) (name_is_word datapath is.0) ∙ ap (λ ws. datapath ∷ ws) rest)
+    ∙ backends_told datapath vip backend is.1 is.2
+effect_named number (PickPort router port) is =
+    numbered_words number (words_in (words_of (PickPort router port)))
+    ∙ ap (λ ws. told_by (codes "pick" ∷ codes "port" ∷ ws)) (two_words router (decimal port) is.0 (decimal_in_word port))
+    ∙ ap (λ (o : Option ℕ). port_for router o) (port_read port is.1 is.2)
 effect_named number (Tunnel frame from to bytes) is =
-    other_words (decimal number) (codes "tunnel") (words_in (decimal frame ++ 32 ∷ route_words from to bytes)) refl
-effect_named number (Out port packet) is = other_words (decimal number) (codes "out") (words_in (port ++ 32 ∷ encode_lower (frame_of packet))) refl
+    other_words (decimal number) (codes "tunnel") (words_in (decimal frame ++ 32 ∷ route_words from to bytes)) refl refl
+effect_named number (Out port packet) is = other_words (decimal number) (codes "out") (words_in (port ++ 32 ∷ encode_lower (frame_of packet))) refl refl
 effect_named number (Drop datapath port cause) is =
-    other_words (decimal number) (codes "drop") (words_in (datapath ++ 32 ∷ (port ++ 32 ∷ cause_name cause))) refl
-effect_named number (Lost frame) is = other_words (decimal number) (codes "lost") (words_in (decimal frame)) refl
+    other_words (decimal number) (codes "drop") (words_in (datapath ++ 32 ∷ (port ++ 32 ∷ cause_name cause))) refl refl
+effect_named number (Lost frame) is = other_words (decimal number) (codes "lost") (words_in (decimal frame)) refl refl
 
 picks_cons : (effect : NetEffect) (effects : List NetEffect) → picks_of (effect ∷ effects) ≡ one_pick effect ++ picks_of effects
 picks_cons (DatapathKey name key) effects = refl
 picks_cons (PortKey name key) effects = refl
+picks_cons (PickBackend datapath vip backend) effects = refl
+picks_cons (PickPort router port) effects = refl
 picks_cons (Tunnel frame from to bytes) effects = refl
 picks_cons (Out port packet) effects = refl
 picks_cons (Drop datapath port cause) effects = refl
@@ -159,7 +204,7 @@ ok_names : (number walks : ℕ) → picks_in (ok_line number walks) ≡ []
 ok_names number walks =
     sym (ap picks_in (append-nil (ok_line number walks)))
     ∙ event_line number (codes "ok walks=" ++ decimal walks) [] (no_feed_joined (codes "ok walks=") (decimal walks) (tested (codes "ok walks=") refl) (no_feed_in (decimal walks) (decimal_in_word walks)))
-    ∙ append-nil _ ∙ other_words (decimal number) (codes "ok") (words_in (codes "walks=" ++ decimal walks)) refl
+    ∙ append-nil _ ∙ other_words (decimal number) (codes "ok") (words_in (codes "walks=" ++ decimal walks)) refl refl
 
 pub accepted : (number walks : ℕ) (effects : List NetEffect) → AreNamed effects → picks_in (accepted_lines number effects walks) ≡ picks_of effects
 accepted number walks [] are = ok_names number walks
@@ -174,7 +219,7 @@ pub refused : (number : ℕ) (why : Refusal) → picks_in (refused_line number w
 refused number why =
     sym (ap picks_in (append-nil (refused_line number why)))
     ∙ event_line number (codes "refused " ++ refusal_words why) [] (no_feed_joined (codes "refused ") (refusal_words why) (tested (codes "refused ") refl) (refusal_no_feed why))
-    ∙ append-nil _ ∙ other_words (decimal number) (codes "refused") (words_in (refusal_words why)) refl
+    ∙ append-nil _ ∙ other_words (decimal number) (codes "refused") (words_in (refusal_words why)) refl refl
 
 -- ---- whole lines
 
@@ -247,4 +292,4 @@ end events accepted refused waiting =
     ∙ first_line (end_front events accepted refused waiting) [] (end_no_feed events accepted refused waiting)
     ∙ append-nil _
     ∙ ap (λ ws. named_by (codes "end" ∷ with_label ws)) (first_word (decimal events) rest (decimal_in_word events))
-    ∙ other_words (codes "end") (codes "events=" ++ decimal events) (words_in rest) refl
+    ∙ other_words (codes "end") (codes "events=" ++ decimal events) (words_in rest) refl refl

@@ -1,18 +1,14 @@
 -- What a refusal says has no line feed.
 use Rattle.std.proofs.Common.{◌≡◌, ◌+◌, ◌/◌, ◌%◌, ◌++◌, ℕ, Bool, true, false, List, [], ◌∷◌, map, nat_lt, codes, decimal, if◌then◌else◌, Some, None, refl, arith}
 use Rattle.std.specs.Char.{digit_char}
-use Rattle.std.specs.Int.{to_be_bytes}
 use Rattle.std.specs.List.{AllByRecursion, list_all, join_with_byte}
 use Rattle.std.specs.Option.{unwrap_or}
 use Rattle.std.proofs.lemmas.Bool.Decides.{nat_tests}
 use Rattle.std.proofs.lemmas.List.Elements.{recursion_from_All}
 use Rattle.std.proofs.lemmas.List.Sums.{AllPass-from_list_all}
-use mir.Syntax.{w32}
 use Rattle.ovn_base.specs.addresses.AddressText.{pair_text, mac_text, ip4_text}
 use Rattle.ovn_base.specs.addresses.EtherAddress.{mac_bytes}
 use Rattle.ovn_base.specs.declared.address.Mac.{Mac}
-use Rattle.ovn_base.specs.declared.address.Ip4.{Ip4}
-use Rattle.ovn_base.specs.declared.address.Backend.{Backend}
 use Rattle.ovn_base.specs.names.NameText.{is_name, name_byte, spelled_name}
 use Rattle.match_language.specs.declared.fault.MatchFault.{MatchFault}
 use Rattle.match_language.specs.declared.fault.MatchFault.TheVariants as bad
@@ -26,7 +22,9 @@ use Rattle.edit_reader.specs.declared.event.ReadRefusal.{ReadRefusal}
 use Rattle.edit_reader.specs.declared.event.ReadRefusal.TheVariants as unread
 use Rattle.event_lines.specs.declared.refusal.Refusal.{Refusal}
 use Rattle.event_lines.specs.declared.refusal.Refusal.TheVariants as why
-use Rattle.event_lines.specs.Refusals.{argument_text, address_text, backend_text, match_words, read_words, limit_word, schema_words, refusal_words}
+use Rattle.event_lines.specs.Text.{backend_text}
+use Rattle.event_lines.proofs.BackendWords.{ip4_in_word, backend_in_word}
+use Rattle.event_lines.specs.Refusals.{argument_text, address_text, match_words, read_words, limit_word, schema_words, refusal_words}
 use Rattle.event_lines.proofs.Feeds.{IsNoFeed, HaveNoFeed, have_none, tested, no_feed_joined, no_feed_in, decimal_in_word, name_in_word}
 
 -- ---- numbers, names and addresses
@@ -60,16 +58,9 @@ mac_no_feed mac =
     row_no_feed 58 (map pair_text (mac_bytes mac)) (λ e. omega arith)
     (each_no_feed pair_text (mac_bytes mac) (λ b. (digit_no_feed (b / 16), (digit_no_feed (b % 16), tt))))
 
-ip4_no_feed : (ip : Ip4) → HaveNoFeed (ip4_text ip)
-ip4_no_feed ip = row_no_feed 46 (map decimal (to_be_bytes w32 ip.0)) (λ e. omega arith) (each_no_feed decimal (to_be_bytes w32 ip.0) decimal_no_feed)
-
 address_no_feed : (address : Address) → HaveNoFeed (address_text address)
 address_no_feed (Ether mac) = mac_no_feed mac
-address_no_feed (Ip ip) = ip4_no_feed ip
-
-backend_no_feed : (backend : Backend) → HaveNoFeed (backend_text backend)
-backend_no_feed backend =
-    no_feed_joined (ip4_text backend.ip) (codes ":" ++ decimal backend.port) (ip4_no_feed backend.ip) (counted_no_feed (codes ":") backend.port refl)
+address_no_feed (Ip ip) = no_feed_in (ip4_text ip) (ip4_in_word ip)
 
 -- the bytes of a field stand there only where they are a name
 argument_no_feed : (bytes : List ℕ) → HaveNoFeed (argument_text bytes)
@@ -135,7 +126,7 @@ refusal_no_feed (why.Schema schema_fault) = schema_no_feed schema_fault
 refusal_no_feed why.NoDatapathKey = tested (codes "NoDatapathKey") refl
 refusal_no_feed (why.NoPortKey datapath) = argument_is_last (codes "NoPortKey ") datapath refl
 refusal_no_feed (why.NoSuch name) = argument_is_last (codes "NoSuch ") name refl
-refusal_no_feed (why.NoSuchBackend backend) = no_feed_joined (codes "NoSuch ") (backend_text backend) (tested (codes "NoSuch ") refl) (backend_no_feed backend)
+refusal_no_feed (why.NoSuchBackend backend) = no_feed_joined (codes "NoSuch ") (backend_text backend) (tested (codes "NoSuch ") refl) (no_feed_in (backend_text backend) (backend_in_word backend))
 refusal_no_feed (why.NotBound port) = argument_is_last (codes "NotBound ") port refl
 refusal_no_feed (why.DuplicateName name) = argument_is_last (codes "DuplicateName ") name refl
 refusal_no_feed why.LimitChassis = tested (codes "Limit chassis") refl

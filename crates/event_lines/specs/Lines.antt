@@ -5,9 +5,10 @@ use Rattle.ovn_base.specs.declared.name.Name.{Name}
 use Rattle.inet_packet.specs.Frame.{frame_of}
 use Rattle.flow_table.specs.Causes.{cause_name}
 use Rattle.switch_engine.specs.declared.effect.NetEffect.{NetEffect}
-use Rattle.switch_engine.specs.declared.effect.NetEffect.TheVariants.{DatapathKey, PortKey, Tunnel, Out, Drop, Lost}
+use Rattle.switch_engine.specs.declared.effect.NetEffect.TheVariants.{DatapathKey, PortKey, PickBackend, PickPort, Tunnel, Out, Drop, Lost}
 use Rattle.event_lines.specs.declared.refusal.Refusal.{Refusal}
 use Rattle.event_lines.specs.Refusals.{refusal_words}
+use Rattle.event_lines.specs.Text.{backend_text}
 
 -- from one chassis to another, and the bytes in hexadecimal digits
 abbrev pub route_words : Name → Name → List ℕ → List ℕ
@@ -17,6 +18,8 @@ route_words from to bytes = from ++ (codes " " ++ (to ++ (codes " " ++ encode_lo
 abbrev pub words_of : NetEffect → List ℕ
 words_of (DatapathKey name key) = codes "key datapath " ++ (name ++ (codes " " ++ decimal key))
 words_of (PortKey name key) = codes "key port " ++ (name ++ (codes " " ++ decimal key))
+words_of (PickBackend datapath vip backend) = codes "pick backend " ++ (datapath ++ (codes " " ++ (backend_text vip ++ (codes " " ++ backend_text backend))))
+words_of (PickPort router port) = codes "pick port " ++ (router ++ (codes " " ++ decimal port))
 words_of (Tunnel frame from to bytes) = codes "tunnel " ++ (decimal frame ++ (codes " " ++ route_words from to bytes))
 words_of (Out port packet) = codes "out " ++ (port ++ (codes " " ++ encode_lower (frame_of packet)))
 words_of (Drop datapath port cause) = codes "drop " ++ (datapath ++ (codes " " ++ (port ++ (codes " " ++ cause_name cause))))

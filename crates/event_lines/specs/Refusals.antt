@@ -2,7 +2,6 @@
 use Rattle.std.specs.Prelude.{ℕ, List, ◌++◌, codes, decimal}
 use Rattle.std.specs.Option.{unwrap_or}
 use Rattle.ovn_base.specs.addresses.AddressText.{mac_text, ip4_text}
-use Rattle.ovn_base.specs.declared.address.Backend.{Backend}
 use Rattle.ovn_base.specs.names.NameText.{spelled_name}
 use Rattle.match_language.specs.declared.fault.MatchFault.{MatchFault}
 use Rattle.match_language.specs.declared.fault.MatchFault.TheVariants as bad
@@ -16,6 +15,7 @@ use Rattle.edit_reader.specs.declared.event.ReadRefusal.{ReadRefusal}
 use Rattle.edit_reader.specs.declared.event.ReadRefusal.TheVariants as unread
 use Rattle.event_lines.specs.declared.refusal.Refusal.{Refusal}
 use Rattle.event_lines.specs.declared.refusal.Refusal.TheVariants as why
+use Rattle.event_lines.specs.Text.{backend_text}
 
 -- what a refusal is about is shown where it is a name, and else as `?`
 abbrev pub argument_text : List ℕ → List ℕ
@@ -25,10 +25,6 @@ argument_text bytes = unwrap_or (spelled_name bytes) (codes "?")
 abbrev pub address_text : Address → List ℕ
 address_text (Ether mac) = mac_text mac
 address_text (Ip ip) = ip4_text ip
-
--- the address, ':' and the port
-abbrev pub backend_text : Backend → List ℕ
-backend_text backend = ip4_text backend.ip ++ (codes ":" ++ decimal backend.port)
 
 -- the fault of a match, and its place
 abbrev pub match_words : MatchFault → List ℕ

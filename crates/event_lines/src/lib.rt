@@ -6,5 +6,3 @@ pub mod picks;
 mod put;
 pub mod refusal;
 mod refusals;
-#[cfg(test)]
-mod tests;

@@ -2,12 +2,13 @@
 ghost use Rattle.std.specs.Prelude.{◌≡◌, ◌++◌, codes, decimal, OnOk, OnErr};
 ghost use Rattle.flow_table.specs.Causes.{cause_name};
 ghost use Rattle.event_lines.specs.Lines.{route_words, words_of, line_of, ok_line, accepted_lines, refused_line, end_line};
-ghost use Rattle.event_lines.specs.Text.{StartsWith};
+ghost use Rattle.event_lines.specs.Text.{StartsWith, backend_text};
 
-use crate::put::{put, put_count, put_frame, put_hex, put_number, put_wide};
+use crate::put::{put, put_backend, put_count, put_frame, put_hex, put_number, put_wide};
 use crate::refusal::Refusal;
 use crate::refusals::put_refusal;
 use flow_table::flow::Cause;
+use ovn_base::address::Backend;
 use ovn_base::memory::NoMemory;
 use ovn_base::name::Name;
 use switch_engine::effect::NetEffect;
@@ -19,15 +20,55 @@ fn put_cause(cause: Cause, out: &mut Vec<u8>) -> Result<(), NoMemory>
     put(cause.name(), out)
 }
 
-// The kind, the name and the key.
-fn put_key(kind: &[u8], name: &Name, key: u64, out: &mut Vec<u8>) -> Result<(), NoMemory>
-    ensures ok { OnOk result (out.new.items ≡ out.old.items ++ (kind.now ++ (name.now ++ (codes " " ++ decimal key)))) }
+// On the datapath, at the port, for the cause.
+fn put_drop(datapath: &Name, port: &Name, cause: Cause, out: &mut Vec<u8>) -> Result<(), NoMemory>
+    ensures ok { OnOk result (out.new.items ≡ out.old.items ++ (codes "drop " ++ (datapath.now ++ (codes " " ++ (port.now ++ (codes " " ++ cause_name cause)))))) }
+    ensures err { OnErr result (StartsWith out.new.items out.old.items) }
+{
+    put(b"drop ", out)?;
+    put(datapath.text(), out)?;
+    put(b" ", out)?;
+    put(port.text(), out)?;
+    put(b" ", out)?;
+    put_cause(cause, out)
+}
+
+// The kind, the name and its number.
+fn put_named(kind: &[u8], name: &Name, number: u64, out: &mut Vec<u8>) -> Result<(), NoMemory>
+    ensures ok { OnOk result (out.new.items ≡ out.old.items ++ (kind.now ++ (name.now ++ (codes " " ++ decimal number)))) }
     ensures err { OnErr result (StartsWith out.new.items out.old.items) }
 {
     put(kind, out)?;
     put(name.text(), out)?;
     put(b" ", out)?;
-    put_number(key, out)
+    put_number(number, out)
+}
+
+// The virtual address, and the backend.
+fn put_pair(vip: Backend, backend: Backend, out: &mut Vec<u8>) -> Result<(), NoMemory>
+    ensures ok { OnOk result (out.new.items ≡ out.old.items ++ (backend_text vip ++ (codes " " ++ backend_text backend))) }
+    ensures err { OnErr result (StartsWith out.new.items out.old.items) }
+{
+    put_backend(vip, out)?;
+    put(b" ", out)?;
+    put_backend(backend, out)
+}
+
+// The kind, the datapath, and for the virtual address the backend.
+fn put_pick(
+    kind: &[u8],
+    datapath: &Name,
+    vip: Backend,
+    backend: Backend,
+    out: &mut Vec<u8>,
+) -> Result<(), NoMemory>
+    ensures ok { OnOk result (out.new.items ≡ out.old.items ++ (kind.now ++ (datapath.now ++ (codes " " ++ (backend_text vip ++ (codes " " ++ backend_text backend)))))) }
+    ensures err { OnErr result (StartsWith out.new.items out.old.items) }
+{
+    put(kind, out)?;
+    put(datapath.text(), out)?;
+    put(b" ", out)?;
+    put_pair(vip, backend, out)
 }
 
 // From one chassis to another, and the bytes in hexadecimal digits.
@@ -48,9 +89,17 @@ fn put_words(effect: &NetEffect, out: &mut Vec<u8>) -> Result<(), NoMemory>
 {
     match effect {
         NetEffect::DatapathKey { name, key } => {
-            put_key(b"key datapath ", name, u64::from(*key), out)
+            put_named(b"key datapath ", name, u64::from(*key), out)
         }
-        NetEffect::PortKey { name, key } => put_key(b"key port ", name, u64::from(*key), out),
+        NetEffect::PortKey { name, key } => put_named(b"key port ", name, u64::from(*key), out),
+        NetEffect::PickBackend {
+            datapath,
+            vip,
+            backend,
+        } => put_pick(b"pick backend ", datapath, *vip, *backend, out),
+        NetEffect::PickPort { router, port } => {
+            put_named(b"pick port ", router, u64::from(*port), out)
+        }
         NetEffect::Tunnel {
             frame,
             from,
@@ -72,18 +121,8 @@ fn put_words(effect: &NetEffect, out: &mut Vec<u8>) -> Result<(), NoMemory>
             datapath,
             port,
             cause,
-        } => {
-            put(b"drop ", out)?;
-            put(datapath.text(), out)?;
-            put(b" ", out)?;
-            put(port.text(), out)?;
-            put(b" ", out)?;
-            put_cause(*cause, out)
-        }
-        NetEffect::Lost { frame } => {
-            put(b"lost ", out)?;
-            put_wide(*frame, out)
-        }
+        } => put_drop(datapath, port, *cause, out),
+        NetEffect::Lost { frame } => put_count(b"lost ", *frame, out),
     }
 }
 

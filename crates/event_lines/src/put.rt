@@ -3,12 +3,12 @@ ghost use Rattle.std.specs.Prelude.{◌≡◌, ◌++◌, decimal, OnOk, OnErr};
 ghost use Rattle.hex.specs.Hex.{encode_lower};
 ghost use Rattle.ovn_base.specs.addresses.AddressText.{mac_text, ip4_text};
 ghost use Rattle.inet_packet.specs.Frame.{frame_of};
-ghost use Rattle.event_lines.specs.Text.{StartsWith};
+ghost use Rattle.event_lines.specs.Text.{StartsWith, backend_text};
 
 use inet_packet::encode::encode;
 use inet_packet::packet::Packet;
 use itoa::Buffer;
-use ovn_base::address::{Ip4, Mac};
+use ovn_base::address::{Backend, Ip4, Mac};
 use ovn_base::memory::NoMemory;
 use ovn_base::print_address::{push_ip4, push_mac};
 
@@ -60,6 +60,17 @@ pub fn put_ip4(ip: Ip4, out: &mut Vec<u8>) -> Result<(), NoMemory>
     ensures err { OnErr result (StartsWith out.new.items out.old.items) }
 {
     push_ip4(out, ip)
+}
+
+// The address, `:` and the port.
+#[tactic(auto, unfolding(crate::specs::Text::backend_text))]
+pub fn put_backend(backend: Backend, out: &mut Vec<u8>) -> Result<(), NoMemory>
+    ensures ok { OnOk result (out.new.items ≡ out.old.items ++ backend_text backend) }
+    ensures err { OnErr result (StartsWith out.new.items out.old.items) }
+{
+    put_ip4(backend.ip, out)?;
+    put(b":", out)?;
+    put_number(u64::from(backend.port), out)
 }
 
 // The hexadecimal digits of the bytes, in lower case.

@@ -1,14 +1,13 @@
 //! What refusals say.
 ghost use Rattle.std.specs.Prelude.{◌≡◌, ◌++◌, codes, OnOk, OnErr};
-ghost use Rattle.event_lines.specs.Refusals.{argument_text, address_text, backend_text, match_words, read_words, limit_word, schema_words, refusal_words};
+ghost use Rattle.event_lines.specs.Refusals.{argument_text, address_text, match_words, read_words, limit_word, schema_words, refusal_words};
 ghost use Rattle.event_lines.specs.Text.{StartsWith};
 
-use crate::put::{put, put_count, put_ip4, put_mac, put_number};
+use crate::put::{put, put_backend, put_count, put_ip4, put_mac};
 use crate::refusal::Refusal;
 use edit_reader::event::ReadRefusal;
 use match_language::fault::MatchFault;
 use nb_rules::fault::{Address, Limited, SchemaFault};
-use ovn_base::address::Backend;
 use ovn_base::memory::NoMemory;
 use ovn_base::name::Name;
 
@@ -55,16 +54,6 @@ fn put_held(
     put(words, out)?;
     put_address(address, out)?;
     put_at(b" ", holder.text(), out)
-}
-
-// The address, `:` and the port.
-fn put_backend(backend: Backend, out: &mut Vec<u8>) -> Result<(), NoMemory>
-    ensures ok { OnOk result (out.new.items ≡ out.old.items ++ backend_text backend) }
-    ensures err { OnErr result (StartsWith out.new.items out.old.items) }
-{
-    put_ip4(backend.ip, out)?;
-    put(b":", out)?;
-    put_number(u64::from(backend.port), out)
 }
 
 fn put_match(fault: MatchFault, out: &mut Vec<u8>) -> Result<(), NoMemory>

@@ -1,11 +1,11 @@
 //! What cubes ask of registers.
 ghost use Rattle.std.specs.Prelude.{◌≡◌, ◌∷◌};
-ghost use Rattle.match_cubes.specs.Ternary as ternary;
 ghost use Rattle.flow_lowering.specs.Registers as spec;
 
 use inet_packet::cube::{Bits, Cube};
 use inet_packet::regs::{Reg, RegFlags};
 use logical_flows::flow::RegIs;
+use match_cubes::ternary::{agree, both_bits};
 
 // The greatest number that the register may have.
 fn reg_max(reg: Reg) -> u32
@@ -81,23 +81,6 @@ fn ask_reg(cube: &mut Cube, reg: Reg, bits: Bits)
         Reg::Verdict => cube.verdict = bits,
         Reg::Tier => cube.tier = bits,
         Reg::Loopback | Reg::Tracked | Reg::Blocked | Reg::Own | Reg::Arrived => cube.flags = bits,
-    }
-}
-
-// Whether they ask for both values of no bit.
-fn agree(a: &Bits, b: &Bits) -> bool
-    ensures { result ≡ ternary.agree a.now b.now }
-{
-    a.value & b.mask == b.value & a.mask
-}
-
-// What both ask for.
-fn both_bits(a: &Bits, b: &Bits) -> Bits
-    ensures { result ≡ ternary.both_bits a.now b.now }
-{
-    Bits {
-        value: a.value | b.value,
-        mask: a.mask | b.mask,
     }
 }
 

@@ -188,6 +188,15 @@ pub enum FlowOp {
     Copies(List<Member>),
     /// Gives the packet out of the port.
     Output(Name),
+    /// Passes the packet into another datapath: clears all registers, sets these, and goes on at the first table of the
+    /// ingress pipeline.
+    Patch {
+        dp: u32,
+        in_port: u16,
+        /// The numbers of the zones of the gateway router that is entered, 0 where it has none on the chassis.
+        z_dnat: u16,
+        z_snat: u16,
+    },
 }
 
 /// A row of a table: what it matches, and what it does.

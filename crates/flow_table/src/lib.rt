@@ -7,7 +7,5 @@ mod flow_list;
 pub mod lookup;
 pub mod matching;
 pub mod tables;
-#[cfg(test)]
-mod tests;
 
 pub use inet_packet::regs::Regs;

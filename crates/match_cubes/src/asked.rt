@@ -3,7 +3,7 @@ ghost use Rattle.std.specs.Prelude.{◌≡◌, ◌≤◌};
 ghost use Rattle.match_cubes.specs.Asked as spec;
 
 use crate::meet::Meet;
-use crate::ternary::{agree, joined};
+use crate::ternary::{agree, both_bits};
 use inet_packet::cube::{Bits, Cube};
 use match_language::field::Field;
 
@@ -73,26 +73,26 @@ fn joined_all(a: &Cube, b: &Cube) -> Cube
     ensures { result ≡ spec.joined_all a.now b.now }
 {
     Cube {
-        in_port: joined(&a.in_port, &b.in_port),
-        out_port: joined(&a.out_port, &b.out_port),
-        eth_src: joined(&a.eth_src, &b.eth_src),
-        eth_dst: joined(&a.eth_dst, &b.eth_dst),
-        eth_type: joined(&a.eth_type, &b.eth_type),
-        ip4_src: joined(&a.ip4_src, &b.ip4_src),
-        ip4_dst: joined(&a.ip4_dst, &b.ip4_dst),
-        ip_proto: joined(&a.ip_proto, &b.ip_proto),
-        ip_ttl: joined(&a.ip_ttl, &b.ip_ttl),
-        tcp_src: joined(&a.tcp_src, &b.tcp_src),
-        tcp_dst: joined(&a.tcp_dst, &b.tcp_dst),
-        udp_src: joined(&a.udp_src, &b.udp_src),
-        udp_dst: joined(&a.udp_dst, &b.udp_dst),
-        icmp4_type: joined(&a.icmp4_type, &b.icmp4_type),
-        icmp4_code: joined(&a.icmp4_code, &b.icmp4_code),
-        arp_op: joined(&a.arp_op, &b.arp_op),
-        arp_spa: joined(&a.arp_spa, &b.arp_spa),
-        arp_tpa: joined(&a.arp_tpa, &b.arp_tpa),
-        arp_sha: joined(&a.arp_sha, &b.arp_sha),
-        arp_tha: joined(&a.arp_tha, &b.arp_tha),
+        in_port: both_bits(&a.in_port, &b.in_port),
+        out_port: both_bits(&a.out_port, &b.out_port),
+        eth_src: both_bits(&a.eth_src, &b.eth_src),
+        eth_dst: both_bits(&a.eth_dst, &b.eth_dst),
+        eth_type: both_bits(&a.eth_type, &b.eth_type),
+        ip4_src: both_bits(&a.ip4_src, &b.ip4_src),
+        ip4_dst: both_bits(&a.ip4_dst, &b.ip4_dst),
+        ip_proto: both_bits(&a.ip_proto, &b.ip_proto),
+        ip_ttl: both_bits(&a.ip_ttl, &b.ip_ttl),
+        tcp_src: both_bits(&a.tcp_src, &b.tcp_src),
+        tcp_dst: both_bits(&a.tcp_dst, &b.tcp_dst),
+        udp_src: both_bits(&a.udp_src, &b.udp_src),
+        udp_dst: both_bits(&a.udp_dst, &b.udp_dst),
+        icmp4_type: both_bits(&a.icmp4_type, &b.icmp4_type),
+        icmp4_code: both_bits(&a.icmp4_code, &b.icmp4_code),
+        arp_op: both_bits(&a.arp_op, &b.arp_op),
+        arp_spa: both_bits(&a.arp_spa, &b.arp_spa),
+        arp_tpa: both_bits(&a.arp_tpa, &b.arp_tpa),
+        arp_sha: both_bits(&a.arp_sha, &b.arp_sha),
+        arp_tha: both_bits(&a.arp_tha, &b.arp_tha),
         ..Cube::EVERYTHING
     }
 }

@@ -10,5 +10,5 @@ mod meet;
 mod points;
 mod ranges;
 pub mod sets;
-mod ternary;
+pub mod ternary;
 pub mod width;

@@ -19,14 +19,14 @@ pub(crate) fn under(number: u64, mask: u64) -> Bits
 }
 
 /// Whether the bits that count in both have one value.
-pub(crate) fn agree(a: &Bits, b: &Bits) -> bool
+pub fn agree(a: &Bits, b: &Bits) -> bool
     ensures { result ≡ spec.agree a.now b.now }
 {
     a.value & b.mask == b.value & a.mask
 }
 
-/// The bits that count in either.
-pub(crate) fn joined(a: &Bits, b: &Bits) -> Bits
+/// What both ask for: the bits that count in either.
+pub fn both_bits(a: &Bits, b: &Bits) -> Bits
     ensures { result ≡ spec.both_bits a.now b.now }
 {
     Bits {
@@ -40,7 +40,7 @@ impl Meet for Bits {
 
     fn meet(&self, other: &Bits) -> Option<Bits> {
         if agree(self, other) {
-            Some(joined(self, other))
+            Some(both_bits(self, other))
         } else {
             None
         }

@@ -11,7 +11,8 @@ use Rattle.net_model.specs.declared.crossing.Aim.TheVariants as aim
 use Rattle.net_model.specs.declared.crossing.Group.TheVariants as group
 use Rattle.net_model.specs.Journey.{Journey, Traffic, travel, places_of, begin_journey, ended_journey}
 use Rattle.net_model.specs.State.{State, empty, finished, clocked, event_count}
-use Rattle.net_model.specs.Trail.{End, Choice, leaves, is_dropped, crosses, picks_backend, picks_port, is_lost, to_backend, to_port}
+use Rattle.net_model.specs.Trail.{End, leaves, is_dropped, crosses, picks_backend, picks_port, is_lost}
+use Rattle.conn_table.specs.Picks.{Choice, to_backend, to_port}
 use Rattle.net_model.specs.Transition.{Turn, turned_by, bind, unbind, add_chassis, remove_chassis, edit, mark_backend}
 
 -- ---- lines

@@ -58,16 +58,16 @@ module _ (net : Network) where
   -- ---- listed owners own
 
   module _ (order : AreInOrder net) (o : KeyOwner) where
-    from_switches : Among o switches → Owns net o
+    pub from_switches : Among o switches → Owns net o
     from_switches m = let r = map_among switch_owner o net.switches m in subst (λ (x : KeyOwner). Owns net x) (sym r.2) (inl (r.0.1, among_at r.0.0 r.0.1 net.switches order.switches r.1, refl))
 
-    from_routers : Among o routers → Owns net o
+    pub from_routers : Among o routers → Owns net o
     from_routers m = let r = map_among router_owner o net.routers m in subst (λ (x : KeyOwner). Owns net x) (sym r.2) (inr (r.0.1, among_at r.0.0 r.0.1 net.routers order.routers r.1, refl))
 
-    from_router_ports : Among o router_ports → Owns net o
+    pub from_router_ports : Among o router_ports → Owns net o
     from_router_ports m = let r = map_among router_port_owner o net.router_ports m in subst (λ (x : KeyOwner). Owns net x) (sym r.2) (inl (r.0.1, among_at r.0.0 r.0.1 net.router_ports order.router_ports r.1, refl, refl))
 
-    from_switch_ports : Among o switch_ports → Owns net o
+    pub from_switch_ports : Among o switch_ports → Owns net o
     from_switch_ports m = let r = map_among switch_port_owner o net.switch_ports m in subst (λ (x : KeyOwner). Owns net x) (sym r.2) (inr (r.0.1, among_at r.0.0 r.0.1 net.switch_ports order.switch_ports r.1, refl, refl))
 
     pub among_owns : Among o (owners_of net) → Owns net o
@@ -161,7 +161,7 @@ module _ (net : Network) where
       or_right (passes (router_port_is datapath birth) (at net.router_ports name)) _
       (passing (switch_port_is datapath birth) (at net.switch_ports name) h.0 h.1 (and_from _ _ (same_name_if h.0.switch datapath h.2) (same_birth_if h.0.birth birth h.3)))
 
-  owns_has : (o : KeyOwner) → Owns net o → has_owner net o ≡ true
+  pub owns_has : (o : KeyOwner) → Owns net o → has_owner net o ≡ true
   owns_has (Datapath name birth) h = datapath_has name birth h
   owns_has (Port datapath name birth) h = port_has datapath name birth h
 

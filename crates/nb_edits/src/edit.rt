@@ -3,7 +3,7 @@ ghost use Rattle.std.specs.Prelude.{◌≡◌};
 ghost use Rattle.nb_edits.specs.Plans.{Plans};
 
 use crate::operate::operate_all;
-use crate::owners::new_owners;
+use crate::owners::{kind_owners, new_owners};
 use crate::plan::{EditFault, EditPlan};
 use nb_records::change::Op;
 use nb_records::records::Records;
@@ -29,8 +29,10 @@ pub fn plan(
     if let Some(fault) = first_broken_indexed(alloc, &after, ops)? {
         return Err(EditFault::Schema(fault));
     }
-    let added = new_owners(alloc, records, &after)?;
-    let removed = new_owners(alloc, &after, records)?;
+    let owners = kind_owners(alloc, records)?;
+    let owners_after = kind_owners(alloc, &after)?;
+    let added = new_owners(alloc, records, &owners, &owners_after)?;
+    let removed = new_owners(alloc, &after, &owners_after, &owners)?;
     Ok(EditPlan {
         after,
         added,

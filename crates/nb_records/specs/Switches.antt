@@ -89,6 +89,12 @@ entry_mac behind (address.Ether mac ips) = Some mac
 entry_mac behind address.Unknown = None
 entry_mac behind address.Router = option_map (λ r. r.mac) behind
 
+-- the IPv4 addresses of an entry
+abbrev pub ips_in_entry : PortAddress → List Ip4
+ips_in_entry (address.Ether mac ips) = ips
+ips_in_entry address.Unknown = []
+ips_in_entry address.Router = []
+
 -- the Ethernet addresses of the port
 abbrev pub macs_of : Network → SwitchPort → List Mac
 macs_of net port = filter_map (entry_mac (router_port_behind net port)) port.addresses

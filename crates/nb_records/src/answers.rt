@@ -2,12 +2,13 @@
 ghost use Rattle.std.specs.Prelude.{◌≡◌, ◌&&◌};
 ghost use Rattle.std.specs.List.{list_any};
 ghost use Rattle.ovn_base.specs.names.SameName.{same_name};
-ghost use Rattle.nb_records.specs.Switches.{is_named, same_ip, serves_at};
+ghost use Rattle.nb_records.specs.Switches.{same_ip, serves_at};
 ghost use Rattle.nb_records.specs.Routers.{has_vip};
 ghost use Rattle.nb_records.specs.Routers as spec;
 
 use crate::balancer::LoadBalancer;
 use crate::records::Records;
+use crate::references::serves;
 use crate::router::RouterPort;
 use ovn_base::address::{Cidr, Ip4};
 use ovn_base::name::Name;
@@ -81,21 +82,6 @@ fn has_vip_at(records: &Records, router: &Name, ip: Ip4) -> bool
         }
     }
     false
-}
-
-// The balancer serves the switch or router of that name.
-fn serves(balancer: &LoadBalancer, datapath: &Name) -> bool
-    ensures { result ≡ serves_at datapath.now balancer.now }
-{
-    is_named(balancer.switches.as_slice(), datapath)
-        || is_named(balancer.routers.as_slice(), datapath)
-}
-
-// The name is among the names.
-fn is_named(names: &[Name], name: &Name) -> bool
-    ensures { result ≡ is_named name.now names.now }
-{
-    names.iter().any(|other| *other == *name)
 }
 
 // The balancer has the virtual address, at some port.

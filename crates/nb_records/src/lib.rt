@@ -1,6 +1,7 @@
 //! The northbound records, each kind in order of name, and what follows from them.
 #![tactic(auto)]
 
+pub mod addresses;
 pub mod answers;
 pub mod balancer;
 pub mod change;
@@ -11,4 +12,5 @@ pub mod records;
 pub mod references;
 pub mod router;
 pub mod rule;
+pub mod scopes;
 pub mod switch;

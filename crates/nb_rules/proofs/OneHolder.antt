@@ -4,7 +4,7 @@ use Rattle.std.specs.BTreeMap.{is_at}
 use Rattle.std.specs.Cmp.{first_so, second_so}
 use Rattle.std.specs.List.{list_any, list_all, AllByRecursion}
 use Rattle.std.specs.Map.{lookup}
-use Rattle.std.specs.Ordering.{is_lt}
+use Rattle.std.specs.Ordering.{is_lt, nat_cmp}
 use Rattle.std.proofs.Common.{refl, sym, ap, subst, ◌∙◌, append_assoc}
 use Rattle.std.proofs.lemmas.Bool.{false≢true, cases_Bool}
 use Rattle.std.proofs.lemmas.Bool.Decides.{Decides-eqb}
@@ -21,16 +21,16 @@ use Rattle.ovn_base.specs.names.SameName.{same_name, bytes_decides}
 use Rattle.ovn_base.proofs.AmongLaws.{among_all, all_among, among_map, among_flat_map, any_among, among_any}
 use Rattle.nb_records.specs.Network.{Network}
 use Rattle.nb_records.specs.Routers.{nats_of, served_ips, has_own_ip, answers_if, contains}
-use Rattle.nb_records.specs.Switches.{balancers_of, is_given, same_ip, same_mac, macs_of, has_mac, router_port_behind}
+use Rattle.nb_records.specs.Switches.{balancers_of, is_given, same_ip, same_mac, macs_of, has_mac, ips_in_entry, router_port_behind}
 use Rattle.nb_records.specs.declared.balancer.LoadBalancer.{LoadBalancer}
 use Rattle.nb_records.specs.declared.router.Nat.{Nat}
 use Rattle.nb_records.specs.declared.router.RouterPort.{RouterPort}
 use Rattle.nb_records.specs.declared.switch.PortKind.{PortKind}
 use Rattle.nb_records.specs.declared.switch.PortKind.TheVariants as port_kind
 use Rattle.nb_records.specs.declared.switch.SwitchPort.{SwitchPort}
-use Rattle.nb_rules.specs.Claims.{place_on, claim_of, mac_claim, port_macs, mac_claims, ip_claim, claims_to, port_ips, ip_claims, place_cmp, is_holder, HaveOneHolder}
+use Rattle.nb_rules.specs.Claims.{place_on, claim_of, mac_claim, port_macs, mac_claims, ip_claim, claims_to, port_ips, ip_claims, mark_of, is_holder, HaveOneHolder}
 use Rattle.nb_rules.specs.First.{least_of, lesser}
-use Rattle.nb_rules.specs.Holders.{is_switch_mate, is_before, has_mate, is_mac_shared, shared_mac, mac_number_of, the_mac, ip_number, the_ip, ips_in_entry, own_ips, known_ips, ips_by_kind, holds_by_kind, holds_ip, is_ip_shared, shared_ip, mac_fault, ip_fault, twice_mac, twice_ip}
+use Rattle.nb_rules.specs.Holders.{is_switch_mate, is_before, has_mate, is_mac_shared, shared_mac, mac_number_of, the_mac, ip_number, the_ip, own_ips, known_ips, ips_by_kind, holds_by_kind, holds_ip, is_ip_shared, shared_ip, mac_fault, ip_fault, twice_mac, twice_ip}
 use Rattle.nb_rules.specs.declared.claims.Claim.{Claim}
 use Rattle.nb_rules.specs.declared.claims.Place.{Place}
 use Rattle.nb_rules.proofs.Validity.{none_each, mapped}
@@ -41,16 +41,16 @@ given_some : (name : Name) (o : Option Name) → is_given name o ≡ true → o 
 given_some name None h = absurd (false≢true h)
 given_some name (Some given) h = ap Some ((bytes_decides given name).0 h)
 
-all_hold : (holders : List (Place × Name)) (claims : List Claim) → list_all (is_holder holders) claims ≡ true
-    → AllByRecursion (λ (c : Claim). lookup (is_at (place_cmp c.place)) holders ≡ Some c.holder) claims
+all_hold : (holders : List (ℕ × Name)) (claims : List Claim) → list_all (is_holder holders) claims ≡ true
+    → AllByRecursion (λ (c : Claim). lookup (is_at (nat_cmp (mark_of c.place))) holders ≡ Some c.holder) claims
 all_hold holders [] h = tt
 all_hold holders (c ∷ claims) h = (
-  given_some c.holder (lookup (is_at (place_cmp c.place)) holders) (first_so (is_holder holders c) (list_all (is_holder holders) claims) h),
+  given_some c.holder (lookup (is_at (nat_cmp (mark_of c.place))) holders) (first_so (is_holder holders c) (list_all (is_holder holders) claims) h),
   all_hold holders claims (second_so (is_holder holders c) (list_all (is_holder holders) claims) h),
 )
 
-pub one_holder : (holders : List (Place × Name)) (claims : List Claim) → list_all (is_holder holders) claims ≡ true → HaveOneHolder claims
-one_holder holders claims h = ((λ place. lookup (is_at (place_cmp place)) holders), all_hold holders claims h)
+pub one_holder : (holders : List (ℕ × Name)) (claims : List Claim) → list_all (is_holder holders) claims ≡ true → HaveOneHolder claims
+one_holder holders claims h = ((λ place. lookup (is_at (nat_cmp (mark_of place))) holders), all_hold holders claims h)
 
 -- ---- addresses that a port holds
 

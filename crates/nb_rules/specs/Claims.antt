@@ -1,11 +1,9 @@
 -- Claims of ports to addresses on their switches. Where each place has one holder, no two ports of a switch have one address.
-use Rattle.std.specs.Prelude.{◌≡◌, ℕ, Bool, true, cond, List, [], ◌∷◌, map, flat_map, Option, Some, None}
+use Rattle.std.specs.Prelude.{◌≡◌, ◌*◌, ◌+◌, ◌%◌, ◌^◌, ℕ, Bool, true, cond, List, [], ◌∷◌, map, flat_map, Option, Some, None}
 use Rattle.std.specs.BTreeMap.{is_at}
-use Rattle.std.specs.Cmp.Lexicographic.{slice_cmp}
 use Rattle.std.specs.List.{AllByRecursion}
 use Rattle.std.specs.Map.{lookup}
-use Rattle.std.specs.Ordering.{nat_cmp, on, then_cmp}
-use Rattle.std.specs.declared.cmp.Ordering.{Ordering}
+use Rattle.std.specs.Ordering.{nat_cmp}
 use Rattle.ovn_base.specs.declared.address.Ip4.{Ip4}
 use Rattle.ovn_base.specs.declared.address.Mac.{Mac}
 use Rattle.ovn_base.specs.declared.name.Name.{Name}
@@ -50,13 +48,21 @@ ip_claims net = flat_map (λ (e : Name × SwitchPort). port_ips net e.1) net.swi
 
 -- ---- one holder
 
--- places by number, and then by switch
-abbrev pub place_cmp : Place → Place → Ordering
-place_cmp = then_cmp (on (λ p. p.number) nat_cmp) (on (λ p. p.switch) (slice_cmp nat_cmp))
+-- the mark with one more byte
+abbrev pub mixed : ℕ → ℕ → ℕ
+mixed mark byte = (mark * 257 + byte) % 2 ^ 64
 
--- the holder at the claim's place is the claim's
-abbrev pub is_holder : List (Place × Name) → Claim → Bool
-is_holder holders c = is_given c.holder (lookup (is_at (place_cmp c.place)) holders)
+abbrev pub mixed_all : ℕ → List ℕ → ℕ
+mixed_all mark [] = mark
+mixed_all mark (byte ∷ bytes) = mixed_all (mixed mark byte) bytes
+
+-- a number for the place, which few others have: the address, and the bytes of the name of the switch as further digits
+abbrev pub mark_of : Place → ℕ
+mark_of p = mixed_all p.number p.switch
+
+-- the holder at the mark of the claim's place is the claim's
+abbrev pub is_holder : List (ℕ × Name) → Claim → Bool
+is_holder holders c = is_given c.holder (lookup (is_at (nat_cmp (mark_of c.place))) holders)
 
 -- each place has one holder
 abbrev pub HaveOneHolder : List Claim → Type 0

@@ -11,7 +11,7 @@ use Rattle.ovn_base.specs.declared.name.Name.{Name}
 use Rattle.ovn_base.specs.names.SameName.{same_name}
 use Rattle.nb_records.specs.Network.{Network, same_backend}
 use Rattle.nb_records.specs.Routers.{has_own_ip, served_ips, answers_if}
-use Rattle.nb_records.specs.Switches.{same_ip, or_else, router_port_behind, macs_of, has_mac, serves_at}
+use Rattle.nb_records.specs.Switches.{same_ip, or_else, router_port_behind, ips_in_entry, macs_of, has_mac, serves_at}
 use Rattle.nb_records.specs.declared.balancer.BalancerProtocol.{BalancerProtocol}
 use Rattle.nb_records.specs.declared.balancer.BalancerProtocol.TheVariants as protocol
 use Rattle.nb_records.specs.declared.balancer.LoadBalancer.{LoadBalancer}
@@ -20,7 +20,6 @@ use Rattle.nb_records.specs.declared.router.Router.{Router}
 use Rattle.nb_records.specs.declared.router.RouterPort.{RouterPort}
 use Rattle.nb_records.specs.declared.router.StaticMac.{StaticMac}
 use Rattle.nb_records.specs.declared.switch.PortAddress.{PortAddress}
-use Rattle.nb_records.specs.declared.switch.PortAddress.TheVariants as address
 use Rattle.nb_records.specs.declared.switch.PortKind.{PortKind}
 use Rattle.nb_records.specs.declared.switch.PortKind.TheVariants as port_kind
 use Rattle.nb_records.specs.declared.switch.Switch.{Switch}
@@ -72,11 +71,6 @@ is_mac_shared net q mac = has_mate net q (has_mac net mac)
 -- the least of the port's that a port before it has
 abbrev pub shared_mac : Network → SwitchPort → Option Mac
 shared_mac net q = least_of mac_number_of the_mac (is_mac_shared net q) None (macs_of net q)
-
-abbrev pub ips_in_entry : PortAddress → List Ip4
-ips_in_entry (address.Ether mac ips) = ips
-ips_in_entry address.Unknown = []
-ips_in_entry address.Router = []
 
 abbrev pub has_entry_ip : Ip4 → PortAddress → Bool
 has_entry_ip ip a = list_any (same_ip ip) (ips_in_entry a)

@@ -3,13 +3,15 @@ ghost use Rattle.std.specs.Prelude.{◌≡◌, ◌++◌, ◌∷◌, [], true, ma
 ghost use Rattle.std.specs.List.{list_all};
 ghost use Rattle.nb_records.specs.Routers as routing;
 ghost use Rattle.nb_records.specs.Switches as facts;
+ghost use Rattle.nb_records.specs.Switches.{ips_in_entry};
 ghost use Rattle.nb_rules.specs.Claims as spec;
-ghost use Rattle.nb_rules.specs.Holders.{ips_in_entry, own_ips, twice_mac, twice_ip};
+ghost use Rattle.nb_rules.specs.Holders.{own_ips, twice_mac, twice_ip};
 
-use crate::shared::{entry_mac, holds_ip, ips_in_entry, router_port_behind};
-use crate::vips::serves;
+use crate::shared::holds_ip;
+use nb_records::addresses::{entry_mac, ips_in_entry, router_port_behind};
 use nb_records::balancer::Vip;
 use nb_records::records::Records;
+use nb_records::references::serves;
 use nb_records::router::RouterPort;
 use nb_records::switch::{PortAddress, PortKind, SwitchPort};
 use ovn_base::address::{Cidr, Ip4};
@@ -20,7 +22,7 @@ use std::alloc::Global;
 use std::collections::BTreeMap;
 
 /// An address on a switch, by its number.
-#[derive(Clone, Copy, PartialEq, Eq, PartialOrd, Ord, Debug)]
+#[derive(Clone, Copy, PartialEq, Eq, Debug)]
 pub(crate) struct Place {
     number: u64,
     switch: Name,
@@ -215,25 +217,48 @@ fn ip_claims(alloc: Global, records: &Records) -> Result<List<Claim>, NoMemory>
 
 // ---- one holder
 
-// The last holder of each place.
-fn holders(alloc: Global, claims: &[Claim]) -> Result<BTreeMap<Place, Name>, NoMemory> {
+fn mixed(mark: u64, byte: u8) -> u64
+    ensures { result ≡ spec.mixed mark byte }
+{
+    mark.wrapping_mul(257).wrapping_add(u64::from(byte))
+}
+
+fn mixed_all(number: u64, bytes: &[u8]) -> u64
+    ensures { result ≡ spec.mixed_all number bytes.now }
+{
+    let mut mark = number;
+    'bytes: for byte in bytes {
+        mark = mixed(mark, *byte);
+    }
+    mark
+}
+
+// The mark of the place.
+fn mark_of(place: &Place) -> u64
+    ensures { result ≡ spec.mark_of place.now }
+{
+    mixed_all(place.number, place.switch.text())
+}
+
+// The last holder of each mark.
+fn holders(alloc: Global, claims: &[Claim]) -> Result<BTreeMap<u64, Name>, NoMemory> {
     let mut holders = BTreeMap::new(alloc);
     for claim in claims {
-        holders.insert(claim.place, claim.holder)?;
+        holders.insert(mark_of(&claim.place), claim.holder)?;
     }
     Ok(holders)
 }
 
-fn is_holder(holders: &BTreeMap<Place, Name>, claim: &Claim) -> bool
+fn is_holder(holders: &BTreeMap<u64, Name>, claim: &Claim) -> bool
     ensures { result ≡ spec.is_holder holders.now.entries claim.now }
 {
-    match holders.get(&claim.place) {
+    match holders.get(&mark_of(&claim.place)) {
         Some(holder) => *holder == claim.holder,
         None => false,
     }
 }
 
-fn all_hold(holders: &BTreeMap<Place, Name>, claims: &[Claim]) -> bool
+fn all_hold(holders: &BTreeMap<u64, Name>, claims: &[Claim]) -> bool
     ensures { result ≡ list_all (spec.is_holder holders.now.entries) claims.now }
 {
     claims.iter().all(|claim| is_holder(holders, claim))

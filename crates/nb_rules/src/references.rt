@@ -68,11 +68,11 @@ impl Missing<'_> {
     fn is_missing(&self, kind: Kind, name: &Name) -> bool
         ensures { result ≡ spec.is_missing self.now.records.now self.now.ops.now self.now.removed (kind, name.now) }
     {
-        if self.records.is_there(kind, name) {
-            return false;
+        if self.removed {
+            is_removed(self.ops, kind, name) && !self.records.is_there(kind, name)
+        } else {
+            !self.records.is_there(kind, name) && !is_removed(self.ops, kind, name)
         }
-        let gone = is_removed(self.ops, kind, name);
-        if self.removed { gone } else { !gone }
     }
 
     // The name, if it is missing.

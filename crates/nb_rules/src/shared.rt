@@ -1,7 +1,6 @@
 //! Addresses that two ports of a switch hold.
 ghost use Rattle.std.specs.Prelude.{◌≡◌, ◌++◌, [], ◌∷◌, map, flat_map, None};
 ghost use Rattle.std.specs.List.{list_any};
-ghost use Rattle.std.specs.Option.{option_copied};
 ghost use Rattle.nb_records.specs.Switches as facts;
 ghost use Rattle.nb_records.specs.Routers as routing;
 ghost use Rattle.nb_rules.specs.Claims.{ApartIf};
@@ -10,10 +9,11 @@ ghost use Rattle.nb_rules.specs.Holders as spec;
 use crate::fault::{Address, SchemaFault};
 use crate::first::{Clause, first_of};
 use crate::least::{lesser_ip, lesser_mac};
-use crate::vips::serves;
+use nb_records::addresses::{entry_mac, ips_in_entry, router_port_behind};
 use nb_records::answers::answers_by;
 use nb_records::balancer::Vip;
 use nb_records::records::Records;
+use nb_records::references::serves;
 use nb_records::router::RouterPort;
 use nb_records::switch::{PortAddress, PortKind, SwitchPort};
 use ovn_base::address::{Cidr, Ip4, Mac};
@@ -26,34 +26,7 @@ fn is_mate(port: &SwitchPort, other: &SwitchPort) -> bool
     other.switch == port.switch && other.name < port.name
 }
 
-/// The router port behind a port to a router.
-pub(crate) fn router_port_behind<'a>(
-    records: &'a Records,
-    port: &SwitchPort,
-) -> Option<&'a RouterPort>
-    ensures { option_copied result ≡ facts.router_port_behind records.now port.now }
-{
-    match &port.router_port {
-        Some(name) => records.router_port(name),
-        None => None,
-    }
-}
-
 // ---- Ethernet addresses
-
-/// The Ethernet address of an entry; `router` stands for that of the router port behind the port.
-pub(crate) fn entry_mac(records: &Records, port: &SwitchPort, entry: &PortAddress) -> Option<Mac>
-    ensures { result ≡ facts.entry_mac (facts.router_port_behind records.now port.now) entry.now }
-{
-    match entry {
-        PortAddress::Ether { mac, .. } => Some(*mac),
-        PortAddress::Unknown => None,
-        PortAddress::Router => match router_port_behind(records, port) {
-            Some(behind) => Some(behind.mac),
-            None => None,
-        },
-    }
-}
 
 // The port has the Ethernet address.
 fn has_mac(records: &Records, mac: &Mac, port: &SwitchPort) -> bool
@@ -97,16 +70,6 @@ fn shared_mac(records: &Records, port: &SwitchPort) -> Option<Mac>
 }
 
 // ---- IPv4 addresses
-
-/// The IPv4 addresses of an entry.
-pub(crate) fn ips_in_entry(entry: &PortAddress) -> &[Ip4]
-    ensures { result.now ≡ spec.ips_in_entry entry.now }
-{
-    match entry {
-        PortAddress::Ether { ips, .. } => ips.as_slice(),
-        PortAddress::Unknown | PortAddress::Router => &[],
-    }
-}
 
 fn has_ip(ips: &[Ip4], ip: Ip4) -> bool
     ensures { result ≡ list_any (facts.same_ip ip) ips.now }
@@ -176,7 +139,7 @@ fn least_in(records: &Records, port: &SwitchPort, so_far: Option<Ip4>, ips: &[Ip
 
 // The least shared address of the port's entries.
 fn least_in_entries(records: &Records, port: &SwitchPort) -> Option<Ip4>
-    ensures { result ≡ spec.least_shared records.now port.now None (flat_map spec.ips_in_entry port.now.addresses) }
+    ensures { result ≡ spec.least_shared records.now port.now None (flat_map facts.ips_in_entry port.now.addresses) }
 {
     let mut least: Option<Ip4> = None;
     'entries: for entry in port.addresses.as_slice() {

@@ -11,23 +11,9 @@ use crate::fault::{Address, SchemaFault};
 use crate::least::lesser_ip;
 use nb_records::balancer::{BalancerProtocol, LoadBalancer, Vip};
 use nb_records::records::Records;
+use nb_records::references::serves;
 use ovn_base::address::{Backend, Ip4};
 use ovn_base::name::Name;
-
-/// Whether the balancer serves the switch or router.
-pub(crate) fn serves(balancer: &LoadBalancer, datapath: &Name) -> bool
-    ensures { result ≡ facts.serves_at datapath.now balancer.now }
-{
-    is_named(balancer.switches.as_slice(), datapath)
-        || is_named(balancer.routers.as_slice(), datapath)
-}
-
-/// Whether the name is among the names.
-pub(crate) fn is_named(names: &[Name], name: &Name) -> bool
-    ensures { result ≡ facts.is_named name.now names.now }
-{
-    names.iter().any(|other| *other == *name)
-}
 
 fn same_protocol(a: BalancerProtocol, b: BalancerProtocol) -> bool
     ensures { result ≡ spec.same_protocol a b }

@@ -1,7 +1,5 @@
 //! The widths of matches, and how many records there may be.
 ghost use Rattle.std.specs.Prelude.{◌≡◌, ◌+◌, nat_lt, length};
-ghost use Rattle.std.specs.Option.{option_copied, option_and_then};
-ghost use Rattle.ovn_base.specs.names.ByName.{at};
 ghost use Rattle.match_cubes.specs.Width.{saturated};
 ghost use Rattle.nb_records.specs.Switches as facts;
 ghost use Rattle.nb_rules.specs.Widths as spec;
@@ -9,13 +7,11 @@ ghost use Rattle.nb_rules.specs.Widths as spec;
 use crate::fault::{Limited, SchemaFault};
 use crate::first::{Clause, first_of};
 use crate::sets::RecordSets;
-use crate::vips::is_named;
 use match_cubes::width::width;
 use nb_records::records::Records;
-use nb_records::references::is_given;
-use nb_records::rule::{Acl, PortGroup};
+use nb_records::rule::Acl;
+use nb_records::scopes::applies;
 use ovn_base::limits::{MAX_ACLS, MAX_DATAPATHS, MAX_PORTS, MAX_WIDTH};
-use ovn_base::name::Name;
 
 // The width of the rule's match, or the greatest number where it is wider.
 fn rule_width(records: &Records, rule: &Acl) -> u128
@@ -49,43 +45,6 @@ pub(crate) fn too_wide(records: &Records) -> Option<SchemaFault>
 }
 
 // ---- limits
-
-// The group has a port of the switch.
-fn covers(records: &Records, switch: &Name, group: &PortGroup) -> bool
-    ensures { result ≡ facts.has_port_of records.now switch.now group.now }
-{
-    'ports: for (_name, port) in records.switch_ports() {
-        if port.switch == *switch {
-            if is_named(group.ports.as_slice(), &port.name) {
-                return true;
-            }
-        }
-    }
-    false
-}
-
-// The port group of the rule, where it is there.
-fn group_of<'a>(records: &'a Records, rule: &Acl) -> Option<&'a PortGroup>
-    ensures { option_copied result ≡ option_and_then (at records.now.port_groups) rule.now.port_group }
-{
-    match &rule.port_group {
-        Some(group) => records.port_group(group),
-        None => None,
-    }
-}
-
-// The rule applies to the switch.
-fn applies(records: &Records, switch: &Name, rule: &Acl) -> bool
-    ensures { result ≡ facts.applies records.now switch.now rule.now }
-{
-    if is_given(switch, &rule.switch) {
-        return true;
-    }
-    match group_of(records, rule) {
-        Some(group) => covers(records, switch, group),
-        None => false,
-    }
-}
 
 // The sum so far with the cubes of the rule on all switches, or the greatest number where there are more.
 #[tactic(auto, using(crate::proofs::SumCaps::add_applying, crate::proofs::SumCaps::add_none))]

@@ -1,4 +1,4 @@
--- Journeys only add, and choices determine them.
+-- Journeys only add.
 use Rattle.std.specs.Prelude.{◌≡◌, ◌++◌, ℕ, zero, suc, Bool, true, false, List, [], ◌∷◌, Option, Some, None, refl}
 use Rattle.std.proofs.Common.{sym, ap, ◌∙◌, append_assoc, append-nil}
 use Rattle.std.specs.Option.{option_and_then}
@@ -10,10 +10,9 @@ use Rattle.ovn_base.specs.names.ByName.{at}
 use Rattle.net_model.proofs.LeadLaws.{is_later}
 use Rattle.net_model.proofs.VisitLeads.{visit_later, arrival_later}
 use Rattle.net_model.specs.Entry.{Scene}
-use Rattle.net_model.specs.Journey.{Journey, Scenes, without_ends, go, goes_in, waiting_at, takes_off, kept_or_not, arrive_at, comes_as, comes, drain_from, drain, drain_all, Traffic, enter_one, arrive_one, lose_one, arrive_all, enter_and_arrive, Places, enter_by, enter_on, enter_at, travel, places_of, begin_journey, ended_journey, Travels}
+use Rattle.net_model.specs.Journey.{Journey, Scenes, without_ends, go, goes_in, waiting_at, takes_off, kept_or_not, arrive_at, comes_as, comes, drain_from, drain, drain_all, Traffic, enter_one, arrive_one, lose_one, arrive_all, enter_and_arrive, Places, enter_by, enter_on, enter_at, travel}
 use Rattle.net_model.specs.Leads.{stays, tells, IsLater}
-use Rattle.net_model.specs.State.{State}
-use Rattle.net_model.specs.Trail.{Trail, End, Choice, choices_in, is_lost}
+use Rattle.net_model.specs.Trail.{Trail, End, is_lost}
 use Rattle.net_model.specs.declared.crossing.Crossing.{Crossing}
 
 -- ---- later trails
@@ -88,12 +87,3 @@ travel_later places arrive_all j = drain_all_later places.scenes j
 travel_later places (enter_and_arrive port p) j =
     let entered = enter_at places port p j in
     later_still j.trail entered.trail (drain_all places.scenes entered).trail (enter_at_later places port p j) (drain_all_later places.scenes entered)
-
--- ---- determined
-
--- the same packets with the same choices have the same ends, and lead to the same state
-pub same_travels : (m : State) (traffic : Traffic) (es fs : List End) (a b : State) → Travels m traffic es a → Travels m traffic fs b → choices_in es ≡ choices_in fs → (es ≡ fs) × (a ≡ b)
-same_travels m traffic es fs a b g h same = (
-  g.ends_are ∙ ap (λ (cs : List Choice). (travel (places_of m) traffic (begin_journey m cs)).trail.ends) same ∙ sym h.ends_are,
-  g.state ∙ ap (λ (cs : List Choice). ended_journey m (travel (places_of m) traffic (begin_journey m cs))) same ∙ sym h.state,
-)

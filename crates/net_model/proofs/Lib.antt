@@ -7,3 +7,7 @@ pub mod VisitLeads
 pub mod JourneyLaws
 pub mod HopLaws
 pub mod NearLaws
+pub mod SpareLaws
+pub mod SwitchSpares
+pub mod RouterSpares
+pub mod SparedJourneys

@@ -2,6 +2,7 @@
 use Rattle.std.specs.Prelude.{◌≡◌, ℕ, Bool, true, false, Option, Some, None, cond, refl}
 use Rattle.std.proofs.lemmas.Bool.{false≢true}
 use Rattle.conn_table.specs.Connections.{ConnectionList, is_free}
+use Rattle.conn_table.specs.Picks.{to_address, with_port, is_free_port, first_port, may_pick, some_from, has_free_port, from_address, Chosen, choose_port}
 use Rattle.conn_table.specs.Tracking.{Seen, forward, reply, invalid, new, seen}
 use Rattle.conn_table.specs.Tuples.{reversed, reversed_protocol, with_tuple, has_ports}
 use Rattle.conn_table.specs.declared.tuple.Tuple.{Tuple}
@@ -19,14 +20,14 @@ use Rattle.net_model.proofs.LeadLaws.{point_on, then_leads, finally_leads, drop_
 use Rattle.net_model.proofs.SeenLaws.{IsNewTuple, Found, found_seen, addresses_pair, port_pair}
 use Rattle.net_model.proofs.SwitchLeads.{commit_leads, onward_leads, back_leads, FreePortsIf, service_for_ports, balance_leads}
 use Rattle.net_model.specs.Balancing.{Desk, Service, service_for}
-use Rattle.net_model.specs.Dnat.{undo_as, undo_snat, dnat_row, dnat_desk, to_address, dnat_by_row, dnat_new, dnat_as, dnat}
+use Rattle.net_model.specs.Dnat.{undo_as, undo_snat, dnat_row, dnat_desk, dnat_by_row, dnat_new, dnat_as, dnat}
 use Rattle.net_model.specs.Entry.{Scene, Onward}
 use Rattle.net_model.specs.Forwarding.{is_translating, where_translating, leave_router, send_out, routed, to_neighbour, over_hop, route_on, own_address, not_own, translate_destination, come_in, go_through, take_in, into_router}
 use Rattle.net_model.specs.Headers.{src_of, dst_of}
 use Rattle.net_model.specs.Leads.{stays, tells, chooses, PointLeads, PieceLeads, WayLeads, OnwardLeads}
 use Rattle.net_model.specs.RouterInput.{Intake, answers_with, becomes, passes_on, refuses, intake}
-use Rattle.net_model.specs.Snat.{snat_row, snat_desk, with_port, is_free_port, first_port, may_pick, some_from, has_free_port, snat_over, pick_port, keep_port, from_address, snat_by_row, snat_without_row, snat_as, snat}
-use Rattle.net_model.specs.Trail.{Trail, dnat_of, snat_of, list_of, Spot, spot_in_router, tell, picks_port, Chosen, choose_port, after_choice, Point}
+use Rattle.net_model.specs.Snat.{snat_row, snat_desk, snat_over, pick_port, keep_port, snat_by_row, snat_without_row, snat_as, snat}
+use Rattle.net_model.specs.Trail.{Trail, dnat_of, snat_of, list_of, Spot, spot_in_router, tell, picks_port, after_choice, Point}
 
 -- ---- undoing translations of sources
 

@@ -4,6 +4,7 @@ use Rattle.std.specs.Option.{option_map}
 use Rattle.std.proofs.Common.{sym, ap, ◌∙◌}
 use Rattle.std.proofs.lemmas.Bool.{false≢true, true≢false}
 use Rattle.conn_table.specs.Connections.{ConnectionList, entry_of, answered, IsPair}
+use Rattle.conn_table.specs.Picks.{with_port}
 use Rattle.conn_table.specs.Tracking.{Seen, forward, reply, invalid, new, seen_as_reply, seen_as_forward, seen_tuple, seen}
 use Rattle.conn_table.specs.Tuples.{tuple_between, ip4_tuple, body_tuple, tuple_of, reversed_protocol, reversed, is_echo_reply, has_ports, HasItsPorts}
 use Rattle.conn_table.specs.declared.connection.Entry.{Entry}
@@ -17,7 +18,6 @@ use Rattle.inet_packet.specs.declared.packet.Packet.{Packet}
 use Rattle.inet_packet.specs.declared.packet.Part.{Part}
 use Rattle.inet_packet.specs.declared.packet.Part.TheVariants as part
 use Rattle.ovn_base.specs.declared.address.Ip4.{Ip4}
-use Rattle.net_model.specs.Snat.{with_port}
 
 -- ---- the ports of a packet's tuple
 

@@ -3,6 +3,7 @@ use Rattle.std.specs.Prelude.{◌≡◌, ℕ, Bool, true, false, List, [], ◌�
 use Rattle.std.proofs.lemmas.Bool.{false≢true}
 use Rattle.std.specs.List.{find}
 use Rattle.conn_table.specs.Connections.{ConnectionList, committed, IsPair, touched, blocked_as}
+use Rattle.conn_table.specs.Picks.{towards, Chosen, choose_backend}
 use Rattle.conn_table.specs.Tracking.{Seen, forward, reply, invalid, new, seen}
 use Rattle.conn_table.specs.Tuples.{reversed, reversed_protocol, with_tuple, HasItsPorts}
 use Rattle.conn_table.specs.declared.connection.CommitFault.{CommitFault}
@@ -33,7 +34,7 @@ use Rattle.std.specs.List.{list_any}
 use Rattle.tunnel_keys.specs.declared.owner.Identity.{Identity}
 use Rattle.net_model.proofs.LeadLaws.{leads_on, point_on, then_leads, finally_leads, drop_end, unless_leads}
 use Rattle.net_model.proofs.SeenLaws.{IsNewTuple, Found, found_seen, addresses_pair, server_pair}
-use Rattle.net_model.specs.Balancing.{Desk, commit_cause, after_commit, commit_or_drop, serves_protocol, is_to_vip, Service, service_in, service_for, towards, legal_backends, send_to_backend, pick_backend, balance}
+use Rattle.net_model.specs.Balancing.{Desk, commit_cause, after_commit, commit_or_drop, serves_protocol, is_to_vip, Service, service_in, service_for, legal_backends, send_to_backend, pick_backend, balance}
 use Rattle.net_model.specs.Config.{Home, nowhere, on, everywhere, home_of, port_identity}
 use Rattle.net_model.specs.Entry.{Scene, Onward, admission, security_in, passage_in, judge_in, secure_in, enter}
 use Rattle.net_model.specs.Exit.{exit_denial, passage_out, security_out, secure_out, judge_out, exit, give_out, leave}
@@ -41,7 +42,7 @@ use Rattle.net_model.specs.Leads.{Leads, stays, tells, commits, refreshes, choos
 use Rattle.net_model.specs.Spread.{SentFrom, crossing_to, send_here, send_over, send_home, other_homes, cross_to_each, local_members, copy_to_each, spread, send_to}
 use Rattle.net_model.specs.Targets.{Target, answer_from, to_one, to_group, to_nobody, members, is_other}
 use Rattle.net_model.specs.Tracking.{carry_onward, carry_back, Passage, desk_of, is_tracked, denial, begin_to, begin, take_new, take_forward, take_reply, invalid_denial, take, is_stateless, track_unless, pass_if, pass}
-use Rattle.net_model.specs.Trail.{Trail, ListOwner, of_port, list_of, spot_of, leaves, crosses, picks_backend, Chosen, choose_backend, after_choice, tell, unless}
+use Rattle.net_model.specs.Trail.{Trail, ListOwner, of_port, list_of, spot_of, leaves, crosses, picks_backend, after_choice, tell, unless}
 use Rattle.net_model.specs.declared.crossing.Aim.TheVariants.{ToPort, ToGroup}
 use Rattle.net_model.specs.declared.crossing.Group.{Group}
 

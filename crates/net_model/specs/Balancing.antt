@@ -1,7 +1,8 @@
 -- New entries of connection lists, and how balancers spread new connections over backends.
 use Rattle.std.specs.Prelude.{◌==◌, ◌&&◌, ℕ, Bool, true, false, List, [], ◌∷◌, Option, None, option_map, cond, Result, Ok, Err}
 use Rattle.std.specs.List.{filter, find, list_any}
-use Rattle.conn_table.specs.Connections.{ConnectionList, is_free, committed}
+use Rattle.conn_table.specs.Connections.{ConnectionList, committed}
+use Rattle.conn_table.specs.Picks.{Chosen, choose_backend, towards, is_free_backend}
 use Rattle.conn_table.specs.Tuples.{reversed, with_tuple}
 use Rattle.conn_table.specs.declared.connection.CommitFault.{CommitFault}
 use Rattle.conn_table.specs.declared.connection.CommitFault.TheVariants as fault
@@ -19,7 +20,7 @@ use Rattle.nb_records.specs.declared.balancer.LoadBalancer.{LoadBalancer}
 use Rattle.nb_records.specs.declared.balancer.Vip.{Vip}
 use Rattle.ovn_base.specs.declared.address.Backend.{Backend}
 use Rattle.ovn_base.specs.declared.name.Name.{Name}
-use Rattle.net_model.specs.Trail.{Trail, ListOwner, list_of, write_list, Spot, drop_for, tell, picks_backend, Chosen, choose_backend, after_choice, Point, goes, stops}
+use Rattle.net_model.specs.Trail.{Trail, ListOwner, list_of, write_list, Spot, drop_for, tell, picks_backend, after_choice, Point, goes, stops}
 
 -- ---- new entries
 
@@ -68,13 +69,9 @@ service_for net datapath t = first_answer (service_in t) (balancers_of net datap
 
 -- ---- picking a backend
 
--- the tuple to the backend, in place of the virtual address
-abbrev pub towards : Backend → Tuple → Tuple
-towards b t = record t { dst = b.ip; dst_port = b.port }
-
 -- a backend may be picked that is online, and whose answers are no other connection's
 abbrev pub may_serve : Network → ConnectionList → Tuple → Name → Backend → Bool
-may_serve net list t balancer b = is_online net balancer b && is_free list (reversed (towards b t))
+may_serve net list t balancer b = is_online net balancer b && is_free_backend list t b
 
 abbrev pub legal_backends : Network → ConnectionList → Tuple → Service → List Backend
 legal_backends net list t s = filter (may_serve net list t s.balancer) s.vip.backends

@@ -1,6 +1,7 @@
 -- How a gateway router translates what comes from outside: it undoes translations of sources, and translates destinations.
 use Rattle.std.specs.Prelude.{◌&&◌, ℕ, Bool, Option, Some, None}
 use Rattle.std.specs.List.{find}
+use Rattle.conn_table.specs.Picks.{to_address}
 use Rattle.conn_table.specs.Tracking.{Seen, forward, reply, invalid, new, seen}
 use Rattle.conn_table.specs.Tuples.{reversed, with_tuple}
 use Rattle.conn_table.specs.declared.tuple.Tuple.{Tuple}
@@ -37,10 +38,6 @@ dnat_row net router ip = find (is_dnat_for ip) (nats_of net router)
 
 abbrev pub dnat_desk : ℕ → Spot → Desk
 dnat_desk now spot = record { now = now; spot = spot; owner = dnat_of spot.datapath }
-
--- the tuple to the address
-abbrev pub to_address : Ip4 → Tuple → Tuple
-to_address ip t = record t { dst = ip }
 
 abbrev pub dnat_by_row : Desk → Tuple → Option Nat → Trail → Packet → Point
 dnat_by_row d tuple None t p = goes t p

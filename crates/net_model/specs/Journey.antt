@@ -14,7 +14,8 @@ use Rattle.net_model.specs.Arrival.{arrival}
 use Rattle.net_model.specs.Config.{is_chassis}
 use Rattle.net_model.specs.Entry.{Scene}
 use Rattle.net_model.specs.State.{State}
-use Rattle.net_model.specs.Trail.{Trail, End, Choice, choices_in, crossings_in, is_lost, tell}
+use Rattle.net_model.specs.Trail.{Trail, End, choices_in, crossings_in, is_lost, tell}
+use Rattle.conn_table.specs.Picks.{Choice}
 use Rattle.net_model.specs.Visit.{visit}
 
 -- the trail of all packets so far, the crossings that wait, and the number that the next one gets

@@ -2,6 +2,7 @@
 use Rattle.std.specs.Prelude.{◌≡◌, ◌&&◌, ◌++◌, ℕ, Bool, true, List, Option, Some, Ok}
 use Rattle.std.specs.Map.{keys_of}
 use Rattle.conn_table.specs.Connections.{ConnectionList, committed, IsPair}
+use Rattle.conn_table.specs.Picks.{Choice}
 use Rattle.conn_table.specs.Tracking.{new, seen_tuple}
 use Rattle.conn_table.specs.declared.connection.Entry.{Entry}
 use Rattle.conn_table.specs.declared.tuple.Tuple.{Tuple}
@@ -9,7 +10,7 @@ use Rattle.inet_packet.specs.declared.packet.Packet.{Packet}
 use Rattle.nb_records.specs.Routers.{Partner}
 use Rattle.ovn_base.specs.declared.name.Name.{Name}
 use Rattle.net_model.specs.Tracking.{refresh}
-use Rattle.net_model.specs.Trail.{Trail, Lists, ListOwner, list_of, write_list, End, Choice, tell, Spot, Point, goes, stops}
+use Rattle.net_model.specs.Trail.{Trail, Lists, ListOwner, list_of, write_list, End, tell, Spot, Point, goes, stops}
 
 -- the change leaves an entry's tuples as they are
 abbrev pub KeepsTuples : (Entry → Entry) → Type 0

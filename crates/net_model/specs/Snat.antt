@@ -1,11 +1,10 @@
 -- How a gateway router translates the sources of what leaves.
-use Rattle.std.specs.Prelude.{◌&&◌, ◌+◌, nat_lt, nat_le, ℕ, zero, suc, Bool, true, false, Option, Some, None, cond}
+use Rattle.std.specs.Prelude.{◌&&◌, nat_lt, ℕ, Bool, true, false, Option, Some, None, cond}
 use Rattle.std.specs.List.{filter}
-use Rattle.conn_table.specs.Connections.{ConnectionList, is_free}
+use Rattle.conn_table.specs.Connections.{is_free}
+use Rattle.conn_table.specs.Picks.{Chosen, choose_port, from_address, with_port, may_pick, has_free_port}
 use Rattle.conn_table.specs.Tracking.{Seen, forward, reply, invalid, new, seen}
-use Rattle.conn_table.specs.Tuples.{reversed, with_tuple, has_ports}
-use Rattle.conn_table.specs.declared.tuple.Protocol.{Protocol}
-use Rattle.conn_table.specs.declared.tuple.Protocol.TheVariants as protocol
+use Rattle.conn_table.specs.Tuples.{reversed, with_tuple}
 use Rattle.conn_table.specs.declared.tuple.Tuple.{Tuple}
 use Rattle.flow_table.specs.declared.flow.Cause.TheVariants as cause
 use Rattle.inet_packet.specs.declared.packet.Packet.{Packet}
@@ -18,7 +17,7 @@ use Rattle.ovn_base.specs.declared.name.Name.{Name}
 use Rattle.net_model.specs.Balancing.{Desk, commit_or_drop}
 use Rattle.net_model.specs.Headers.{src_of}
 use Rattle.net_model.specs.Tracking.{carry_onward}
-use Rattle.net_model.specs.Trail.{Trail, snat_of, list_of, Spot, drop_for, tell, picks_port, Chosen, choose_port, after_choice, Point, goes, stops}
+use Rattle.net_model.specs.Trail.{Trail, snat_of, list_of, Spot, drop_for, tell, picks_port, after_choice, Point, goes, stops}
 
 -- ---- rows
 
@@ -34,38 +33,6 @@ snat_row net router ip = best_by is_narrower (filter (is_snat_for ip) (nats_of n
 
 abbrev pub snat_desk : ℕ → Spot → Name → Desk
 snat_desk now spot router = record { now = now; spot = spot; owner = snat_of router }
-
--- ---- ports
-
--- answers come back to the port; an echo has its identifier twice
-abbrev pub with_port_of : Protocol → ℕ → Tuple → Tuple
-with_port_of protocol.EchoReply n back = record back { src_port = n; dst_port = n }
-with_port_of _ n back = record back { dst_port = n }
-
-abbrev pub with_port : ℕ → Tuple → Tuple
-with_port n back = with_port_of back.protocol n back
-
--- the port is free: answers to it would be no other connection's
-abbrev pub is_free_port : ConnectionList → Tuple → ℕ → Bool
-is_free_port list back n = is_free list (with_port n back)
-
-abbrev pub first_port : ℕ
-first_port = 1024
-
-abbrev pub last_port : ℕ
-last_port = 65535
-
-abbrev pub may_pick : ConnectionList → Tuple → ℕ → Bool
-may_pick list back n = nat_le first_port n && (nat_le n last_port && is_free_port list back n)
-
--- so many numbers from this one on have one that passes (it looks no further than it has to, so that it computes)
-abbrev pub some_from : (ℕ → Bool) → ℕ → ℕ → Bool
-some_from test from zero = false
-some_from test from (suc n) = elim (test from) [ true ↦ true | false ↦ some_from test (from + 1) n ]
-
--- there is a port that may be picked; a protocol without ports has none
-abbrev pub has_free_port : ConnectionList → Tuple → Bool
-has_free_port list back = cond (has_ports back.protocol) (some_from (is_free_port list back) first_port 64512) false
 
 -- ---- a new connection
 
@@ -90,9 +57,6 @@ abbrev pub snat_new : Desk → Name → Tuple → Tuple → Trail → Packet →
 snat_new d router tuple back t p = keep_port (is_free (list_of t.lists d.owner) back) d router tuple back t p
 
 -- ---- any packet
-
-abbrev pub from_address : Ip4 → Tuple → Tuple
-from_address ip t = record t { src = ip }
 
 abbrev pub snat_by_row : Desk → Name → Nat → Seen → Trail → Packet → Point
 snat_by_row d router r (forward e) t p = carry_onward d.now d.owner e t p

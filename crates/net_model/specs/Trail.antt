@@ -5,6 +5,7 @@ use Rattle.std.specs.Cmp.Lexicographic.{slice_cmp}
 use Rattle.std.specs.Map.{set_value}
 use Rattle.std.specs.Ordering.{nat_cmp}
 use Rattle.conn_table.specs.Connections.{ConnectionList}
+use Rattle.conn_table.specs.Picks.{Choice, to_backend, to_port, Chosen}
 use Rattle.flow_table.specs.declared.flow.Cause.{Cause}
 use Rattle.inet_packet.specs.declared.packet.Packet.{Packet}
 use Rattle.nb_records.specs.declared.router.RouterPort.{RouterPort}
@@ -59,11 +60,6 @@ pub data End : Type 0 where
   -- it is the crossing of this number, and is lost
   is_lost : ℕ → End
 
--- what the rules leave open
-pub data Choice : Type 0 where
-  to_backend : Backend → Choice
-  to_port : ℕ → Choice
-
 -- the choices that an end tells of, before those of later ends
 abbrev pub choice_in : End → List Choice → List Choice
 choice_in (picks_backend datapath vip backend) choices = to_backend backend ∷ choices
@@ -116,21 +112,7 @@ drop_for cause spot t = tell (is_dropped spot.datapath spot.port cause) t
 
 -- ---- choosing
 
--- what was chosen, whether that is legal, and the choices that are left
-pub record Chosen (X : Type 0) : Type 0 where
-  pub what : X
-  pub legal : Bool
-  pub left : List Choice
-
--- a choice that is missing, or of the wrong kind, is not legal, and then this stands in its place
-abbrev pub choose_backend : (Backend → Bool) → Backend → List Choice → Chosen Backend
-choose_backend is_legal otherwise (to_backend b ∷ choices) = record { what = b; legal = is_legal b; left = choices }
-choose_backend is_legal otherwise choices = record { what = otherwise; legal = false; left = choices }
-
-abbrev pub choose_port : (ℕ → Bool) → List Choice → Chosen ℕ
-choose_port is_legal (to_port n ∷ choices) = record { what = n; legal = is_legal n; left = choices }
-choose_port is_legal choices = record { what = 0; legal = false; left = choices }
-
+-- the choice is taken, and whether all are legal is kept
 abbrev pub after_choice : {X : Type 0} → Chosen X → Trail → Trail
 after_choice c t = record t { choices = c.left; legal = t.legal && c.legal }
 

@@ -1,5 +1,6 @@
 //! Laws of the logical network, each on a function that does nothing: call it, and its clause is a fact of the call.
-ghost use Rattle.std.specs.Prelude.{◌≡◌, ℕ, List};
+ghost use Rattle.std.specs.Prelude.{◌≡◌, ◌++◌, ℕ, List};
+ghost use Rattle.conn_table.specs.Picks.{Choice};
 ghost use Rattle.net_model.specs.Arrival.{arrival};
 ghost use Rattle.net_model.specs.Entry.{Scene};
 ghost use Rattle.net_model.specs.Journey.{Journey, Traffic, Places, travel, Travels};
@@ -42,8 +43,9 @@ pub fn journeys_only_add()
     ensures { (places : Places) (traffic : Traffic) (j : Journey) → IsLater j.trail (travel places traffic j).trail }
 {}
 
-/// What an event asks of packets and the choices that are made determine their ends, and the state that they leave.
-#[tactic(auto, using(crate::proofs::JourneyLaws::same_travels))]
+/// What an event asks of packets and the choices determine the packets' ends, the state that they leave, and how many of the choices are
+/// made: those that are left are for later events.
 pub fn choices_determine_ends()
-    ensures { (m : State) (traffic : Traffic) (es fs : List End) (a b : State) → Travels m traffic es a → Travels m traffic fs b → choices_in es ≡ choices_in fs → (es ≡ fs) × (a ≡ b) }
+    ensures { (m : State) (traffic : Traffic) (es fs : List End) (a b : State) (left more : List Choice)
+        → Travels m traffic es a → Travels m traffic fs b → choices_in es ++ left ≡ choices_in fs ++ more → (es ≡ fs) × (a ≡ b) × (left ≡ more) }
 {}

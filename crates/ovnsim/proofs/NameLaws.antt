@@ -47,7 +47,7 @@ use Rattle.net_model.specs.Journey.{numbered_from}
 use Rattle.nb_edits.proofs.EditValidity.{Fits, valid_fit}
 use Rattle.nb_edits.proofs.KindLists.{kept_at}
 use Rattle.nb_edits.proofs.OwnerLaws.{among_owns}
-use Rattle.nb_records.specs.Grammar.{IsSwitchPort}
+use Rattle.nb_records.specs.Grammar.{IsBackend, IsSwitchPort}
 use Rattle.nb_records.specs.declared.kinds.Kind.TheVariants as kind
 use Rattle.nb_records.specs.declared.record.Record.TheVariants as row
 use Rattle.nb_records.specs.declared.router.Router.{Router}
@@ -99,8 +99,8 @@ abbrev IsNamedEnd : End → Type 0
 IsNamedEnd (leaves q packet) = IsName q
 IsNamedEnd (is_dropped a q cause) = IsName a × IsName q
 IsNamedEnd (crosses chassis x) = IsName chassis × IsNamedCrossing (0, x)
-IsNamedEnd (picks_backend datapath vip backend) = Unit {0}
-IsNamedEnd (picks_port router port) = Unit {0}
+IsNamedEnd (picks_backend datapath vip backend) = IsName datapath × IsBackend vip × IsBackend backend
+IsNamedEnd (picks_port router port) = IsName router × (1 ≤ port) × (port ≤ 65535)
 IsNamedEnd (is_lost n) = Unit {0}
 
 abbrev AreNamedEnds : List End → Type 0
@@ -289,8 +289,8 @@ effects_named keys n [] named = tt
 effects_named keys n (leaves q packet ∷ ends) named = (named.0, effects_named keys n ends named.1)
 effects_named keys n (is_dropped a q cause ∷ ends) named = (named.0, effects_named keys n ends named.1)
 effects_named keys n (crosses chassis x ∷ ends) named = ((named.0.0, named.0.1.0), effects_named keys (n + 1) ends named.1)
-effects_named keys n (picks_backend datapath vip backend ∷ ends) named = effects_named keys n ends named.1
-effects_named keys n (picks_port router port ∷ ends) named = effects_named keys n ends named.1
+effects_named keys n (picks_backend datapath vip backend ∷ ends) named = (named.0, effects_named keys n ends named.1)
+effects_named keys n (picks_port router port ∷ ends) named = (named.0, effects_named keys n ends named.1)
 effects_named keys n (is_lost k ∷ ends) named = (tt, effects_named keys n ends named.1)
 
 crossings_named : (n : ℕ) (ends : List End) → AreNamedEnds ends → AllByRecursion IsNamedCrossing (numbered_from n (crossings_in ends))

@@ -13,7 +13,6 @@ use Rattle.world_core.specs.WorldView.{WorldView, IsSound}
 use Rattle.net_model.specs.State.{State, event_count}
 use Rattle.world_core.specs.Step as net
 use Rattle.world_core.specs.Zones.{Rezones}
-use Rattle.sim_laws.proofs.PlainRecords.{plain_valid}
 use Rattle.world_core.proofs.OneStep.{step_with}
 use Rattle.world_core.proofs.OnePass.{same_walks}
 use Rattle.world_core.proofs.SameZones.{same_zones}
@@ -38,7 +37,7 @@ takes_same : (one two : WorldView) (event : Event) (own their left more : List P
 takes_same one two event own their left more first other mid after sound also like (accepts h p) (accepts k q) e =
     let moved : net.NetworkStep one.state event k.effects after.state = subst (λ s. net.NetworkStep s event k.effects after.state) (sym like.state) k.step in
     let step =
-    step_with one.state event h.effects k.effects mid.state after.state left more (plain_valid one.state.config.net sound.consistent.valid sound.consistent.built) h.step moved (sym (ap (λ ps. ps ++ left) p) ∙ e ∙ ap (λ ps. ps ++ more) q) in
+    step_with one.state event h.effects k.effects mid.state after.state left more h.step moved (sym (ap (λ ps. ps ++ left) p) ∙ e ∙ ap (λ ps. ps ++ more) q) in
     let walks : mid.walks ≡ after.walks = same_walks one two event (record { effects = h.effects; walks = mid.walks }) (record { effects = k.effects; walks = after.walks }) mid.sim after.sim sound also like.state like.zones h.passed k.passed in
     let number : event_count one.state + 1 ≡ event_count two.state + 1 = ap (λ (s : State). event_count s + 1) like.state in
     record {

@@ -8,7 +8,8 @@ use Rattle.inet_packet.specs.declared.regs.Reg.{Reg}
 use Rattle.inet_packet.specs.declared.regs.Reg.TheVariants.{Dp, InPort, OutPort, ZIn, ZOut, Tracked, State, Blocked, Verdict, Arrived}
 use Rattle.flow_table.specs.declared.flow.Flow.{Flow}
 use Rattle.flow_table.specs.declared.flow.FlowOp.TheVariants.{Frame, Go}
-use Rattle.switch_engine.specs.Proper.{width, CanBeSet, Rises, IsProperFlow, IsProper}
+use Rattle.switch_engine.specs.Proper.{width, CanBeSet}
+use Rattle.switch_engine.specs.PlainProper.{Rises, IsProperFlow, IsProper}
 use Rattle.conn_zones.specs.Zoning.{Zoned}
 use Rattle.nb_records.specs.declared.switch.SwitchPort.{SwitchPort}
 use Rattle.physical_flows.specs.Rows.{entry_row, arrival_row, pass_row, bad_source_row, vlan_row, flood_row, address_row, unknown_ops, unknown_row, remote_row, spread_row, stay_row, home_row, copies_row, return_row, leave_row, output_row}

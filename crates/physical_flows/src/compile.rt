@@ -3,7 +3,6 @@ ghost use Rattle.std.specs.Prelude.{◌≡◌, ◌++◌, map, IfOk, OnOk};
 ghost use Rattle.std.specs.List.{list_any};
 ghost use Rattle.ovn_base.specs.names.ByName.{at};
 ghost use Rattle.ovn_base.specs.names.SameName.{same_name};
-ghost use Rattle.nb_records.specs.Switches.{takes_unknown, is_unknown};
 ghost use Rattle.net_model.specs.declared.crossing.Group.TheVariants.{Unknown};
 ghost use Rattle.physical_flows.specs.Homes.{is_at};
 ghost use Rattle.physical_flows.specs.Stages.{zone_of};
@@ -22,8 +21,8 @@ use conn_zones::homes::Homes;
 use conn_zones::numbers::ZoneNumbers;
 use flow_table::exact::exact_flow_clone;
 use flow_table::flow::{Flow, Member};
+use nb_records::addresses::takes_unknown;
 use nb_records::records::Records;
-use nb_records::switch::PortAddress;
 use net_model::crossing::Group;
 use ovn_base::list::List;
 use ovn_base::memory::NoMemory;
@@ -331,22 +330,6 @@ impl Maps<'_> {
             units.push(FlowUnit::Port(*name))?;
         }
         Ok(units)
-    }
-}
-
-// Whether some address is the word `unknown`.
-fn takes_unknown(addresses: &[PortAddress]) -> bool
-    ensures { result ≡ takes_unknown addresses.now }
-{
-    addresses.iter().any(is_unknown)
-}
-
-fn is_unknown(address: &PortAddress) -> bool
-    ensures { result ≡ is_unknown address.now }
-{
-    match address {
-        PortAddress::Ether { .. } | PortAddress::Router => false,
-        PortAddress::Unknown => true,
     }
 }
 

@@ -21,10 +21,10 @@ use Rattle.inet_packet.specs.Fits.{CubeFits}
 use Rattle.flow_table.specs.declared.flow.Flow.{Flow}
 use Rattle.switch_engine.specs.Actions.{set_reg, with_header}
 use Rattle.switch_engine.specs.Walk.{start_regs}
-use Rattle.switch_engine.specs.declared.carried.Carried.{Carried}
 use Rattle.switch_engine.specs.declared.effect.Effect.{Effect}
 use Rattle.switch_engine.specs.declared.effect.Effect.TheVariants as effect
 use Rattle.switch_engine.specs.declared.effect.Entry.{Entry}
+use Rattle.switch_engine.specs.PlainWalk.{Carried}
 use Rattle.nb_records.specs.Network.{Network}
 use Rattle.nb_records.specs.declared.switch.Switch.{Switch}
 use Rattle.nb_records.specs.declared.switch.SwitchPort.{SwitchPort}

@@ -10,6 +10,7 @@ use Rattle.ovn_base.specs.names.SameName.{bytes_decides, same_name}
 use Rattle.ovn_base.specs.declared.name.Name.{Name}
 use Rattle.ovn_base.proofs.AmongLaws.{among_none, any_among}
 use Rattle.chassis_sim.specs.Frames.{Carries}
+use Rattle.chassis_sim.specs.Holding.{with_lists}
 use Rattle.chassis_sim.specs.Passing as passing
 use Rattle.chassis_sim.specs.Passing.{IsTold, arrived}
 use Rattle.chassis_sim.specs.State as sim
@@ -23,7 +24,12 @@ use Rattle.inet_packet.specs.Frame.{frame_of}
 use Rattle.inet_packet.specs.declared.packet.Packet.{Packet}
 use Rattle.switch_engine.specs.declared.effect.Effect.{Effect}
 use Rattle.switch_engine.specs.declared.effect.Effect.TheVariants as effect
+use Rattle.switch_engine.specs.declared.effect.Entry.TheVariants.{Tunnel}
 use Rattle.switch_engine.specs.declared.walk.Start.TheVariants as start
+use Rattle.switch_engine.specs.Outcome.{any_legal}
+use Rattle.switch_engine.specs.Plain.{PlainWalks}
+use Rattle.switch_engine.specs.PlainProper.{PlainIsProper}
+use Rattle.switch_engine.specs.Zones.{ZoneLists}
 use Rattle.switch_engine.specs.declared.walk.Step as engine
 use Rattle.net_model.specs.declared.crossing.Aim.{Aim}
 use Rattle.net_model.specs.declared.crossing.Aim.TheVariants.{ToPort, ToGroup}
@@ -34,7 +40,7 @@ use Rattle.net_model.specs.Trail.{crossings_in}
 use Rattle.sim_laws.specs.Naming.{IsNumbered}
 use Rattle.sim_laws.specs.Passing.{clock}
 use Rattle.sim_laws.specs.Refinement.{IsAmidst, IsRefined, ArrivalRefines}
-use Rattle.sim_laws.specs.Held.{AreHeld, frame_of_crossing}
+use Rattle.sim_laws.specs.Held.{AreHeld, HaveNoZone, frame_of_crossing}
 use Rattle.sim_laws.specs.Sound.{MayWait, HasAimKey}
 use Rattle.switch_engine.specs.declared.effect.NetEffect.{NetEffect}
 use Rattle.net_model.specs.Journey.{numbered_from}
@@ -49,6 +55,7 @@ use Rattle.sim_laws.specs.WalkLaw.{ArrivalLaw}
 use Rattle.physical_flows.proofs.FlowSearch.{is_some_of, some_of}
 use Rattle.sim_laws.proofs.KeyLookups.{datapath_key_is, port_key_is}
 use Rattle.sim_laws.proofs.EffectNames.{AreEndsOn}
+use Rattle.sim_laws.proofs.NoZones.{held_zones, none_left, plain_walk}
 use Rattle.sim_laws.proofs.PlainRecords.{plain_valid}
 use Rattle.sim_laws.proofs.Refinements.{told_effects, told_held, amidst_kept, amidst_with, crossings_behind, held_kept}
 use Rattle.sim_laws.proofs.WaitingLists.{numbered_among, numbered_map}
@@ -163,7 +170,7 @@ record IsCrossing (m : State) (n : ℕ) (frame : WaitingFrame) : Type 0 where
   waits : numbered m.waiting n ≡ Some crossing
   is : frame ≡ (frame_of_crossing m.keys (n, crossing)).1
 
-module _ (law : ArrivalLaw) (m : State) (zones : Zoned) (more : ℕ) (s new : sim.SimState) (n : ℕ) (before after : SimOut) (a : IsAmidst m zones more) (h : AreHeld m zones.numbers s) where
+module _ (law : ArrivalLaw) (walks : PlainWalks) (are_proper : PlainIsProper) (m : State) (zones : Zoned) (more : ℕ) (s new : sim.SimState) (n : ℕ) (before after : SimOut) (a : IsAmidst m zones more) (h : AreHeld m zones.numbers s) where
   crossing_of : (frame : WaitingFrame) → numbered s.waiting n ≡ Some frame → IsCrossing m n frame
   crossing_of frame e =
       by (numbered m.waiting n) refl (sym (numbered_map (λ x. (frame_of_crossing m.keys (0, x)).1) m.waiting n) ∙ ap (λ ws. numbered ws n) (sym h.waiting) ∙ e)
@@ -173,18 +180,19 @@ module _ (law : ArrivalLaw) (m : State) (zones : Zoned) (more : ℕ) (s new : si
       by (Some x) is f = record { crossing = x; waits = is; is = sym (same_Some (frame_of_crossing m.keys (0, x)).1 frame f) }
 
   -- with its ends in numbers, whatever is kept
-  arrives_so : (keep : Bool) (x : Crossing) → numbered m.waiting n ≡ Some x → (steps : List engine.Step) (effects : List Effect)
-      → AllZip (IsNumbered m.keys) (arrival m n x) effects → IsTold (arrived s n keep) x.home (start.Frame n) steps effects before after new
+  arrives_so : (keep : Bool) (x : Crossing) → numbered m.waiting n ≡ Some x → (lists : List (Name × ZoneLists)) → HaveNoZone lists → (steps : List engine.Step) (effects : List Effect)
+      → AllZip (IsNumbered m.keys) (arrival m n x) effects → IsTold (record (arrived s n keep) { zones = lists }) x.home (start.Frame n) steps effects before after new
       → IsRefined zones more before after new (λ es mid. Arrives m n keep es mid)
-  arrives_so true x waits steps effects numbers told =
-      came zones more m s new a h n x.home steps (arrival m n x) effects numbers (arrival_lost m x.home n x) (arrival_cross m n x) before after told (λ es mid. Arrives m n true es mid) (record {
+  arrives_so true x waits lists none steps effects numbers told =
+      came zones more m (record s { zones = lists }) new a (held_zones m zones.numbers s lists h none) n x.home steps (arrival m n x) effects numbers (arrival_lost m x.home n x) (arrival_cross m n x) before after told (λ es mid. Arrives m n true es mid) (record {
         crossing = x;
         waits = waits;
         effects_are = refl;
         state = refl;
       })
-  arrives_so false x waits steps effects numbers told =
-      came zones more (with_kept false m n) (arrived s n false) new (amidst_kept false m zones more n a) (held_kept false m zones s n h) n x.home steps (arrival m n x) effects numbers
+  arrives_so false x waits lists none steps effects numbers told =
+      came zones more (with_kept false m n) (record (arrived s n false) { zones = lists }) new (amidst_kept false m zones more n a)
+      (held_zones (with_kept false m n) zones.numbers (arrived s n false) lists (held_kept false m zones s n h) none) n x.home steps (arrival m n x) effects numbers
       (arrival_lost m x.home n x) (arrival_cross m n x) before after told (λ es mid. Arrives m n false es mid) (record {
         crossing = x;
         waits = waits;
@@ -192,8 +200,8 @@ module _ (law : ArrivalLaw) (m : State) (zones : Zoned) (more : ℕ) (s new : si
         state = refl;
       })
 
-  arrives : (keep : Bool) → passing.IsArrived s n keep clock before after new → IsRefined zones more before after new (λ es mid. Arrives m n keep es mid)
-  arrives keep (passing.IsArrived.through frame flows vni in_key out_key packet steps effects waits held carries walk told) =
+  arrives : (keep : Bool) → passing.IsArrived any_legal s n keep clock before after new → IsRefined zones more before after new (λ es mid. Arrives m n keep es mid)
+  arrives keep (passing.IsArrived.through frame flows lists left vni in_key out_key packet steps effects waits held listed carries walk told) =
       let c = crossing_of frame waits in
       let x = c.crossing in
       let w = a.crossings.may n x (numbered_among m.waiting n x c.waits) in
@@ -202,9 +210,11 @@ module _ (law : ArrivalLaw) (m : State) (zones : Zoned) (more : ℕ) (s new : si
       let there : sim.at_name s.chassis x.home ≡ Some flows = ap (λ d. sim.at_name s.chassis d) (sym home) ∙ held in
       let known : Among x.home m.config.chassis = (h.held x.home).0 (is_some_of (sim.at_name s.chassis x.home) flows there) in
       let own : packet ≡ x.packet = one_packet_at_most packet x.packet carries.whole w.whole read.3 in
-      arrives_so keep x c.waits steps effects
-      (law m zones n x flows (plain_valid m.config.net a.valid a.built) a.keys a.bound w known (h.flows x.home flows there) clock steps effects (rw (← read.0, ← read.1, ← read.2, ← own) walk))
-      (subst (λ d. IsTold (arrived s n keep) d (start.Frame n) steps effects before after new) home told)
+      let plain = plain_walk walks are_proper m zones x.home flows a.keys a.bound (h.flows x.home flows there) (Tunnel vni in_key out_key) clock packet lists left steps effects walk in
+      let lists_left = with_lists s.zones frame.to left in
+      arrives_so keep x c.waits lists_left (none_left s.zones frame.to left (plain.0 ∙ h.no_zone frame.to lists listed) h.no_zone) steps effects
+      (law m zones n x flows (plain_valid m.config.net a.valid a.built) a.keys a.bound w known (h.flows x.home flows there) clock steps effects (rw (← read.0, ← read.1, ← read.2, ← own) plain.1))
+      (subst (λ d. IsTold (record (arrived s n keep) { zones = lists_left }) d (start.Frame n) steps effects before after new) home told)
   arrives keep (passing.IsArrived.gone frame waits none told) =
       let c = crossing_of frame waits in
       let x = c.crossing in
@@ -212,12 +222,12 @@ module _ (law : ArrivalLaw) (m : State) (zones : Zoned) (more : ℕ) (s new : si
       let home : frame.to ≡ x.home = ap (λ (f : WaitingFrame). f.to) c.is in
       let absent : ¬ Among x.home m.config.chassis = λ known. none_there (ap (λ d. sim.at_name s.chassis d) (sym home) ∙ none) ((h.held x.home).1 known) in
       let gone = gone_chassis m x (no_chassis m x.home absent) in
-      arrives_so keep x c.waits [] (effect.Lost ∷ [])
+      arrives_so keep x c.waits s.zones h.no_zone [] (effect.Lost ∷ [])
       (subst (λ b. AllZip (IsNumbered m.keys) (cond b (is_lost n ∷ []) (reached m x x.packet x.aim)) (effect.Lost ∷ [])) (sym gone) (IsNumbered.lost, tt))
       (subst (λ d. IsTold (arrived s n keep) d (start.Frame n) [] (effect.Lost ∷ []) before after new) home told)
     where
       none_there : {X : Type 0} {o : Option X} → o ≡ None → IsSome o → ⊥
       none_there {X} {o} e i = let x = some_of o i in none-some x.0 (sym e ∙ x.1)
 
-pub arrival_refines : ArrivalLaw → ArrivalRefines
-arrival_refines law m zones more s new n keep before after a h = arrives law m zones more s new n before after a h keep
+pub arrival_refines : ArrivalLaw → PlainWalks → PlainIsProper → ArrivalRefines
+arrival_refines law walks are_proper m zones more s new n keep before after a h = arrives law walks are_proper m zones more s new n before after a h keep

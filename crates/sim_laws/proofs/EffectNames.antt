@@ -14,18 +14,18 @@ use Rattle.net_model.specs.Journey.{numbered_from}
 use Rattle.sim_laws.specs.Effects.{effects_of, spelled}
 use Rattle.net_model.specs.Trail.{crossings_in, picks_backend, picks_port}
 use Rattle.sim_laws.specs.Naming.{HasDatapathKey, HasPortKey, IsNumbered}
-use Rattle.sim_laws.specs.Naming.IsNumbered.{out, drop, frame, lost}
+use Rattle.sim_laws.specs.Naming.IsNumbered.{out, drop, frame, to_backend, to_port, lost}
 use Rattle.sim_laws.specs.Held.{HaveOwnersNames, frame_of_crossing}
 use Rattle.net_model.specs.Trail.{End, leaves, is_dropped, crosses, is_lost}
 
--- the end is one of a packet that is on the chassis, and came as the frame of this number: it crosses from there, it is that frame that is
--- lost, and nothing is picked
+-- the end is one of a packet that is on the chassis, and came as the frame of this number: it crosses from there, and it is that frame that
+-- is lost
 abbrev pub IsEndOn : Name → ℕ → End → Type 0
 IsEndOn chassis n (leaves q packet) = Unit {0}
 IsEndOn chassis n (is_dropped a q cause) = Unit {0}
 IsEndOn chassis n (crosses from x) = from ≡ chassis
-IsEndOn chassis n (picks_backend d vip backend) = ⊥
-IsEndOn chassis n (picks_port router port) = ⊥
+IsEndOn chassis n (picks_backend d vip backend) = Unit {0}
+IsEndOn chassis n (picks_port router port) = Unit {0}
 IsEndOn chassis n (is_lost k) = k ≡ n
 
 abbrev pub AreEndsOn : Name → ℕ → List End → Type 0
@@ -57,6 +57,9 @@ module _ (keys : Keys) (s : sim.SimState) (named : HaveOwnersNames keys s) (chas
       by _ _ (frame {chassis = from_chassis} {x = x}) g rest =
           ap (λ c. net.Tunnel next c x.home (spelled keys x) ∷ all_in_names s.names chassis from (next + 1) fs) (sym g)
           ∙ ap (λ r. net.Tunnel next from_chassis x.home (spelled keys x) ∷ r) (rest (next + 1))
+      by _ _ (to_backend {a} {vip} {backend} {vni} d) _ rest =
+          ap (λ n. net.PickBackend n vip backend ∷ all_in_names s.names chassis from next fs) (datapath_name a vni d) ∙ ap (λ r. net.PickBackend a vip backend ∷ r) (rest next)
+      by _ _ (to_port {a} {port} {vni} d) _ rest = ap (λ n. net.PickPort n port ∷ all_in_names s.names chassis from next fs) (datapath_name a vni d) ∙ ap (λ r. net.PickPort a port ∷ r) (rest next)
       by _ _ (lost {n}) g rest =
           ap (λ k. net.Lost k ∷ all_in_names s.names chassis from next fs) (sym g) ∙ ap (λ r. net.Lost n ∷ r) (rest next)
 
@@ -71,6 +74,8 @@ module _ (keys : Keys) (s : sim.SimState) (named : HaveOwnersNames keys s) (chas
       by _ _ out rest = rest next
       by _ _ (drop d p) rest = rest next
       by _ _ frame rest = let more = rest (next + 1) in omega (arith, more)
+      by _ _ (to_backend d) rest = rest next
+      by _ _ (to_port d) rest = rest next
       by _ _ lost rest = rest next
 
 -- the frames that the effects send are those of the crossings

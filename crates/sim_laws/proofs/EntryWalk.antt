@@ -17,10 +17,10 @@ use Rattle.inet_packet.specs.declared.regs.Regs.{Regs}
 use Rattle.flow_table.specs.declared.flow.Cause.TheVariants.{UnknownAddress, BadSource, Vlan}
 use Rattle.flow_table.specs.declared.flow.Flow.{Flow}
 use Rattle.switch_engine.specs.Walk.{start_regs}
-use Rattle.switch_engine.specs.declared.carried.Carried.{Carried}
 use Rattle.switch_engine.specs.declared.effect.Effect.{Effect}
 use Rattle.switch_engine.specs.declared.effect.Effect.TheVariants as effect
 use Rattle.switch_engine.specs.declared.effect.Entry.TheVariants.{Vif}
+use Rattle.switch_engine.specs.PlainWalk.{Carried}
 use Rattle.nb_records.specs.declared.switch.SwitchPort.{SwitchPort}
 use Rattle.physical_flows.specs.Addresses.{HasMac}
 use Rattle.physical_flows.specs.GroupKeys.{group_key}

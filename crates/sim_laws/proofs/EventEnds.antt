@@ -61,7 +61,7 @@ module _ (m : State) (zones : Zoned) (more : ℕ) (s : sim.SimState) (a : IsAmid
       };
       few = omega (arith, events);
     },
-    record { bindings = h.bindings; names = h.names; held = h.held; flows = h.flows; waiting = h.waiting; next = h.next },
+    record { bindings = h.bindings; names = h.names; held = h.held; flows = h.flows; no_zone = h.no_zone; waiting = h.waiting; next = h.next },
   )
 
   born_settled : AreBorn (with m (settled m.keys))
@@ -112,6 +112,7 @@ module _ (m : State) (zones : Zoned) (more : ℕ) (s : sim.SimState) (a : IsAmid
         same = λ f. (λ w. settle_table (basis_at m zones.numbers c) f ((old.same f).0 w), λ r. (old.same f).1 (unsettle_table (basis_at m zones.numbers c) f r));
         once = old.once;
       };
+      no_zone = h.no_zone;
       waiting = h.waiting ∙ ap (λ ws. map (frame_of_crossing m.keys) ws) e ∙ sym (ap (λ ws. map (frame_of_crossing (settled m.keys)) ws) e);
       next = h.next;
     },

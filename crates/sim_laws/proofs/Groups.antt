@@ -16,8 +16,7 @@ use Rattle.ovn_base.proofs.ByNameLaws.{among_at}
 use Rattle.inet_packet.specs.declared.packet.Packet.{Packet}
 use Rattle.inet_packet.specs.declared.regs.Regs.{Regs}
 use Rattle.flow_table.specs.declared.flow.Member.{Member}
-use Rattle.switch_engine.specs.Actions.{copy_for, copies_for}
-use Rattle.switch_engine.specs.declared.carried.Carried.{Carried}
+use Rattle.switch_engine.specs.PlainWalk.{Carried, copy_for, copies_for}
 use Rattle.switch_engine.specs.declared.effect.Effect.{Effect}
 use Rattle.switch_engine.specs.declared.effect.Effect.TheVariants as effect
 use Rattle.switch_engine.specs.declared.effect.Entry.{Entry}

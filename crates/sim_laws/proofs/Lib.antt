@@ -1,4 +1,6 @@
 -- Lemmas.
+pub mod passes
+pub mod pipelines
 pub mod ArrivalWalk
 pub mod Arrivals
 pub mod Crossings
@@ -11,6 +13,7 @@ pub mod Groups
 pub mod KeyLookups
 pub mod LiveKeys
 pub mod LookupTarget
+pub mod NoZones
 pub mod OneRow
 pub mod OneWalk
 pub mod PlainAddresses

@@ -8,7 +8,6 @@ use Rattle.ovn_base.specs.declared.name.Name.{Name}
 use Rattle.ovn_base.specs.addresses.EtherAddress.{same_ether}
 use Rattle.inet_packet.specs.Fits.{CubeFits}
 use Rattle.flow_table.specs.declared.flow.Flow.{Flow}
-use Rattle.switch_engine.specs.declared.carried.Carried.{Carried}
 use Rattle.nb_records.specs.declared.switch.SwitchPort.{SwitchPort}
 use Rattle.physical_flows.specs.Addresses.{HasMac}
 use Rattle.physical_flows.specs.GroupKeys.{group_key}
@@ -21,6 +20,7 @@ use Rattle.sim_laws.proofs.EntryWalk.{name_at, is_local}
 use Rattle.sim_laws.proofs.Table33.{no_group, one_group}
 use Rattle.sim_laws.proofs.Table34.{IsPass, pass_9, pass_10, pass_11, pass_12, pass_13, pass_40, pass_41, pass_42, pass_43}
 use Rattle.sim_laws.proofs.LiveKeys.{key_small, one_datapath, one_number, one_port, one_key}
+use Rattle.switch_engine.specs.PlainWalk.{Carried}
 
 -- the flag of one row that holds a packet is that of another
 abbrev word : Bool → ℕ

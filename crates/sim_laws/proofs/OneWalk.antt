@@ -4,10 +4,8 @@ use Rattle.std.proofs.Common.{sym, ap, ◌∙◌, subst}
 use Rattle.ovn_base.specs.lists.Among.{Among}
 use Rattle.flow_table.specs.Matching.{IsBest, NoneMatches}
 use Rattle.flow_table.specs.declared.flow.Flow.{Flow}
-use Rattle.switch_engine.specs.Actions.{outcome, going_on}
-use Rattle.switch_engine.specs.Walk.{IsWalk, start, unmatched}
-use Rattle.switch_engine.specs.Walk.IsWalk.{over, ends, takes}
-use Rattle.switch_engine.specs.declared.carried.Carried.{Carried}
+use Rattle.switch_engine.specs.PlainWalk.{Carried, outcome, going_on, IsWalk, start, unmatched}
+use Rattle.switch_engine.specs.PlainWalk.IsWalk.{over, ends, takes}
 use Rattle.switch_engine.specs.declared.effect.Effect.{Effect}
 use Rattle.switch_engine.specs.declared.effect.Entry.{Entry}
 use Rattle.switch_engine.specs.declared.walk.Step.{Step}

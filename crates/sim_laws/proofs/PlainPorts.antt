@@ -20,6 +20,7 @@ use Rattle.ovn_base.specs.lists.Among.{Among, here, there}
 use Rattle.ovn_base.specs.names.ByName.{at}
 use Rattle.ovn_base.specs.names.SameName.{same_name}
 use Rattle.physical_flows.specs.Built.{is_router_entry, is_plain_port, IsPlain}
+use Rattle.row_laws.proofs.records.SwitchPorts.{virtual_kind}
 
 -- ---- one port
 
@@ -30,10 +31,6 @@ pub record PlainPort (o : SwitchPort) : Type 0 where
   pub enabled : o.enabled ≡ true
   pub unsecured : has_some o.port_security ≡ false
   pub no_router : list_any is_router_entry o.addresses ≡ false
-
-virtual_kind : (k : PortKind) → is_virtual_kind k ≡ true → k ≡ port_kind.Virtual
-virtual_kind port_kind.Virtual h = refl
-virtual_kind port_kind.Router h = absurd (false≢true h)
 
 none_there : (name : Option Name) → is_none name ≡ true → name ≡ None
 none_there None h = refl

@@ -12,7 +12,7 @@ use Rattle.std.specs.Ordering.{nat_cmp, is_eq, is_lt, ordering_reverse}
 use Rattle.std.specs.declared.cmp.Ordering.{Ordering}
 use Rattle.std.specs.declared.cmp.Ordering.TheVariants.{Less, Equal, Greater}
 use Rattle.nb_records.specs.Network.{Network, records_of}
-use Rattle.nb_records.specs.Switches.{is_virtual_kind, has_some, same_ip, entry_mac, macs_of, has_mac}
+use Rattle.nb_records.specs.Switches.{is_virtual_kind, has_some, same_ip, entry_mac, ips_in_entry, macs_of, has_mac}
 use Rattle.nb_records.specs.declared.record.Record.{Record}
 use Rattle.nb_records.specs.declared.record.Record.TheVariants as row
 use Rattle.nb_records.specs.declared.switch.PortAddress.{PortAddress}
@@ -23,7 +23,7 @@ use Rattle.nb_records.specs.declared.switch.SwitchPort.{SwitchPort}
 use Rattle.nb_rules.proofs.Validity.{unbroken}
 use Rattle.nb_rules.specs.BadAddresses.{is_bad_mac, is_bad_port_address, is_bad_security, has_bad_address}
 use Rattle.nb_rules.specs.First.{least_of, lesser}
-use Rattle.nb_rules.specs.Holders.{is_before, is_switch_mate, has_mate, is_mac_shared, shared_mac, mac_number_of, the_mac, ip_number, the_ip, ips_in_entry, has_entry_ip, ips_by_kind, holds_by_kind, holds_ip, is_ip_shared, shared_ip}
+use Rattle.nb_rules.specs.Holders.{is_before, is_switch_mate, has_mate, is_mac_shared, shared_mac, mac_number_of, the_mac, ip_number, the_ip, has_entry_ip, ips_by_kind, holds_by_kind, holds_ip, is_ip_shared, shared_ip}
 use Rattle.nb_rules.specs.References.{references_of}
 use Rattle.nb_rules.specs.Unbroken.{AreThere, AreUnbroken}
 use Rattle.nb_rules.specs.Valid as rules
@@ -40,6 +40,7 @@ use Rattle.ovn_base.specs.names.SameName.{same_name, bytes_decides}
 use Rattle.physical_flows.specs.Addresses.{mac_in, ips_of, HasMac, HasIp, IsOfStation}
 use Rattle.physical_flows.specs.Built.{IsBuilt}
 use Rattle.physical_flows.specs.Valid.{IsValid, IsWithin}
+use Rattle.row_laws.proofs.records.ValidPorts.{port_row}
 use Rattle.sim_laws.proofs.PlainAddresses.{macs_are, mac_by, mac_of_entry}
 use Rattle.sim_laws.proofs.PlainPorts.{PlainPort, plain_port}
 
@@ -113,25 +114,19 @@ module _ (net : Network) (valid : rules.IsValid net) where
   port_named q port found = among_all (λ (e : Name × SwitchPort). e.1.name ≡ e.0) (q, port) net.switch_ports valid.named.switch_ports (at_among net.switch_ports q port found)
 
   module _ (q : Name) (port : SwitchPort) (found : at net.switch_ports q ≡ Some port) where
-    port_row : Among (row.SwitchPort port) (records_of net)
-    port_row =
-        let own = among_map (λ (e : Name × SwitchPort). row.SwitchPort e.1) (q, port) net.switch_ports (at_among net.switch_ports q port found) in
-        let r = row.SwitchPort port in
-        among_left r _ _ (among_left r _ _ (among_left r _ _ (among_left r _ _ (among_left r _ _ (among_left r _ _ (among_left r _ _ (among_right r _ _ own)))))))
-
     there_some : (o : Option Switch) → is_some (option_map row.Switch o) ≡ true → IsSome o
     there_some None h = h
     there_some (Some switch) h = h
 
     -- its switch is there
     on_switch : IsSome (at net.switches port.switch)
-    on_switch = there_some (at net.switches port.switch) (among_all (λ (r : Record). AreThere net (references_of r)) (row.SwitchPort port) (records_of net) broken_none.references port_row).0
+    on_switch = there_some (at net.switches port.switch) (among_all (λ (r : Record). AreThere net (references_of r)) (row.SwitchPort port) (records_of net) broken_none.references (port_row net valid q port found)).0
 
     -- no entry of its addresses is bad
     no_bad : list_any (is_bad_port_address port.kind) port.addresses ≡ false
     no_bad =
         or_one (list_any (is_bad_port_address port.kind) port.addresses) (list_any is_bad_security port.port_security || (not (is_virtual_kind port.kind) && has_some port.port_security))
-        (among_all (λ (r : Record). has_bad_address r ≡ false) (row.SwitchPort port) (records_of net) broken_none.addresses port_row)
+        (among_all (λ (r : Record). has_bad_address r ≡ false) (row.SwitchPort port) (records_of net) broken_none.addresses (port_row net valid q port found))
 
     fine : (entry : PortAddress) → Among entry port.addresses → is_bad_port_address port.kind entry ≡ false
     fine entry m = by (is_bad_port_address port.kind entry) refl

@@ -14,7 +14,7 @@ use Rattle.net_model.specs.Spread.{SentFrom, crossing_to, other_homes, local_mem
 use Rattle.net_model.specs.State.{State}
 use Rattle.net_model.specs.Targets.{Target, answer_from, to_one, to_group, to_nobody, members, target_of}
 use Rattle.net_model.specs.Visit.{visit}
-use Rattle.net_model.specs.Trail.{Trail, Lists, End, leaves, is_dropped, crosses, picks_backend, picks_port, is_lost, Choice, choice_in, choices_in}
+use Rattle.net_model.specs.Trail.{Trail, Lists, End, leaves, is_dropped, crosses, picks_backend, picks_port, is_lost, choice_in, choices_in}
 use Rattle.net_model.specs.declared.crossing.Aim.{Aim}
 use Rattle.net_model.specs.declared.crossing.Aim.TheVariants.{ToPort, ToGroup}
 use Rattle.net_model.specs.declared.crossing.Crossing.{Crossing}
@@ -26,6 +26,7 @@ use Rattle.ovn_base.specs.names.SameName.{same_name}
 use Rattle.sim_laws.proofs.PlainVisits.{plain_visit, plain_arrive}
 use Rattle.physical_flows.specs.Built.{is_plain_port, IsPlain}
 use Rattle.sim_laws.specs.PlainJourneys.{with_ends, went, ArePlain, OnlyEnds}
+use Rattle.conn_table.specs.Picks.{Choice}
 use Rattle.sim_laws.specs.PlainWays.{drop_at, copies_by, ends_at_home, ends_at_target, ends_unless, sent_from, visit_ends, ends_at_port, ends_at_aim, arrival_ends}
 
 -- ---- no end tells of a choice

@@ -95,6 +95,7 @@ module _ (k : State) (zones : Zoned) (z new : sim.SimState) (h : AreHeld k zones
     names = subst (λ (s : sim.SimState). HaveOwnersNames k.keys s) (sym told.state) (record { datapaths = h.names.datapaths; ports = h.names.ports });
     held = λ c. subst (λ (s : sim.SimState). IsSome (sim.at_name s.chassis c) ↔ Among c k.config.chassis) (sym told.state) (h.held c);
     flows = λ c flows is. flows_then c flows (sym (ap (λ (s : sim.SimState). sim.at_name s.chassis c) told.state) ∙ is);
+    no_zone = λ c lists is. h.no_zone c lists (sym (ap (λ (s : sim.SimState). sim.at_name s.zones c) told.state) ∙ is);
     waiting = new_waiting;
     next = new_next;
   }
@@ -169,6 +170,7 @@ held_kept false m zones s n h = record {
   names = record { datapaths = h.names.datapaths; ports = h.names.ports };
   held = h.held;
   flows = h.flows;
+  no_zone = h.no_zone;
   waiting = ap (λ ws. remove_entry (is_at (nat_cmp n)) ws) h.waiting ∙ removed_map (frame_for m.keys) m.waiting n;
   next = h.next;
 }

@@ -8,10 +8,8 @@ use Rattle.inet_packet.specs.Fits.{CubeFits}
 use Rattle.conn_zones.specs.Zoning.{Zoned}
 use Rattle.flow_table.specs.Matching.{IsBest}
 use Rattle.flow_table.specs.declared.flow.Flow.{Flow}
-use Rattle.switch_engine.specs.Actions.{outcome, going_on}
-use Rattle.switch_engine.specs.Walk.{IsWalk, unmatched}
-use Rattle.switch_engine.specs.Walk.IsWalk.{over, ends, takes}
-use Rattle.switch_engine.specs.declared.carried.Carried.{Carried}
+use Rattle.switch_engine.specs.PlainWalk.{Carried, outcome, going_on, IsWalk, unmatched}
+use Rattle.switch_engine.specs.PlainWalk.IsWalk.{over, ends, takes}
 use Rattle.switch_engine.specs.declared.effect.Effect.{Effect}
 use Rattle.switch_engine.specs.declared.effect.Entry.{Entry}
 use Rattle.switch_engine.specs.declared.walk.Step.{Step}

@@ -31,12 +31,12 @@ aim_key keys (ToGroup g) = group_key g
 abbrev pub spelled : Keys → Crossing → List ℕ
 spelled keys x = canon (datapath_key keys x.datapath) (port_key keys x.in_port) (aim_key keys x.aim) (frame_of x.packet)
 
--- the effects, in order; the first frame is that of number n. No network that is built picks a backend or a port.
+-- the effects, in order; the first frame is that of number n
 abbrev pub effects_of : Keys → ℕ → List End → List NetEffect
 effects_of keys n [] = []
 effects_of keys n (leaves q packet ∷ ends) = net.Out q packet ∷ effects_of keys n ends
 effects_of keys n (is_dropped d q cause ∷ ends) = net.Drop d q cause ∷ effects_of keys n ends
 effects_of keys n (crosses chassis x ∷ ends) = net.Tunnel n chassis x.home (spelled keys x) ∷ effects_of keys (n + 1) ends
-effects_of keys n (picks_backend d vip backend ∷ ends) = effects_of keys n ends
-effects_of keys n (picks_port router port ∷ ends) = effects_of keys n ends
+effects_of keys n (picks_backend d vip backend ∷ ends) = net.PickBackend d vip backend ∷ effects_of keys n ends
+effects_of keys n (picks_port router port ∷ ends) = net.PickPort router port ∷ effects_of keys n ends
 effects_of keys n (is_lost k ∷ ends) = net.Lost k ∷ effects_of keys n ends

@@ -1,4 +1,6 @@
 -- Definitions that contracts cite.
+pub mod passes
+pub mod pipelines
 pub mod Consistent
 pub mod Effects
 pub mod Held

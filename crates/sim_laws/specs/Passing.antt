@@ -4,6 +4,7 @@ use Rattle.ovn_base.specs.declared.name.Name.{Name}
 use Rattle.inet_packet.specs.Frame.{frame_of}
 use Rattle.inet_packet.specs.Whole.{IsWhole}
 use Rattle.inet_packet.specs.declared.packet.Packet as inet
+use Rattle.switch_engine.specs.Outcome.{any_legal}
 use Rattle.chassis_sim.specs.Passing.{IsArrived, IsInjected}
 use Rattle.chassis_sim.specs.State as sim
 use Rattle.chassis_sim.specs.declared.out.SimOut.{SimOut}
@@ -23,7 +24,7 @@ pub record GoesIn (s : sim.SimState) (p : Name) (frame : List ℕ) (before after
   pub packet : inet.Packet
   pub whole : IsWhole packet
   pub frame_is : frame_of packet ≡ frame
-  pub injected : IsInjected s p clock packet before after new
+  pub injected : IsInjected any_legal s p clock packet before after new
 
 -- the frame of the lowest number arrives, and then the others do
 pub record ArrivesFirst (s : sim.SimState) (before : SimOut) (Others : sim.SimState → SimOut → Type 0) : Type 0 where
@@ -33,7 +34,7 @@ pub record ArrivesFirst (s : sim.SimState) (before : SimOut) (Others : sim.SimSt
   pub first : s.waiting ≡ (n, frame) ∷ behind
   pub between : SimOut
   pub mid : sim.SimState
-  pub arrives : IsArrived s n false clock before between mid
+  pub arrives : IsArrived any_legal s n false clock before between mid
   pub others : Others mid between
 
 -- the lowest frame arrives again and again, until none waits or so many arrived

@@ -6,6 +6,7 @@ use Rattle.chassis_sim.specs.State as held
 use Rattle.chassis_sim.specs.declared.out.SimOut.{SimOut}
 use Rattle.conn_zones.specs.Zoning.{Zoned}
 use Rattle.switch_engine.specs.declared.effect.NetEffect.{NetEffect}
+use Rattle.switch_engine.specs.Outcome.{any_legal}
 use Rattle.sim_laws.specs.Consistent.{IsConsistent}
 use Rattle.sim_laws.specs.Passing.{GoesIn, clock}
 use Rattle.sim_laws.specs.Held.{AreHeld}
@@ -53,7 +54,7 @@ ArrivalRefines =
     (m : State) (zones : Zoned) (more : ℕ) (s new : held.SimState) (n : ℕ) (keep : Bool) (before after : SimOut)
     → IsAmidst m zones more
     → AreHeld m zones.numbers s
-    → sim.IsArrived s n keep clock before after new
+    → sim.IsArrived any_legal s n keep clock before after new
     → IsRefined zones more before after new (λ effects mid. Arrives m n keep effects mid)
 
 -- the event is over

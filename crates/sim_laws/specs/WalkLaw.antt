@@ -8,7 +8,7 @@ use Rattle.inet_packet.specs.Whole.{IsWhole}
 use Rattle.inet_packet.specs.declared.packet.Packet.{Packet}
 use Rattle.conn_zones.specs.Zoning.{Zoned}
 use Rattle.flow_table.specs.declared.flow.Flow.{Flow}
-use Rattle.switch_engine.specs.Walk.{IsWalkOf}
+use Rattle.switch_engine.specs.PlainWalk.{IsWalkOf}
 use Rattle.switch_engine.specs.declared.effect.Effect.{Effect}
 use Rattle.switch_engine.specs.declared.effect.Entry.{Entry}
 use Rattle.switch_engine.specs.declared.effect.Entry.TheVariants.{Vif, Tunnel}

@@ -2,4 +2,5 @@
 #![tactic(auto)]
 
 pub mod plain;
+pub mod switches;
 pub mod walks;

@@ -3,6 +3,8 @@
 ghost use Rattle.sim_laws.specs.Refinement.{ArrivalRefines, Begins, EntryRefines, Finishes};
 ghost use Rattle.sim_laws.specs.WalkLaw.{ArrivalLaw, EntryLaw, OneWalkLaw};
 
+use switch_engine::laws::{plain_is_proper, plain_walks};
+
 /// What the tables of a chassis do with a packet from a port is the visit of a plain switch, packet by packet (`Visit`). For a packet that
 /// isn't of ARP that is what the whole logical network does (`plain::visits_agree`).
 pub fn entry_law()
@@ -29,4 +31,6 @@ pub fn refinement()
 {
     entry_law();
     arrival_law();
+    plain_walks();
+    plain_is_proper();
 }

@@ -2,8 +2,12 @@
 #![tactic(auto)]
 
 #[cfg(test)]
+mod actions;
+#[cfg(test)]
 mod frames;
 #[cfg(test)]
 mod packets;
 #[cfg(test)]
 mod sims;
+#[cfg(test)]
+mod zones;

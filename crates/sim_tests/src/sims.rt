@@ -124,11 +124,24 @@ pub fn come(
     requires { IsProperFlow flow }
 {
     let tables = holding(alloc, flow)?;
+    bring(alloc, sim, chassis, tables, port)
+}
+
+/// The chassis comes with these tables, and the port is bound to it. It has an empty zone 5.
+pub fn bring(
+    alloc: Global,
+    sim: &mut Sim<Tables>,
+    chassis: Name,
+    tables: Tables,
+    port: Name,
+) -> Result<(), NoMemory>
+    requires { IsProper tables.flows }
+{
     let change = SimChange {
         added: one(alloc, (chassis, tables))?,
         removed: List::new(alloc),
         tables: List::new(alloc),
-        emptied: List::new(alloc),
+        emptied: one(alloc, (chassis, 5))?,
         bound: one(alloc, (port, Some(chassis)))?,
         names: List::new(alloc),
     };
@@ -163,10 +176,35 @@ pub fn packet(alloc: Global) -> Result<Packet, NoMemory>
 
 /// What comes of the packet at the port.
 pub fn injected(alloc: Global, sim: &mut Sim<Tables>, port: &Name) -> Result<SimOut, SimFault> {
-    let mut out = SimOut::new(alloc);
     let packet = packet(alloc)?;
+    sent(alloc, sim, port, packet)
+}
+
+/// What comes of this packet at the port, at the time 0.
+pub fn sent(
+    alloc: Global,
+    sim: &mut Sim<Tables>,
+    port: &Name,
+    packet: Packet,
+) -> Result<SimOut, SimFault>
+    requires { IsWhole packet }
+{
+    sent_at(alloc, sim, port, packet, 0)
+}
+
+/// What comes of this packet at the port, at the time.
+pub fn sent_at(
+    alloc: Global,
+    sim: &mut Sim<Tables>,
+    port: &Name,
+    packet: Packet,
+    now: u64,
+) -> Result<SimOut, SimFault>
+    requires { IsWhole packet }
+{
+    let mut out = SimOut::new(alloc);
     if sim.next_frame() < 1 << 127 {
-        sim.inject(port, packet, 0, &mut out)?;
+        sim.inject(port, packet, now, &mut out)?;
     }
     Ok(out)
 }

@@ -9,9 +9,8 @@ use Rattle.ovn_base.specs.declared.name.Name.{Name}
 use Rattle.ovn_base.specs.names.ByName.{at}
 use Rattle.nb_records.specs.Network.{Network}
 use Rattle.nb_records.specs.Routers.{contains, served_ips}
+use Rattle.nb_records.specs.Switches.{ips_in_entry}
 use Rattle.nb_records.specs.declared.router.RouterPort.{RouterPort}
-use Rattle.nb_records.specs.declared.switch.PortAddress.{PortAddress}
-use Rattle.nb_records.specs.declared.switch.PortAddress.TheVariants as address
 use Rattle.nb_records.specs.declared.switch.SwitchPort.{SwitchPort}
 
 -- addresses by their number
@@ -47,10 +46,5 @@ abbrev pub answered_named : Network → Name → List Ip4
 answered_named net name = answered_if net (at net.router_ports name)
 
 -- the IPv4 addresses of a switch port's entries
-abbrev pub entry_ips : PortAddress → List Ip4
-entry_ips (address.Ether mac ips) = ips
-entry_ips address.Unknown = []
-entry_ips address.Router = []
-
 abbrev pub port_ips : SwitchPort → List Ip4
-port_ips q = flat_map entry_ips q.addresses
+port_ips q = flat_map ips_in_entry q.addresses

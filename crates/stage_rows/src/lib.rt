@@ -2,5 +2,8 @@
 //! of which rows are made.
 #![tactic(auto)]
 
+pub mod answered;
+pub mod balancers;
 pub mod laws;
 pub mod rows;
+pub mod terms;

@@ -1,5 +1,5 @@
 -- What stays in front of what comes.
-use Rattle.std.specs.Prelude.{◌≡◌, List, [], ◌++◌, Result, Ok, Err, OnErr}
+use Rattle.std.specs.Prelude.{◌≡◌, List, [], ◌++◌, Result, Ok, Err, OnErr, OnOk}
 use Rattle.std.proofs.Common.{sym, append-nil}
 use Rattle.switch_engine.specs.declared.effect.Effect.{Effect}
 use Rattle.switch_engine.specs.declared.walk.RunOut.{RunOut}
@@ -11,6 +11,11 @@ use Rattle.switch_engine.specs.Growth.{KeepsRun}
 pub on_err : {T E : Type 0} {P Q : Type 0} (r : Result T E) → (P → Q) → OnErr r P → OnErr r Q
 on_err (Ok x) f h = tt
 on_err (Err x) f h = f h
+
+-- what an Ok leaves, by what it leaves otherwise said
+pub on_ok : {T E : Type 0} {P Q : Type 0} (r : Result T E) → (P → Q) → OnOk r P → OnOk r Q
+on_ok (Ok x) f h = f h
+on_ok (Err x) f h = tt
 
 -- nothing came
 pub keeps_all : (out : RunOut) → KeepsRun out out

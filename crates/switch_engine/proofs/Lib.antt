@@ -1,9 +1,19 @@
 -- Lemmas.
-pub mod ActionSteps
-pub mod FrameKeys
-pub mod WalkSteps
+pub mod Choices
+pub mod Doings
+pub mod Filters
 pub mod Fronts
-pub mod Measure
+pub mod ActKinds
 pub mod Lists
+pub mod Measure
+pub mod OneWalkLaw
+pub mod PlainLaw
+pub mod PlainTables
+pub mod Ports
+pub mod Beginnings
+pub mod Begun
 pub mod Ranges
+pub mod Settings
+pub mod Wholes
 pub mod Walks
+pub mod WalkSteps

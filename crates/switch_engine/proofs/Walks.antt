@@ -1,14 +1,14 @@
--- Walks of several copies, one after another.
+-- Plain walks of several copies, one after another.
 use Rattle.std.specs.Prelude.{◌≡◌, ℕ, List, [], ◌∷◌, ◌++◌, refl}
 use Rattle.std.proofs.Common.{sym, ap, ◌∙◌, subst, append_assoc}
 use Rattle.flow_table.specs.declared.flow.Flow.{Flow}
-use Rattle.switch_engine.specs.declared.carried.Carried.{Carried}
+use Rattle.switch_engine.specs.PlainWalk.{Carried}
 use Rattle.switch_engine.specs.declared.effect.Effect.{Effect}
 use Rattle.switch_engine.specs.declared.effect.Entry.{Entry}
 use Rattle.switch_engine.specs.declared.walk.Step.{Step}
-use Rattle.switch_engine.specs.Actions.{outcome, going_on}
-use Rattle.switch_engine.specs.Walk.{IsWalk, unmatched}
-use Rattle.switch_engine.specs.Walk.IsWalk.{over, ends, takes}
+use Rattle.switch_engine.specs.PlainWalk.{outcome, going_on}
+use Rattle.switch_engine.specs.PlainWalk.{IsWalk, unmatched}
+use Rattle.switch_engine.specs.PlainWalk.IsWalk.{over, ends, takes}
 
 module _ {flows : List Flow} {entry : Entry} {now : ℕ} where
   -- a walk of the first copies, and then one of the others
@@ -32,11 +32,11 @@ first_of : {X : Type 0} → X → List X → X
 first_of y [] = y
 first_of y (x ∷ xs) = x
 
-cons_first : {X : Type 0} {x y : X} {xs ys : List X} → x ∷ xs ≡ y ∷ ys → x ≡ y
+pub cons_first : {X : Type 0} {x y : X} {xs ys : List X} → x ∷ xs ≡ y ∷ ys → x ≡ y
 unfolding first_of
 cons_first {x = x} e = ap (first_of x) e
 
-cons_rest : {X : Type 0} {x y : X} {xs ys : List X} → x ∷ xs ≡ y ∷ ys → xs ≡ ys
+pub cons_rest : {X : Type 0} {x y : X} {xs ys : List X} → x ∷ xs ≡ y ∷ ys → xs ≡ ys
 unfolding rest_of
 cons_rest e = ap rest_of e
 

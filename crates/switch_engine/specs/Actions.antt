@@ -1,15 +1,14 @@
--- What the actions of a flow bring on.
-use Rattle.std.specs.Prelude.{ℕ, ◌-◌, cond, not, List, [], ◌∷◌, ◌++◌, map, filter, bit_and, bit_or}
+-- What actions make of a copy's registers, and where they send it.
+use Rattle.std.specs.Prelude.{ℕ, ◌+◌, ◌-◌, cond, not, List, map, filter, bit_and, bit_or}
 use Rattle.std.proofs.Math.Dec.{eqb as nat_eq, leb as nat_le}
-use Rattle.ovn_base.specs.declared.stages.TheConstants.{LOOKUP_TABLE, LOOPBACK_TABLE}
+use Rattle.ovn_base.specs.declared.stages.TheConstants.{ADMIT_TABLE, LOOKUP_TABLE, LOOPBACK_TABLE}
 use Rattle.ovn_base.specs.declared.name.Name.{Name}
+use Rattle.inet_packet.specs.declared.regs.At.{At}
 use Rattle.inet_packet.specs.declared.regs.Reg.{Reg}
 use Rattle.inet_packet.specs.declared.regs.Reg.TheVariants.{Dp, InPort, OutPort, Next, ZIn, ZOut, ZDnat, ZSnat, State, Verdict, Tier, Loopback, Tracked, Blocked, Own, Arrived}
 use Rattle.inet_packet.specs.declared.regs.RegFlags.{RegFlags}
 use Rattle.inet_packet.specs.declared.regs.Regs.{Regs}
 use Rattle.flow_table.specs.declared.flow.Cause.{Cause}
-use Rattle.flow_table.specs.declared.flow.FlowOp.{FlowOp}
-use Rattle.flow_table.specs.declared.flow.FlowOp.TheVariants.{Set, Go, Drop, Header, Frame, Copies, Output}
 use Rattle.flow_table.specs.declared.flow.Member.{Member}
 use Rattle.switch_engine.specs.declared.carried.Carried.{Carried}
 use Rattle.switch_engine.specs.declared.effect.Effect.{Effect}
@@ -65,33 +64,29 @@ copy_for copy member = gone_on LOOPBACK_TABLE (record copy { regs = record copy.
 abbrev pub copies_for : Carried → List Member → List Carried
 copies_for copy members = map (copy_for copy) (filter (λ member. not (nat_eq member.key copy.regs.in_port)) members)
 
--- what actions bring on: their effects, the copy itself where it goes on, and the copies that were made of it, in order
-pub record FlowOutcome : Type 0 where
-  pub effects : List Effect
-  pub itself : List Carried
-  pub made : List Carried
+-- all registers are 0
+abbrev pub cleared : At → Regs
+cleared at =
+    record {
+      dp = 0;
+      in_port = 0;
+      out_port = 0;
+      next = 0;
+      z_in = 0;
+      z_out = 0;
+      z_dnat = 0;
+      z_snat = 0;
+      state = 0;
+      verdict = 0;
+      tier = 0;
+      flags = record { 0 = 0 };
+      at = at;
+    }
 
--- the copy itself is carried to its end before those that were made of it
-abbrev pub going_on : FlowOutcome → List Carried
-going_on outcome = outcome.itself ++ outcome.made
+-- the registers in another datapath: all are cleared but these
+abbrev pub patched_regs : ℕ → ℕ → ℕ → ℕ → Regs → Regs
+patched_regs dp in_port z_dnat z_snat regs = record (cleared regs.at) { dp = dp; in_port = in_port; z_dnat = z_dnat; z_snat = z_snat }
 
--- with one effect before the others
-abbrev pub with_effect : Effect → FlowOutcome → FlowOutcome
-with_effect e outcome = record outcome { effects = e ∷ outcome.effects }
-
--- with copies before the others that are made
-abbrev pub with_made : List Carried → FlowOutcome → FlowOutcome
-with_made copies outcome = record outcome { made = copies ++ outcome.made }
-
--- what the actions bring on for a copy at a time: they are done in order, up to one that drops it or goes on at a table. No action reads
--- the time yet. Those on connections, addresses and headers stand in no proper flow yet, and none is done.
-abbrev pub outcome : Entry → ℕ → List FlowOp → Carried → FlowOutcome
-outcome entry now [] copy = record { effects = []; itself = []; made = [] }
-outcome entry now (Set reg n ∷ ops) copy = outcome entry now ops (record copy { regs = set_reg reg n copy.regs })
-outcome entry now (Go table ∷ ops) copy = record { effects = []; itself = gone_on table copy ∷ []; made = [] }
-outcome entry now (Drop cause ∷ ops) copy = record { effects = drop_at copy.table cause copy.regs ∷ []; itself = []; made = [] }
-outcome entry now (Header ∷ ops) copy = outcome entry now ops (record copy { regs = with_header entry copy.regs })
-outcome entry now (Frame chassis ∷ ops) copy = with_effect (frame_to chassis copy) (outcome entry now ops copy)
-outcome entry now (Copies members ∷ ops) copy = with_made (copies_for copy members) (outcome entry now ops copy)
-outcome entry now (Output port ∷ ops) copy = with_effect (effect.Out port copy.packet) (outcome entry now ops copy)
-outcome entry now (_ ∷ ops) copy = record { effects = []; itself = []; made = [] }
+-- there the copy begins at the first table, and has passed once more
+abbrev pub patched : Regs → Carried → Carried
+patched regs copy = gone_on ADMIT_TABLE (record copy { regs = regs; passes = copy.passes + 1 })

@@ -1,7 +1,7 @@
 -- Which flows are proper: from them each walk ends.
 use Rattle.std.specs.Prelude.{◌≡◌, ◌<◌, ℕ, ◌-◌, ◌*◌, ◌^◌, List, [], ◌∷◌, bit_and}
 use Rattle.std.specs.List.{AllByRecursion}
-use Rattle.ovn_base.specs.declared.stages.TheConstants.{LOOPBACK_TABLE}
+use Rattle.ovn_base.specs.declared.stages.TheConstants.{LOOPBACK_TABLE, OUTPUT_TABLE}
 use Rattle.ovn_base.specs.declared.limits.TheConstants.{FLOOD_KEY}
 use Rattle.ovn_base.specs.lists.Among.{Among}
 use Rattle.inet_packet.specs.declared.cube.Bits.{Bits}
@@ -10,7 +10,7 @@ use Rattle.inet_packet.specs.declared.regs.Reg.{Reg}
 use Rattle.inet_packet.specs.declared.regs.Reg.TheVariants.{Dp, InPort, OutPort, Next, ZIn, ZOut, ZDnat, ZSnat, State, Verdict, Tier, Loopback, Tracked, Blocked, Own, Arrived}
 use Rattle.flow_table.specs.declared.flow.Flow.{Flow}
 use Rattle.flow_table.specs.declared.flow.FlowOp.{FlowOp}
-use Rattle.flow_table.specs.declared.flow.FlowOp.TheVariants.{Set, Go, Drop, Header, Frame, Copies, Output}
+use Rattle.flow_table.specs.declared.flow.FlowOp.TheVariants.{Set, Go, Copies, Patch}
 use Rattle.switch_engine.specs.declared.effect.Entry.{Entry}
 use Rattle.switch_engine.specs.declared.effect.Entry.TheVariants.{Vif, Tunnel}
 
@@ -80,28 +80,27 @@ pub record CanBeSet (reg : Reg) (n : ℕ) : Type 0 where
   pub within : n < 2 ^ width reg
   pub of_port : reg ≡ InPort → n < FLOOD_KEY
 
+-- so do those that a patch sets
+pub record CanPatch (dp in_port z_dnat z_snat : ℕ) : Type 0 where
+  pub dp_within : dp < 2 ^ 24
+  pub in_port_within : in_port < FLOOD_KEY
+  pub z_dnat_within : z_dnat < 2 ^ 16
+  pub z_snat_within : z_snat < 2 ^ 16
+
 -- an action that may stand in a flow of the table: it sets what can be set, and goes on at later tables alone; copies, which
--- go on at table 34, are made before it. No action on connections, addresses or headers may stand in a flow yet.
+-- go on at table 34, are made before it, and patches stand in table 64
 abbrev pub Rises : ℕ → FlowOp → Type 0
 Rises table (Set reg n) = CanBeSet reg n
 Rises table (Go next) = table < next
-Rises table (Drop cause) = Unit {0}
-Rises table Header = Unit {0}
-Rises table (Frame chassis) = Unit {0}
 Rises table (Copies members) = table < LOOPBACK_TABLE
-Rises table (Output port) = Unit {0}
-Rises table _ = ⊥
+Rises table (Patch dp in_port z_dnat z_snat) = (table ≡ OUTPUT_TABLE) × CanPatch dp in_port z_dnat z_snat
+Rises table _ = Unit {0}
 
 -- an action that sets no register beyond what can be set in it
 abbrev pub Sets : FlowOp → Type 0
 Sets (Set reg n) = CanBeSet reg n
-Sets (Go next) = Unit {0}
-Sets (Drop cause) = Unit {0}
-Sets Header = Unit {0}
-Sets (Frame chassis) = Unit {0}
-Sets (Copies members) = Unit {0}
-Sets (Output port) = Unit {0}
-Sets _ = ⊥
+Sets (Patch dp in_port z_dnat z_snat) = CanPatch dp in_port z_dnat z_snat
+Sets _ = Unit {0}
 
 -- a flow that matches the register whole, sets it to a greater number, goes on at its own table and does nothing else
 pub record Raises (flow : Flow) (reg : Reg) (n : ℕ) : Type 0 where

@@ -1,71 +1,39 @@
 //! What the actions of a flow do.
-ghost use Rattle.std.specs.Prelude.{◌≡◌, ◌++◌, [], ◌∷◌, IfOk, OnOk, OnErr, option_to_list};
+ghost use Rattle.std.specs.Prelude.{◌≡◌, ◌++◌, [], ◌∷◌, true, IfOk, OnOk, OnErr};
 ghost use Rattle.std.specs.List.{AllByRecursion};
-ghost use Rattle.switch_engine.specs.Actions.{set_flag, set_reg, with_header, drop_at, frame_to, gone_on, copies_for, outcome};
-ghost use Rattle.switch_engine.specs.Advance.{Extends, IsCarriedInRange};
-ghost use Rattle.switch_engine.specs.Proper.{IsEntry, Sets};
+ghost use Rattle.indexmap.specs.IndexMap.{spare};
+ghost use Rattle.switch_engine.specs.Actions.{drop_at, frame_to, copies_for, patched_regs};
+ghost use Rattle.switch_engine.specs.Advance.{Brings, Does, DoesAll, Extends, IsCarriedInRange};
+ghost use Rattle.switch_engine.specs.Outcome.{act, may_begin, changed_copy, changed_zones, patches};
+ghost use Rattle.switch_engine.specs.Proper.{CanPatch, IsEntry, Sets};
 ghost use Rattle.switch_engine.specs.Range.{IsInRange};
+ghost use Rattle.switch_engine.specs.Zones.{ZoneLists};
+ghost use Rattle.switch_engine.specs.declared.effect.Entry.{Entry};
 
 use crate::carried::Carried;
+use crate::commits::{balance, commit, dnat, snat};
 use crate::effect::{Effect, Entry};
-use flow_table::flow::{Cause, FlowOp, Member};
-use inet_packet::regs::{Reg, RegFlags, Regs};
+use crate::headers::{answer_arp, answer_echo, spend_ttl};
+use crate::registers::{cleared, read_header, set, zone_number};
+use crate::tracking::{block, look_up, touch, translate, undo};
+use crate::zones::ZoneMap;
+use flow_table::flow::{Cause, FlowOp, Member, ZoneOf};
+use inet_packet::regs::{At, Regs};
+use ovn_base::limits::MAX_HOPS;
 use ovn_base::list::List;
 use ovn_base::memory::NoMemory;
 use ovn_base::name::Name;
-use ovn_base::stages::{LOOKUP_TABLE, LOOPBACK_TABLE};
+use ovn_base::stages::{ADMIT_TABLE, LOOKUP_TABLE, LOOPBACK_TABLE};
 
-// The flags, with one of them cleared at 0 and set otherwise.
-fn with_flag(flags: RegFlags, flag: RegFlags, value: u32) -> RegFlags
-    ensures { result ≡ set_flag flag.0 value flags }
-{
-    if value == 0 {
-        RegFlags(flags.0 & !flag.0)
-    } else {
-        RegFlags(flags.0 | flag.0)
-    }
-}
-
-fn set(regs: &mut Regs, reg: Reg, value: u32)
-    ensures { regs.new ≡ set_reg reg value regs.old }
-{
-    match reg {
-        Reg::Dp => regs.dp = value,
-        Reg::InPort => regs.in_port = value,
-        Reg::OutPort => regs.out_port = value,
-        Reg::Next => regs.next = value,
-        Reg::ZIn => regs.z_in = value,
-        Reg::ZOut => regs.z_out = value,
-        Reg::ZDnat => regs.z_dnat = value,
-        Reg::ZSnat => regs.z_snat = value,
-        Reg::State => regs.state = value,
-        Reg::Verdict => regs.verdict = value,
-        Reg::Tier => regs.tier = value,
-        Reg::Loopback => regs.flags = with_flag(regs.flags, RegFlags::LOOPBACK, value),
-        Reg::Tracked => regs.flags = with_flag(regs.flags, RegFlags::TRACKED, value),
-        Reg::Blocked => regs.flags = with_flag(regs.flags, RegFlags::BLOCKED, value),
-        Reg::Own => regs.flags = with_flag(regs.flags, RegFlags::OWN, value),
-        Reg::Arrived => regs.flags = with_flag(regs.flags, RegFlags::ARRIVED, value),
-    }
-}
-
-// Sets the registers from the header of the tunnel from which the packet came.
-fn read_header(entry: &Entry, regs: &mut Regs)
-    requires entry { IsEntry entry.now }
-    requires in_range { IsInRange regs.old }
-    ensures regs { regs.new ≡ with_header entry.now regs.old }
-    ensures in_range { IsInRange regs.new }
-{
-    if let Entry::Tunnel {
-        vni,
-        in_key,
-        out_key,
-    } = *entry
-    {
-        regs.dp = vni;
-        regs.in_port = u32::from(in_key);
-        regs.out_port = u32::from(out_key);
-    }
+/// What becomes of a copy after an action.
+#[derive(Clone, Copy, PartialEq, Eq, Debug)]
+pub enum Turn {
+    /// The next action follows.
+    Next,
+    /// It goes on at its table.
+    Leaves,
+    /// It has come to its end.
+    Ends,
 }
 
 // The drop of a packet in the table.
@@ -90,18 +58,19 @@ fn framed(chassis: Name, copy: &Carried) -> Result<Effect, NoMemory>
     requires { IsInRange copy.now.regs }
     ensures { IfOk result (λ e. e ≡ frame_to chassis copy.now) }
 {
+    let packet = copy.packet.copy()?;
     Ok(Effect::Frame {
         chassis,
         vni: copy.regs.dp,
         in_key: copy.regs.in_port as u16,
         out_key: copy.regs.out_port as u16,
-        packet: copy.packet.copy()?,
+        packet,
     })
 }
 
 // Makes a copy for each of the members but the port of entry.
 fn copy_to(members: &[Member], copy: &Carried, made: &mut List<Carried>) -> Result<(), NoMemory>
-    requires in_range { IsInRange copy.now.regs }
+    requires in_range { IsCarriedInRange copy.now }
     requires all_in_range { AllByRecursion IsCarriedInRange made.old }
     ensures ok { OnOk result (made.new ≡ made.old ++ copies_for copy.now members.now) }
     ensures all_in_range { OnOk result (AllByRecursion IsCarriedInRange made.new) }
@@ -119,53 +88,236 @@ fn copy_to(members: &[Member], copy: &Carried, made: &mut List<Carried>) -> Resu
             table: LOOPBACK_TABLE,
             regs,
             packet: copy.packet.copy()?,
+            found: copy.found,
+            passes: copy.passes,
         })?;
     }
     Ok(())
 }
 
-// Does the actions with the copy at the time, up to the first that drops it or goes on at a table. Adds their effects and the
-// copies that are made, and gives the copy itself back where it goes on.
+// Does an action that changes the copy, its packet or the connections that are there.
+fn change(entry: &Entry, now: u64, op: &FlowOp, copy: &mut Carried, zones: &mut ZoneMap)
+    requires entry { IsEntry entry.now }
+    requires sets { Sets op.now }
+    requires in_range { IsCarriedInRange copy.old }
+    ensures copy { copy.new ≡ changed_copy entry.now op.now zones.old.entries copy.old }
+    ensures zones { zones.new.entries ≡ changed_zones now op.now copy.old zones.old.entries }
+    ensures in_range { IsCarriedInRange copy.new }
+    ensures room { spare zones.new ≡ spare zones.old }
+{
+    match op {
+        FlowOp::Set { reg, value } => set(&mut copy.regs, *reg, *value),
+        FlowOp::OutIsIn => copy.regs.out_port = copy.regs.in_port,
+        FlowOp::Header => read_header(entry, &mut copy.regs),
+        FlowOp::NextDst => copy.regs.next = copy.packet.body.ip4_dst(),
+        FlowOp::EthSrc(mac) => copy.packet.src = *mac,
+        FlowOp::EthDst(mac) => copy.packet.dst = *mac,
+        FlowOp::ArpReply { mac, ip } => answer_arp(&mut copy.packet, *mac, *ip),
+        FlowOp::EchoReply => answer_echo(&mut copy.packet),
+        FlowOp::DecTtl => spend_ttl(&mut copy.packet),
+        FlowOp::Find(zone) => look_up(zones, zone_number(*zone, &copy.regs), copy),
+        FlowOp::Undo => undo(
+            zones,
+            zone_number(ZoneOf::Snat, &copy.regs),
+            &mut copy.packet,
+            now,
+        ),
+        FlowOp::Translate => translate(zones, copy.found, &mut copy.packet),
+        FlowOp::Touch => touch(zones, copy.found, now),
+        FlowOp::Block => block(zones, copy.found, true),
+        FlowOp::Unblock => block(zones, copy.found, false),
+        _ => {}
+    }
+}
+
+// Drops the copy.
+pub(crate) fn drop_copy(
+    cause: Cause,
+    copy: &Carried,
+    effects: &mut List<Effect>,
+) -> Result<(), NoMemory>
+    requires { IsInRange copy.now.regs }
+    ensures effects { OnOk result (effects.new ≡ effects.old ++ drop_at copy.now.table cause copy.now.regs ∷ []) }
+    ensures err { OnErr result (effects.new ≡ effects.old) }
+{
+    effects.push(dropped(copy.table, cause, &copy.regs))?;
+    Ok(())
+}
+
+// The registers with which a copy comes into another datapath.
+fn patched_regs(dp: u32, in_port: u16, z_dnat: u16, z_snat: u16, regs: &Regs) -> Regs
+    requires { CanPatch dp in_port z_dnat z_snat }
+    ensures regs { result ≡ patched_regs dp in_port z_dnat z_snat regs.now }
+    ensures in_range { IsInRange result }
+{
+    let mut regs = cleared(regs.at);
+    regs.dp = dp;
+    regs.in_port = u32::from(in_port);
+    regs.z_dnat = u32::from(z_dnat);
+    regs.z_snat = u32::from(z_snat);
+    regs
+}
+
+// Takes the copy with these registers into another datapath, unless it passed into one too often.
+fn patch(regs: Regs, copy: &mut Carried, effects: &mut List<Effect>) -> Result<Turn, NoMemory>
+    requires regs { IsInRange regs }
+    requires in_range { IsCarriedInRange copy.old }
+    ensures does { (zones : ZoneLists) → IfOk result (λ turn. Does (patches regs) turn copy.old copy.new zones zones effects.old effects.new []) }
+    ensures in_range { OnOk result (IsCarriedInRange copy.new) }
+    ensures err { OnErr result (effects.new ≡ effects.old) }
+{
+    if copy.passes >= MAX_HOPS {
+        drop_copy(Cause::HopLimit, copy, effects)?;
+        return Ok(Turn::Ends);
+    }
+    copy.regs = regs;
+    copy.from = copy.table;
+    copy.table = ADMIT_TABLE;
+    copy.passes += 1;
+    Ok(Turn::Leaves)
+}
+
+// Whether the action is one that begins a connection.
+fn may_begin(op: &FlowOp) -> bool
+    ensures { result ≡ may_begin op.now }
+{
+    matches!(
+        op,
+        FlowOp::Commit(_) | FlowOp::Dnat { .. } | FlowOp::Snat { .. } | FlowOp::Balance { .. }
+    )
+}
+
+// Does such an action.
+fn begin(
+    now: u64,
+    op: &FlowOp,
+    copy: &mut Carried,
+    zones: &mut ZoneMap,
+    effects: &mut List<Effect>,
+) -> Result<Turn, NoMemory>
+    requires begins { may_begin op.now ≡ true }
+    requires in_range { IsCarriedInRange copy.old }
+    ensures does { (entry : Entry) → IfOk result (λ turn. Does (act entry now op.now) turn copy.old copy.new zones.old.entries zones.new.entries effects.old effects.new []) }
+    ensures in_range { OnOk result (IsCarriedInRange copy.new) }
+    ensures room { spare zones.new ≡ spare zones.old }
+    ensures err { OnErr result (Extends effects.old effects.new) }
+{
+    match op {
+        FlowOp::Commit(zone) => {
+            let number = zone_number(*zone, &copy.regs);
+            let turn = commit(zones, number, now, copy, effects)?;
+            Ok(turn)
+        }
+        FlowOp::Dnat { zone, ip } => {
+            let number = zone_number(*zone, &copy.regs);
+            let turn = dnat(zones, number, *ip, now, copy, effects)?;
+            Ok(turn)
+        }
+        FlowOp::Snat { zone, ip } => {
+            let number = zone_number(*zone, &copy.regs);
+            let turn = snat(zones, number, *ip, now, copy, effects)?;
+            Ok(turn)
+        }
+        FlowOp::Balance {
+            zone,
+            vip,
+            backends,
+        } => {
+            let number = zone_number(*zone, &copy.regs);
+            let turn = balance(zones, number, *vip, backends.as_slice(), now, copy, effects)?;
+            Ok(turn)
+        }
+        _ => unreachable!(),
+    }
+}
+
+// Does an action at the time with the copy and the zones. Adds its effects, and the copies that are made.
+fn act(
+    entry: &Entry,
+    now: u64,
+    op: &FlowOp,
+    copy: &mut Carried,
+    zones: &mut ZoneMap,
+    effects: &mut List<Effect>,
+    made: &mut List<Carried>,
+) -> Result<Turn, NoMemory>
+    requires entry { IsEntry entry.now }
+    requires sets { Sets op.now }
+    requires in_range { AllByRecursion IsCarriedInRange (copy.old ∷ made.old) }
+    ensures does { IfOk result (λ turn. DoesAll (act entry.now now op.now) turn copy.old copy.new zones.old.entries zones.new.entries effects.old effects.new made.old made.new) }
+    ensures room { spare zones.new ≡ spare zones.old }
+    ensures err { OnErr result (Extends effects.old effects.new) }
+{
+    if may_begin(op) {
+        let turn = begin(now, op, copy, zones, effects)?;
+        return Ok(turn);
+    }
+    match op {
+        FlowOp::Go(table) => {
+            copy.from = copy.table;
+            copy.table = *table;
+            Ok(Turn::Leaves)
+        }
+        FlowOp::Drop(cause) => {
+            drop_copy(*cause, copy, effects)?;
+            Ok(Turn::Ends)
+        }
+        FlowOp::Frame(chassis) => {
+            effects.push(framed(*chassis, copy)?)?;
+            Ok(Turn::Next)
+        }
+        FlowOp::Copies(members) => {
+            copy_to(members.as_slice(), copy, made)?;
+            Ok(Turn::Next)
+        }
+        FlowOp::Output(port) => {
+            effects.push(Effect::Out {
+                port: *port,
+                packet: copy.packet.copy()?,
+            })?;
+            Ok(Turn::Next)
+        }
+        FlowOp::Patch {
+            dp,
+            in_port,
+            z_dnat,
+            z_snat,
+        } => {
+            let regs = patched_regs(*dp, *in_port, *z_dnat, *z_snat, &copy.regs);
+            let turn = patch(regs, copy, effects)?;
+            Ok(turn)
+        }
+        _ => {
+            change(entry, now, op, copy, zones);
+            Ok(Turn::Next)
+        }
+    }
+}
+
+// Does the actions at the time with the copy and the zones, up to one after which it goes on at a table or ends. Adds their effects and
+// the copies that are made, and gives the copy itself back where it goes on.
 pub(crate) fn run_ops(
     entry: &Entry,
     now: u64,
     ops: &[FlowOp],
     copy: Carried,
+    zones: &mut ZoneMap,
     effects: &mut List<Effect>,
     made: &mut List<Carried>,
 ) -> Result<Option<Carried>, NoMemory>
     requires entry { IsEntry entry.now }
     requires sets { AllByRecursion Sets ops.now }
-    requires in_range { IsInRange copy.regs }
-    requires all_in_range { AllByRecursion IsCarriedInRange made.old }
-    ensures itself { IfOk result (λ left. option_to_list left ≡ (outcome entry.now now ops.now copy).itself) }
-    ensures effects { OnOk result (effects.new ≡ effects.old ++ (outcome entry.now now ops.now copy).effects) }
-    ensures made { OnOk result (made.new ≡ made.old ++ (outcome entry.now now ops.now copy).made) }
-    ensures itself_in_range { IfOk result (λ left. AllByRecursion IsCarriedInRange (option_to_list left)) }
-    ensures all_in_range { OnOk result (AllByRecursion IsCarriedInRange made.new) }
+    requires in_range { AllByRecursion IsCarriedInRange (copy ∷ made.old) }
+    ensures brings { IfOk result (λ itself. Brings entry.now now ops.now copy itself zones.old.entries zones.new.entries effects.old effects.new made.old made.new) }
+    ensures room { spare zones.new ≡ spare zones.old }
     ensures err { OnErr result (Extends effects.old effects.new) }
 {
     let mut copy = copy;
     'ops: for op in ops {
-        match op {
-            FlowOp::Set { reg, value } => set(&mut copy.regs, *reg, *value),
-            FlowOp::Go(table) => {
-                copy.from = copy.table;
-                copy.table = *table;
-                return Ok(Some(copy));
-            }
-            FlowOp::Drop(cause) => {
-                effects.push(dropped(copy.table, *cause, &copy.regs))?;
-                return Ok(None);
-            }
-            FlowOp::Header => read_header(entry, &mut copy.regs),
-            FlowOp::Frame(chassis) => effects.push(framed(*chassis, &copy)?)?,
-            FlowOp::Copies(members) => copy_to(members.as_slice(), &copy, made)?,
-            FlowOp::Output(port) => effects.push(Effect::Out {
-                port: *port,
-                packet: copy.packet.copy()?,
-            })?,
-            _ => return Ok(None),
+        match act(entry, now, op, &mut copy, zones, effects, made)? {
+            Turn::Next => {}
+            Turn::Leaves => return Ok(Some(copy)),
+            Turn::Ends => return Ok(None),
         }
     }
     Ok(None)

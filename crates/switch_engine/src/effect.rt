@@ -3,6 +3,7 @@ ghost use Rattle.std.specs.Prelude.{◌≡◌, IfOk};
 
 use flow_table::flow::Cause;
 use inet_packet::packet::Packet;
+use ovn_base::address::Backend;
 use ovn_base::list::Bytes;
 use ovn_base::memory::NoMemory;
 use ovn_base::name::Name;
@@ -40,6 +41,17 @@ pub enum Effect {
         port: u16,
         cause: Cause,
     },
+    /// On the datapath of the key a new connection to the virtual address goes to the backend.
+    PickBackend {
+        vni: u32,
+        vip: Backend,
+        backend: Backend,
+    },
+    /// On the datapath of the key the source port of a new connection becomes this one.
+    PickPort {
+        vni: u32,
+        port: u16,
+    },
     /// The packet came from a tunnel for a port that isn't here.
     Lost,
 }
@@ -72,6 +84,15 @@ impl Effect {
                 port: *port,
                 cause: *cause,
             }),
+            Effect::PickBackend { vni, vip, backend } => Ok(Effect::PickBackend {
+                vni: *vni,
+                vip: *vip,
+                backend: *backend,
+            }),
+            Effect::PickPort { vni, port } => Ok(Effect::PickPort {
+                vni: *vni,
+                port: *port,
+            }),
             Effect::Lost => Ok(Effect::Lost),
         }
     }
@@ -89,6 +110,17 @@ pub enum NetEffect {
     PortKey {
         name: Name,
         key: u16,
+    },
+    /// On the datapath a new connection to the virtual address goes to the backend.
+    PickBackend {
+        datapath: Name,
+        vip: Backend,
+        backend: Backend,
+    },
+    /// On the router the source port of a new connection becomes this one.
+    PickPort {
+        router: Name,
+        port: u16,
     },
     /// The bytes are the frame of the number, which is sent from one chassis to another.
     Tunnel {
@@ -127,6 +159,19 @@ impl NetEffect {
             NetEffect::PortKey { name, key } => Ok(NetEffect::PortKey {
                 name: *name,
                 key: *key,
+            }),
+            NetEffect::PickBackend {
+                datapath,
+                vip,
+                backend,
+            } => Ok(NetEffect::PickBackend {
+                datapath: *datapath,
+                vip: *vip,
+                backend: *backend,
+            }),
+            NetEffect::PickPort { router, port } => Ok(NetEffect::PickPort {
+                router: *router,
+                port: *port,
             }),
             NetEffect::Tunnel {
                 frame,

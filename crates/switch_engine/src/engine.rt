@@ -1,8 +1,12 @@
 //! Takes packets through tables.
 ghost use Rattle.std.specs.Prelude.{◌≡◌, ◌++◌, [], ◌∷◌, OnOk, OnErr, reverse};
 ghost use Rattle.std.specs.List.{AllByRecursion};
+ghost use Rattle.indexmap.specs.IndexMap.{spare};
+ghost use Rattle.inet_packet.specs.Whole.{IsWhole};
 ghost use Rattle.switch_engine.specs.Advance.{Advances, Extends, IsCarriedInRange};
+ghost use Rattle.switch_engine.specs.Framed.{CanBeSent};
 ghost use Rattle.switch_engine.specs.Growth.{GainsWalk, KeepsRun};
+ghost use Rattle.switch_engine.specs.Outcome.{any_legal, of_program};
 ghost use Rattle.switch_engine.specs.Proper.{IsEntry, IsProper};
 ghost use Rattle.switch_engine.specs.Range.{IsInRange};
 ghost use Rattle.switch_engine.specs.Walk.{start, unmatched};
@@ -10,12 +14,13 @@ ghost use Rattle.switch_engine.specs.Walk.{start, unmatched};
 use crate::actions::{dropped, run_ops};
 use crate::carried::Carried;
 use crate::effect::{Effect, Entry};
+use crate::registers::cleared;
 use crate::walk::{RunOut, Step};
-use crate::zones::Zones;
+use crate::zones::{ZoneMap, Zones};
 use flow_table::flow::Cause;
 use flow_table::lookup::Lookup;
 use inet_packet::packet::Packet;
-use inet_packet::regs::{At, RegFlags, Regs};
+use inet_packet::regs::At;
 use ovn_base::list::List;
 use ovn_base::memory::NoMemory;
 use ovn_base::stages::LOCAL_TABLE;
@@ -29,26 +34,13 @@ fn at_start(entry: &Entry, packet: Packet) -> Carried
         Entry::Vif(port) => At::Local(port),
         Entry::Tunnel { .. } => At::Tunnel,
     };
-    let regs = Regs {
-        dp: 0,
-        in_port: 0,
-        out_port: 0,
-        next: 0,
-        z_in: 0,
-        z_out: 0,
-        z_dnat: 0,
-        z_snat: 0,
-        state: 0,
-        verdict: 0,
-        tier: 0,
-        flags: RegFlags(0),
-        at,
-    };
     Carried {
         from: 0,
         table: 0,
-        regs,
+        regs: cleared(at),
         packet,
+        found: None,
+        passes: 0,
     }
 }
 
@@ -84,6 +76,7 @@ fn put_all(copies: List<Carried>, pending: &mut List<Carried>) -> Result<(), NoM
 fn advance<T: Lookup>(
     alloc: Global,
     tables: &T,
+    zones: &mut ZoneMap,
     entry: &Entry,
     now: u64,
     copy: Carried,
@@ -94,8 +87,9 @@ fn advance<T: Lookup>(
     requires entry { IsEntry entry.now }
     requires in_range { IsCarriedInRange copy }
     requires all_in_range { AllByRecursion IsCarriedInRange (reverse pending.old) }
-    ensures ok { OnOk result (Advances (T.flows tables.now) entry.now now copy (reverse pending.old) (reverse pending.new) out.old out.new) }
+    ensures ok { OnOk result (Advances (T.flows tables.now) entry.now now copy zones.old.entries zones.new.entries (reverse pending.old) (reverse pending.new) out.old out.new) }
     ensures all_in_range { OnOk result (AllByRecursion IsCarriedInRange (reverse pending.new)) }
+    ensures room { spare zones.new ≡ spare zones.old }
     ensures err { OnErr result (KeepsRun out.old out.new) }
 {
     let Some(flow) = tables.lookup(copy.table, &copy.regs, &copy.packet) else {
@@ -108,6 +102,7 @@ fn advance<T: Lookup>(
         now,
         flow.ops.as_slice(),
         copy,
+        zones,
         &mut out.effects,
         &mut made,
     )?;
@@ -118,9 +113,37 @@ fn advance<T: Lookup>(
     Ok(())
 }
 
+// Takes the packet from table 0 on through the tables, until no copy of it is left.
+fn walk<T: Lookup>(
+    alloc: Global,
+    tables: &T,
+    zones: &mut ZoneMap,
+    entry: &Entry,
+    packet: Packet,
+    now: u64,
+    out: &mut RunOut,
+) -> Result<(), NoMemory>
+    requires proper { IsProper (T.flows tables.now) }
+    requires entry { IsEntry entry.now }
+    requires whole { IsWhole packet }
+    ensures ok { OnOk result (GainsWalk of_program (T.flows tables.now) entry.now now packet zones.old.entries zones.new.entries out.old out.new) }
+    ensures sent { AllByRecursion CanBeSent out.old.effects → OnOk result (AllByRecursion CanBeSent out.new.effects) }
+    ensures room { spare zones.new ≡ spare zones.old }
+    ensures err { OnErr result (KeepsRun out.old out.new) }
+{
+    let mut pending = List::new(alloc);
+    pending.push(at_start(entry, packet))?;
+    'copies: while let Some(copy) = pending.pop() {
+        advance(alloc, tables, zones, entry, now, copy, &mut pending, out)?;
+    }
+    Ok(())
+}
+
 /// Takes the packet at the time from table 0 on through the tables until no copy of it is left, and adds its effects and the flows that
 /// it matched. Each copy is carried to its end before the next begins: first the one that the actions were done with, then
-/// those that were made of it, in order. Without memory what was there stays, with a part of them.
+/// those that were made of it, in order. Where there is a choice, a connection goes to the backend at the sum of its source and its two
+/// ports, counted through those that may be picked, and gets the least port that is free. Frames of a whole packet carry whole ones, under
+/// keys that fit into a tunnel header. Without memory what was there stays, with a part of them, and the zones may have changed.
 pub fn run<T: Lookup>(
     alloc: Global,
     tables: &T,
@@ -132,14 +155,12 @@ pub fn run<T: Lookup>(
 ) -> Result<(), NoMemory>
     requires proper { IsProper (T.flows tables.now) }
     requires entry { IsEntry entry.now }
-    ensures ok { OnOk result (GainsWalk (T.flows tables.now) entry.now now packet out.old out.new) }
+    requires whole { IsWhole packet }
+    ensures ok { OnOk result (GainsWalk any_legal (T.flows tables.now) entry.now now packet zones.old.zones zones.new.zones out.old out.new) }
+    ensures own { OnOk result (GainsWalk of_program (T.flows tables.now) entry.now now packet zones.old.zones zones.new.zones out.old out.new) }
+    ensures sent { AllByRecursion CanBeSent out.old.effects → OnOk result (AllByRecursion CanBeSent out.new.effects) }
+    ensures room { zones.new.room ≡ zones.old.room }
     ensures err { OnErr result (KeepsRun out.old out.new) }
-    ensures zones { zones.new ≡ zones.old }
 {
-    let mut pending = List::new(alloc);
-    pending.push(at_start(entry, packet))?;
-    'copies: while let Some(copy) = pending.pop() {
-        advance(alloc, tables, entry, now, copy, &mut pending, out)?;
-    }
-    Ok(())
+    walk(alloc, tables, &mut zones.zones, entry, packet, now, out)
 }

@@ -1,6 +1,6 @@
 //! Rows of a switch and of its ports are as the tables of stages write them.
+use crate::lines::have_lines;
 use logical_flows::flow::LFlow;
-use logical_flows::print_flow::print_flow;
 use match_language::field::Direction;
 use match_language::reader::parse;
 use nb_records::record::Record;
@@ -27,18 +27,7 @@ fn name(text: &[u8]) -> Result<Name, NoMemory> {
 
 // Whether the rows have these lines on the switch s0.
 fn print(alloc: Global, rows: &[LFlow], lines: &[&str]) -> Result<bool, NoMemory> {
-    if rows.len() != lines.len() {
-        return Ok(false);
-    }
-    let datapaths = List::from_slice(alloc, &[name(b"s0")?])?;
-    for (row, line) in rows.iter().zip(lines) {
-        let mut out = Vec::new(alloc);
-        print_flow(row, datapaths.as_slice(), &mut out)?;
-        if out.as_slice() != line.as_bytes() {
-            return Ok(false);
-        }
-    }
-    Ok(true)
+    have_lines(alloc, &name(b"s0")?, rows, lines)
 }
 
 // The virtual port p1 of s0 without addresses and port security.

@@ -1,5 +1,4 @@
 -- Lemmas.
-pub mod InOrder
 pub mod Lists
 pub mod SwitchTests
 pub mod PortUnits

@@ -1,5 +1,5 @@
 -- Facts of a switch, as tests of the records one after another.
-use Rattle.std.specs.Prelude.{◌≡◌, ◌&&◌, ◌||◌, Bool, true, false, cond, List, [], ◌∷◌}
+use Rattle.std.specs.Prelude.{◌≡◌, ◌&&◌, Bool, true, false}
 use Rattle.std.specs.List.{filter, list_any}
 use Rattle.std.specs.Map.{values_of}
 use Rattle.std.proofs.Common.{refl, ◌∙◌}
@@ -7,8 +7,7 @@ use Rattle.ovn_base.specs.declared.name.Name.{Name}
 use Rattle.ovn_base.specs.names.SameName.{same_name}
 use Rattle.nb_records.proofs.AnyLaws.{any_map, any_filter, any_same}
 use Rattle.nb_records.specs.Network.{Network}
-use Rattle.nb_records.specs.Switches.{applies, is_related, is_stateful, serves_at, has_balancer, has_some, takes_unknown}
-use Rattle.nb_records.specs.declared.balancer.LoadBalancer.{LoadBalancer}
+use Rattle.nb_records.specs.Switches.{applies, is_related, is_stateful, takes_unknown}
 use Rattle.nb_records.specs.declared.rule.Acl.{Acl}
 use Rattle.nb_records.specs.declared.switch.SwitchPort.{SwitchPort}
 use Rattle.stage_rows.specs.SwitchRows.{some_take_unknown}
@@ -25,17 +24,6 @@ stateful_is net switch =
     any_filter (λ (r : Acl). is_related r.action) (applies net switch) (values_of net.acls)
     ∙ any_same (λ (r : Acl). applies net switch r && is_related r.action) (makes_stateful net switch) (λ r. either_way (applies net switch r) (is_related r.action)) (values_of net.acls)
     ∙ any_map (makes_stateful net switch) (λ (e : Name × Acl). e.1) net.acls
-
-some_pass_by : {X : Type 0} (p : X → Bool) (x : X) (xs : List X) (b : Bool) → has_some (filter p xs) ≡ list_any p xs → has_some (cond b (x ∷ filter p xs) (filter p xs)) ≡ (b || list_any p xs)
-some_pass_by p x xs true rest = refl
-some_pass_by p x xs false rest = rest
-
-some_pass : {X : Type 0} (p : X → Bool) (xs : List X) → has_some (filter p xs) ≡ list_any p xs
-some_pass p [] = refl
-some_pass p (x ∷ xs) = some_pass_by p x xs (p x) (some_pass p xs)
-
-pub balanced_is : (net : Network) (datapath : Name) → has_balancer net datapath ≡ list_any (λ (e : Name × LoadBalancer). serves_at datapath e.1) net.load_balancers
-balanced_is net datapath = some_pass (serves_at datapath) (values_of net.load_balancers) ∙ any_map (serves_at datapath) (λ (e : Name × LoadBalancer). e.1) net.load_balancers
 
 pub takes_is : (net : Network) (switch : Name) → some_take_unknown net switch ≡ list_any (λ (e : Name × SwitchPort). takes_unknown_there switch e.1) net.switch_ports
 takes_is net switch =

@@ -1,4 +1,3 @@
 //! What the rows follow from, read from the records.
 pub(crate) mod addresses;
-pub(crate) mod answered;
 pub(crate) mod switches;

@@ -3,7 +3,5 @@
 
 mod facts;
 pub mod port_unit;
-mod row;
 mod stages;
 pub mod switch_unit;
-mod terms;

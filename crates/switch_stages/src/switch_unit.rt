@@ -9,7 +9,6 @@ ghost use Rattle.switch_stages.specs.SwitchLists.{rows_before_rules, ingress_row
 ghost use Rattle.switch_stages.specs.UnitLaws.{switch_law};
 
 use crate::facts::switches::{is_stateful, some_take_unknown};
-use crate::row::push_base;
 use crate::stages::admit::push_switch_admit;
 use crate::stages::lookup::push_switch_lookup;
 use crate::stages::state::push_state;
@@ -22,6 +21,7 @@ use ovn_base::list::List;
 use ovn_base::memory::NoMemory;
 use ovn_base::name::Name;
 use ovn_base::steps::Steps;
+use stage_rows::rows::push_base;
 use std::alloc::Global;
 
 /// What a switch has beside its ports: the rows by which a packet goes on where nothing else is said of it, those that decide by

@@ -1,14 +1,14 @@
 -- What `plan` makes, step by step, is what an edit does.
-use Rattle.std.specs.Prelude.{◌≡◌, ◌≤◌, ◌<◌, ◌↔◌, not, List, ◌++◌, length, map}
+use Rattle.std.specs.Prelude.{◌≡◌, ◌≤◌, ◌<◌, ◌↔◌, not, List, [], ◌++◌, length, map}
 use mathlib.Core.Path.{sym, ap, subst, ◌∙◌}
 use Rattle.std.specs.List.{AllByRecursion, filter, filter_map}
 use Rattle.std.specs.List.Sorted.{IsStrictlySortedBy}
 use Rattle.ovn_base.specs.lists.Among.{Among}
 use Rattle.ovn_base.specs.declared.name.Name.{Name}
 use Rattle.ovn_base.specs.names.ByName.{put_all, in_order, IsByName}
-use Rattle.tunnel_keys.specs.Owners.{is_listed, datapaths_in}
+use Rattle.tunnel_keys.specs.Owners.{is_listed, datapaths_in, ports_in}
 use Rattle.tunnel_keys.specs.Order.{IsInOrder}
-use Rattle.tunnel_keys.specs.Keys.{Keys, IsKeys, retire, datapath_owner, port_owner, held_datapath, held_port, free_datapath_keys}
+use Rattle.tunnel_keys.specs.Keys.{Keys, IsKeys, retire, ports_on, datapath_owner, port_owner, held_datapath, held_port, free_datapath_keys}
 use Rattle.tunnel_keys.specs.Edits.{IsKeyEdit, IsAfter}
 use Rattle.tunnel_keys.specs.Causes.{IsCause, HasKeys}
 use Rattle.tunnel_keys.specs.Giving.{given_ports, HasEnough, IsDatapathFault, IsPortFault, IsFirstShort}
@@ -19,8 +19,10 @@ use Rattle.tunnel_keys.specs.declared.owner.PortKey.{PortKey}
 use Rattle.tunnel_keys.specs.declared.owner.HeldDatapath.{HeldDatapath}
 use Rattle.tunnel_keys.specs.declared.owner.HeldPort.{HeldPort}
 use Rattle.tunnel_keys.specs.declared.owner.KeyOwner.{KeyOwner}
+use Rattle.ovn_base.proofs.ByNameLaws.{among_at}
 use Rattle.tunnel_keys.proofs.Lists.{in_order_same}
-use Rattle.tunnel_keys.proofs.Plans.{all_datapaths, new_ports, planned, HasRoom, between_sorted, between_ports_sorted, all_datapaths_sorted, planned_gives, planned_least}
+use Rattle.tunnel_keys.proofs.PortLists.{not_on, kept_on, put_all_on}
+use Rattle.tunnel_keys.proofs.Plans.{all_datapaths, new_ports, planned, HasRoom, between_sorted, between_ports_sorted, all_datapaths_sorted, port_not_new, new_port_owner, planned_gives, planned_least}
 use Rattle.tunnel_keys.proofs.Invariant.{planned_hold, retired_datapaths_once, retired_ports_once}
 use Rattle.tunnel_keys.proofs.KeyOrder.{held_datapath_cmp, held_port_cmp, datapaths_in_order, ports_in_order}
 use Rattle.tunnel_keys.proofs.Faults.{lacks_datapaths, has_datapaths, first_lacks, has_keys}
@@ -79,6 +81,16 @@ module _ (before : Keys) (added removed : List KeyOwner) (keys : IsKeys before) 
           last
           ∙ ap (λ l. put_all po (given_ports before.port_range po rp added l)) datapaths_are
           ∙ ap (λ (k : Keys). put_all k.ports (given_ports k.port_range k.ports k.retired_ports added (all_datapaths (retire before removed) added))) between_is
+
+      -- where no port comes or goes the ports stay as they were
+      pub ports_kept : (d : Name) → ports_in d added ≡ [] → ports_in d removed ≡ [] → ports_on ps d ≡ ports_on before.ports d
+      ports_kept d none gone =
+          let sorted = between_ports_sorted before added removed keys edit in
+          let new = new_ports (retire before removed) added in
+          let kept = put_all_on d new (retire before removed).ports
+          (λ g m. not_on added d none g (new_port_owner before added removed keys edit room g.0 g.1 m))
+          (λ f m own g n same. port_not_new before added removed keys edit room f.0 f.1 (among_at f.0 f.1 (retire before removed).ports sorted m) g n (sym same)) sorted in
+          ap (λ es. ports_on es d) ports_are ∙ ap (λ es. map (λ (e : Name × PortKey). (e.0, e.1.key)) es) (kept ∙ kept_on removed d gone before.ports)
 
       module _ (od : List HeldDatapath) (op : List HeldPort) (od_sorted : IsStrictlySortedBy held_datapath_cmp od) (op_sorted : IsStrictlySortedBy held_port_cmp op)
           (od_same : (h : HeldDatapath) → Among h od ↔ Among h rd) (op_same : (h : HeldPort) → Among h op ↔ Among h rp) where

@@ -20,7 +20,7 @@ use Rattle.tunnel_keys.specs.Keys.{Keys, IsKeys, retire, free_datapath_keys, fre
 use Rattle.tunnel_keys.specs.Edits.{IsKeyEdit}
 use Rattle.tunnel_keys.specs.Causes.{LacksDatapathKeys, LacksPortKeys, HasKeys, IsFirstToLack}
 use Rattle.std.proofs.Common.{append_assoc}
-use Rattle.tunnel_keys.specs.Giving.{HasEnough, IsFirstShort, IsPortFaultOn, IsPortFault, given_ports, given_ports_on}
+use Rattle.tunnel_keys.specs.Giving.{HasEnough, IsFirstShort, IsPortFaultOn, IsPortFault, with_keys, new_port_key, given_ports, given_ports_on}
 use Rattle.tunnel_keys.specs.declared.fault.KeyFault.{KeyFault}
 use Rattle.tunnel_keys.specs.declared.fault.KeyFault.TheVariants.{NoDatapathKey, NoPortKey, Memory}
 use Rattle.tunnel_keys.specs.declared.owner.DatapathKey.{DatapathKey}
@@ -28,6 +28,7 @@ use Rattle.tunnel_keys.specs.declared.owner.PortKey.{PortKey}
 use Rattle.tunnel_keys.specs.declared.owner.HeldPort.{HeldPort}
 use Rattle.tunnel_keys.specs.declared.owner.KeyOwner.{KeyOwner}
 use Rattle.ovn_base.proofs.ByNameLaws.{at_among, among_at, below_apart, above_among}
+use Rattle.tunnel_keys.proofs.Lists.{append_none}
 use Rattle.tunnel_keys.proofs.Plans.{all_datapaths, all_datapaths_sorted, HasRoom, datapaths_count, ports_count, there_datapath, found_datapath}
 
 -- a name behind another in order is above it
@@ -66,6 +67,19 @@ module _ (range : ℕ) (live : List (Name × PortKey)) (retired : List HeldPort)
       ∙ append_assoc given (given_ports_on range live retired added x) (given_ports range live retired added rest)
       ∙ ap (λ l. given ++ given_ports range live retired added l) (sym e)
       ∙ h
+
+  -- a datapath to which no port is added
+  pub given_none : (x : Name × DatapathKey) (left rest all : List (Name × DatapathKey)) (given : List (Name × PortKey)) → ports_in x.0 added ≡ []
+      → given ++ given_ports range live retired added left ≡ given_ports range live retired added all → left ≡ x ∷ rest → given ++ given_ports range live retired added rest ≡ given_ports range live retired added all
+  given_none x left rest all given none h e =
+      let free = free_in range (taken_ports live retired (record { name = x.0; birth = x.1.birth })) in
+      given_more x left rest all given [] given h e (sym (ap (λ as'. with_keys (new_port_key x.0) (in_order as') free) none)) (sym (append_none given))
+
+  pub enough_none : (x : Name × DatapathKey) → ports_in x.0 added ≡ [] → HasEnough range live retired added x
+  enough_none x none =
+      let free = free_in range (taken_ports live retired (record { name = x.0; birth = x.1.birth })) in
+      let least : 0 ≤ length free = omega arith in
+      subst (λ (as' : List (Name × Birth)). length (in_order as') ≤ length free) (sym none) least
 
   -- the first that is short
   pub fault_first : (x : Name × DatapathKey) (left rest all : List (Name × DatapathKey)) (e : KeyFault) → IsEnoughBefore range live retired added left all → left ≡ x ∷ rest

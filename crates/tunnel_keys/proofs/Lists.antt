@@ -12,6 +12,10 @@ use Rattle.std.specs.List.Sorted.{IsStrictlySortedBy}
 use Rattle.std.proofs.lemmas.Cmp.{nat_list_cmp_total}
 use Rattle.std.proofs.Common.{append_assoc}
 use Rattle.std.proofs.lemmas.Option.{none-some}
+use Rattle.std.proofs.lemmas.Bool.{false≢true}
+use Rattle.std.proofs.lemmas.Bool.Decides.{Decides-eqb}
+use Rattle.std.proofs.lemmas.List.{nil_from_length}
+use Rattle.std.proofs.Math.Dec.{eqb as nat_eq}
 use Rattle.ovn_base.specs.lists.Among.{Among, here, there}
 use Rattle.ovn_base.proofs.AmongLaws.{among_same, among_none, among_cases, among_append, among_filter, filter_among}
 use Rattle.ovn_base.specs.declared.name.Name.{Name}
@@ -25,6 +29,22 @@ module _ {X : Type 0} where
   pub append_none : (xs : List X) → xs ++ [] ≡ xs
   append_none [] = refl
   append_none (x ∷ xs) = ap (λ ys. x ∷ ys) (append_none xs)
+
+  -- a list of no length
+  pub no_length : (xs : List X) → nat_eq (length xs) 0 ≡ true → xs ≡ []
+  no_length xs h = nil_from_length xs ((Decides-eqb (length xs) 0).0 h)
+
+  pub some_length : (xs : List X) → nat_eq (length xs) 0 ≡ false → xs ≢ []
+  some_length xs h none = false≢true (sym h ∙ (Decides-eqb (length xs) 0).1 (ap length none))
+
+  -- nothing before and behind
+  pub none_left : (xs ys : List X) → xs ++ ys ≡ [] → xs ≡ []
+  none_left [] ys h = refl
+  none_left (x ∷ xs) ys h = cc
+
+  pub none_right : (xs ys : List X) → xs ++ ys ≡ [] → ys ≡ []
+  none_right [] ys h = h
+  none_right (x ∷ xs) ys h = cc
 
   -- one more behind the others
   pub once_more : (xs : List X) (x : X) → EachOnce xs → (¬ Among x xs) → EachOnce (xs ++ x ∷ [])

@@ -2,7 +2,7 @@
 use Rattle.std.specs.Prelude.{◌≡◌, ◌≢◌, Bool, true, false, cond, not, List, [], ◌∷◌, Option, Some, None, refl}
 use mathlib.Core.Path.{sym, ap, subst, ◌∙◌}
 use mathlib.Core.Logic.{inl, inr}
-use Rattle.std.specs.List.{cons_option}
+use Rattle.std.specs.List.{cons_option, filter}
 use Rattle.std.proofs.lemmas.Bool.{true≢false}
 use Rattle.std.proofs.lemmas.Option.{none-some, same_Some}
 use Rattle.ovn_base.specs.lists.Among.{Among, here, there}
@@ -49,6 +49,15 @@ not_unlisted owners owner n = by (is_listed owners owner) refl
     by : (b : Bool) → is_listed owners owner ≡ b → not b ≡ true
     by true e = absurd (n (listed_among owners owner e))
     by false e = refl
+
+-- where nobody is listed all pass, and none
+pub all_unlisted : {X : Type 0} (owner : X → KeyOwner) (owners : List KeyOwner) → owners ≡ [] → (xs : List X) → filter (λ x. not (is_listed owners (owner x))) xs ≡ xs
+all_unlisted owner owners none [] = refl
+all_unlisted owner owners none (x ∷ xs) = (λ i. cond (not (is_listed (none i) (owner x))) (x ∷ all_unlisted owner owners none xs i) (all_unlisted owner owners none xs i))
+
+pub none_listed : {X : Type 0} (owner : X → KeyOwner) (owners : List KeyOwner) → owners ≡ [] → (xs : List X) → filter (λ x. is_listed owners (owner x)) xs ≡ []
+none_listed owner owners none [] = refl
+none_listed owner owners none (x ∷ xs) = (λ i. cond (is_listed (none i) (owner x)) (x ∷ none_listed owner owners none xs i) (none_listed owner owners none xs i))
 
 -- ---- datapaths
 

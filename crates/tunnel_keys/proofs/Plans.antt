@@ -194,7 +194,7 @@ module _ (before : Keys) (added removed : List KeyOwner) (keys : IsKeys before) 
     pub new_port_among : (d n : Name) (q : DatapathKey) (p : PortKey) → at (all_datapaths (retire before removed) added) d ≡ Some q → Among (n, p) (new_ports_on (retire before removed) added (d, q)) → Among (n, p) (new_ports (retire before removed) added)
     new_port_among d n q p f m = among_flat_map (new_ports_on (retire before removed) added) (d, q) (n, p) (all_datapaths (retire before removed) added) (at_among (all_datapaths (retire before removed) added) d q f) m
 
-    port_not_new : (n : Name) (p : PortKey) → at (retire before removed).ports n ≡ Some p → (e : Name × PortKey) → Among e (new_ports (retire before removed) added) → e.0 ≢ n
+    pub port_not_new : (n : Name) (p : PortKey) → at (retire before removed).ports n ≡ Some p → (e : Name × PortKey) → Among e (new_ports (retire before removed) added) → e.0 ≢ n
     port_not_new n p f e m same =
         let r = flat_map_among (new_ports_on (retire before removed) added) e (all_datapaths (retire before removed) added) m in
         let owner : Among (Port r.0.0 n e.1.birth) added = subst (λ k. Among (Port r.0.0 k e.1.birth) added) same (new_port_who r.0 e r.2).0 in

@@ -1,14 +1,16 @@
 //! How added owners get keys.
-ghost use Rattle.std.specs.Prelude.{◌≡◌, ◌<◌, ◌≤◌, ◌^◌, IfOk, OnOk, IfErr, length};
+ghost use Rattle.std.specs.Prelude.{◌≡◌, ◌<◌, ◌≤◌, ◌^◌, [], IfOk, OnOk, IfErr, length};
 ghost use Rattle.std.specs.List.{AllByRecursion};
+ghost use Rattle.ovn_base.specs.declared.name.Name.{Name};
 ghost use Rattle.ovn_base.specs.names.ByName.{in_order};
+ghost use Rattle.tunnel_keys.specs.Grouped.{grouped_under, listed_on};
 ghost use Rattle.tunnel_keys.specs.Owners.{as_datapath, datapaths_in};
-ghost use Rattle.tunnel_keys.specs.Keys.{free_in, taken_datapaths};
+ghost use Rattle.tunnel_keys.specs.Keys.{free_in, taken_datapaths, ports_on};
 ghost use Rattle.tunnel_keys.specs.Giving.{put_option, with_keys, new_datapath_key, new_port_key, taken_on, given_datapaths, given_ports, HasEnough, IsDatapathFault, IsPortFaultOn, IsPortFault, lists_of};
 
 use crate::fault::KeyFault;
 use crate::free::{free_keys, taken_by_datapaths, taken_by_ports};
-use crate::grouped::{live_by_datapath, ports_by_datapath, retired_by_datapath, under};
+use crate::grouped::{listed, live_by_datapath, ports_by_datapath, retired_by_datapath, under};
 use crate::owner::{DatapathKey, HeldDatapath, HeldPort, Identity, KeyOwner, PortKey};
 use crate::retiring::put_each;
 use ovn_base::address::Birth;
@@ -171,35 +173,45 @@ pub(crate) fn give_port_keys(
 {
     let alloc = retired.allocator();
     let arrivals = ports_by_datapath(alloc, added)?;
-    let staying = live_by_datapath(alloc, live)?;
+    let staying = live_by_datapath(alloc, live, &arrivals)?;
     let gone = retired_by_datapath(alloc, retired.as_slice())?;
     let mut given = List::new(alloc);
     for (name, datapath) in datapaths {
-        let on = Identity {
-            name: *name,
-            birth: datapath.birth,
-        };
-        let here = under(&staying, name);
-        let left = under(&gone, name);
         let come = under(&arrivals, name);
-        let more = give_keys_on(alloc, range, here, left, come, &on)?;
-        given.append(more)?;
+        if !come.is_empty() {
+            let on = Identity {
+                name: *name,
+                birth: datapath.birth,
+            };
+            let here = under(&staying, name);
+            let left = under(&gone, name);
+            let more = give_keys_on(alloc, range, here, left, come, &on)?;
+            given.append(more)?;
+        }
     }
     Ok(given)
 }
 
-// The ports of each datapath, in order of name.
+// The ports of each datapath, in order of name. Where none of them has changed the list is the one that was before.
 pub(crate) fn listed_ports(
     alloc: Global,
+    before: &BTreeMap<Name, Ports>,
+    changed: &BTreeMap<Name, List<(Name, Birth)>>,
     datapaths: &BTreeMap<Name, DatapathKey>,
     ports: &BTreeMap<Name, PortKey>,
 ) -> Result<BTreeMap<Name, Ports>, NoMemory>
+    requires unchanged { (d : Name) → grouped_under changed.now.entries d ≡ [] → listed_on before.now.entries d ≡ ports_on ports.now.entries d }
     ensures { IfOk result (λ m. m.entries ≡ in_order (lists_of ports.now.entries datapaths.now.entries)) }
 {
-    let groups = live_by_datapath(alloc, ports)?;
+    let groups = live_by_datapath(alloc, ports, changed)?;
     let mut lists = List::new(alloc);
     for (name, _) in datapaths {
-        let list = List::from_slice(alloc, under(&groups, name))?;
+        let here = if under(changed, name).is_empty() {
+            listed(before, name)
+        } else {
+            under(&groups, name)
+        };
+        let list = List::from_slice(alloc, here)?;
         lists.push((*name, Ports { list }))?;
     }
     put_each(BTreeMap::new(alloc), lists)

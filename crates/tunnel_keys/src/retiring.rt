@@ -4,11 +4,12 @@ ghost use Rattle.std.specs.List.{filter, filter_map, cons_option};
 ghost use Rattle.std.specs.List.Sorted.{IsStrictlySortedBy};
 ghost use Rattle.std.specs.declared.cmp.Ordering.TheVariants.{Equal};
 ghost use Rattle.ovn_base.specs.lists.Among.{Among};
-ghost use Rattle.ovn_base.specs.names.ByName.{put_all, in_order};
+ghost use Rattle.ovn_base.specs.names.ByName.{put_all, in_order, IsByName};
 ghost use Rattle.tunnel_keys.specs.Owners.{is_listed};
 ghost use Rattle.tunnel_keys.specs.Keys.{datapath_owner, port_owner, held_datapath, held_port};
 
 use crate::owner::{DatapathKey, HeldDatapath, HeldPort, Identity, KeyOwner, PortKey, is_listed};
+use crate::store::copy_of;
 use ovn_base::list::List;
 use ovn_base::memory::NoMemory;
 use ovn_base::name::Name;
@@ -46,75 +47,80 @@ pub(crate) fn in_order<H: Ord + Copy + Drop>(alloc: Global, held: &[H]) -> Resul
     Ok(all)
 }
 
-// The datapaths that are not removed.
-pub(crate) fn staying_datapaths(
-    alloc: Global,
-    datapaths: &BTreeMap<Name, DatapathKey>,
-    removed: &[KeyOwner],
-) -> Result<BTreeMap<Name, DatapathKey>, NoMemory>
-    ensures { IfOk result (λ m. m.entries ≡ in_order (filter (λ e. not (is_listed removed.now (datapath_owner e))) datapaths.now.entries)) }
+// The names of a map's entries ascend. It does nothing.
+fn names_ascend<V>(entries: &BTreeMap<Name, V>)
+    ensures { IsByName entries.now.entries }
 {
-    let mut staying = List::new(alloc);
-    for (name, datapath) in datapaths {
-        push_staying_datapath(&mut staying, removed, name, datapath)?;
-    }
-    put_each(BTreeMap::new(alloc), staying)
+    let _len = entries.len();
 }
 
-// Puts the datapath behind the others, if it is not removed.
-fn push_staying_datapath(
-    staying: &mut List<(Name, DatapathKey)>,
-    removed: &[KeyOwner],
-    name: &Name,
-    datapath: &DatapathKey,
-) -> Result<(), NoMemory>
-    ensures { OnOk result (staying.new ≡ staying.old ++ cond (is_listed removed.now (datapath_owner (name.now, datapath.now))) [] ((name.now, datapath.now) ∷ [])) }
+// Whether the datapath is not removed.
+fn is_staying_datapath(removed: &[KeyOwner], name: &Name, datapath: &DatapathKey) -> bool
+    ensures { result ≡ not (is_listed removed.now (datapath_owner (name.now, datapath.now))) }
 {
     let owner = KeyOwner::Datapath {
         name: *name,
         birth: datapath.birth,
     };
-    if is_listed(removed, &owner) {
-        return Ok(());
-    }
-    staying.push((*name, *datapath))?;
-    Ok(())
+    !is_listed(removed, &owner)
 }
 
-// The ports that are not removed.
-pub(crate) fn staying_ports(
-    alloc: Global,
-    ports: &BTreeMap<Name, PortKey>,
-    removed: &[KeyOwner],
-) -> Result<BTreeMap<Name, PortKey>, NoMemory>
-    ensures { IfOk result (λ m. m.entries ≡ in_order (filter (λ e. not (is_listed removed.now (port_owner e))) ports.now.entries)) }
+// Takes the removed datapaths away.
+fn keep_datapaths(datapaths: &mut BTreeMap<Name, DatapathKey>, removed: &[KeyOwner])
+    ensures { datapaths.new.entries ≡ filter (λ e. not (is_listed removed.now (datapath_owner e))) datapaths.old.entries }
 {
-    let mut staying = List::new(alloc);
-    for (name, port) in ports {
-        push_staying_port(&mut staying, removed, name, port)?;
+    if removed.is_empty() {
+        return;
     }
-    put_each(BTreeMap::new(alloc), staying)
+    datapaths.retain(|name, datapath| is_staying_datapath(removed, name, &*datapath));
 }
 
-// Puts the port behind the others, if it is not removed.
-fn push_staying_port(
-    staying: &mut List<(Name, PortKey)>,
+// The datapaths that are not removed.
+pub(crate) fn staying_datapaths(
+    datapaths: &BTreeMap<Name, DatapathKey>,
     removed: &[KeyOwner],
-    name: &Name,
-    port: &PortKey,
-) -> Result<(), NoMemory>
-    ensures { OnOk result (staying.new ≡ staying.old ++ cond (is_listed removed.now (port_owner (name.now, port.now))) [] ((name.now, port.now) ∷ [])) }
+) -> Result<BTreeMap<Name, DatapathKey>, NoMemory>
+    ensures { IfOk result (λ m. m.entries ≡ in_order (filter (λ e. not (is_listed removed.now (datapath_owner e))) datapaths.now.entries)) }
+{
+    let mut staying = copy_of(datapaths)?;
+    keep_datapaths(&mut staying, removed);
+    names_ascend(&staying);
+    Ok(staying)
+}
+
+// Whether the port is not removed.
+fn is_staying_port(removed: &[KeyOwner], name: &Name, port: &PortKey) -> bool
+    ensures { result ≡ not (is_listed removed.now (port_owner (name.now, port.now))) }
 {
     let owner = KeyOwner::Port {
         datapath: port.datapath,
         name: *name,
         birth: port.birth,
     };
-    if is_listed(removed, &owner) {
-        return Ok(());
+    !is_listed(removed, &owner)
+}
+
+// Takes the removed ports away.
+fn keep_ports(ports: &mut BTreeMap<Name, PortKey>, removed: &[KeyOwner])
+    ensures { ports.new.entries ≡ filter (λ e. not (is_listed removed.now (port_owner e))) ports.old.entries }
+{
+    if removed.is_empty() {
+        return;
     }
-    staying.push((*name, *port))?;
-    Ok(())
+    ports.retain(|name, port| is_staying_port(removed, name, &*port));
+}
+
+// The ports that are not removed.
+pub(crate) fn staying_ports(
+    ports: &BTreeMap<Name, PortKey>,
+    removed: &[KeyOwner],
+) -> Result<BTreeMap<Name, PortKey>, NoMemory>
+    ensures { IfOk result (λ m. m.entries ≡ in_order (filter (λ e. not (is_listed removed.now (port_owner e))) ports.now.entries)) }
+{
+    let mut staying = copy_of(ports)?;
+    keep_ports(&mut staying, removed);
+    names_ascend(&staying);
+    Ok(staying)
 }
 
 // The retired keys of datapaths, with those of the removed ones.
@@ -126,6 +132,9 @@ pub(crate) fn retired_datapaths(
     ensures { IfOk result (λ l. l ≡ retired.now ++ map held_datapath (filter (λ e. is_listed removed.now (datapath_owner e)) datapaths.now.entries)) }
 {
     let mut all = retired.copy()?;
+    if removed.is_empty() {
+        return Ok(all);
+    }
     for (name, datapath) in datapaths {
         push_retired_datapath(&mut all, removed, name, datapath)?;
     }
@@ -169,6 +178,9 @@ pub(crate) fn retired_ports(
     ensures { IfOk result (λ l. l ≡ retired.now ++ filter_map (held_port datapaths.now.entries) (filter (λ e. is_listed removed.now (port_owner e)) ports.now.entries)) }
 {
     let mut all = retired.copy()?;
+    if removed.is_empty() {
+        return Ok(all);
+    }
     for (name, port) in ports {
         push_retired_port(&mut all, datapaths, removed, name, port)?;
     }

@@ -9,6 +9,7 @@ ghost use Rattle.tunnel_keys.specs.Causes.{IsCause, HasKeys};
 
 use crate::fault::KeyFault;
 use crate::giving::{give_datapath_keys, give_port_keys, listed_ports};
+use crate::grouped::changed_by_datapath;
 use crate::owner::{DatapathKey, HeldDatapath, HeldPort, KeyOwner, PortKey};
 use crate::retiring::{
     in_order, put_each, retired_datapaths, retired_ports, staying_datapaths, staying_ports,
@@ -192,15 +193,16 @@ impl KeyStore {
         ensures fault { IfErr result (IsCause self.now added.now removed.now) }
     {
         let alloc = self.retired_ports.allocator();
-        let staying = staying_datapaths(alloc, &self.datapaths, removed)?;
-        let ports = staying_ports(alloc, &self.ports, removed)?;
+        let staying = staying_datapaths(&self.datapaths, removed)?;
+        let ports = staying_ports(&self.ports, removed)?;
         let gone = retired_datapaths(&self.retired_datapaths, &self.datapaths, removed)?;
         let gone_ports = retired_ports(&self.retired_ports, &self.datapaths, &self.ports, removed)?;
         let more = give_datapath_keys(self.datapath_range, &staying, &gone, added)?;
         let datapaths = put_each(staying, more)?;
         let more = give_port_keys(self.port_range, &ports, &gone_ports, added, &datapaths)?;
         let ports = put_each(ports, more)?;
-        let lists = listed_ports(alloc, &datapaths, &ports)?;
+        let changed = changed_by_datapath(alloc, added, removed)?;
+        let lists = listed_ports(alloc, &self.lists, &changed, &datapaths, &ports)?;
         let retired_datapaths = in_order(alloc, gone.as_slice())?;
         let retired_ports = in_order(alloc, gone_ports.as_slice())?;
         Ok(KeyStore {
@@ -216,7 +218,7 @@ impl KeyStore {
 }
 
 // The same entries in memory of their own.
-fn copy_of<V: Clone>(entries: &BTreeMap<Name, V>) -> Result<BTreeMap<Name, V>, NoMemory>
+pub(crate) fn copy_of<V: Clone>(entries: &BTreeMap<Name, V>) -> Result<BTreeMap<Name, V>, NoMemory>
     requires clones { (x y : V) → V.is_clone x y → y ≡ x }
     ensures { IfOk result (λ m. m.entries ≡ entries.now.entries) }
 {

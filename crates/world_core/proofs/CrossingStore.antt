@@ -156,6 +156,8 @@ keeping_ends old ws now k = by k.rest k.all k.frames
 pub sends_none : (effect : NetEffect) → ((n : ℕ) (from to : Name) (bytes : List ℕ) → effect ≡ net.Tunnel n from to bytes → ⊥) → sent_by effect ≡ []
 sends_none (net.DatapathKey name key) h = refl
 sends_none (net.PortKey name key) h = refl
+sends_none (net.PickBackend datapath vip backend) h = refl
+sends_none (net.PickPort router port) h = refl
 sends_none (net.Tunnel n from to bytes) h = absurd (h n from to bytes refl)
 sends_none (net.Out port packet) h = refl
 sends_none (net.Drop datapath port cause) h = refl

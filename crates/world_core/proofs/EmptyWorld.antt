@@ -132,6 +132,7 @@ new_held = record {
   names = record { datapaths = λ a k e. absurd (none-some k e); ports = λ q p k e f. absurd (none-some p e) };
   held = λ c. (λ h. let s = some_of (at_name new_world.sim.chassis c) h in absurd (none-some s.0 s.1), λ h. absurd (among_none c h));
   flows = λ c flows e. absurd (none-some flows e);
+  no_zone = λ c lists e. absurd (none-some lists e);
   waiting = refl;
   next = refl;
 }

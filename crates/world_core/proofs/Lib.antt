@@ -12,6 +12,7 @@ pub mod FreedKeys
 pub mod HeldFlows
 pub mod NamesInOrder
 pub mod NewKeys
+pub mod NoZoneTurns
 pub mod OneCrossing
 pub mod OnePass
 pub mod OneStep

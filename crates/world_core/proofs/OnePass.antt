@@ -13,9 +13,12 @@ use Rattle.conn_zones.specs.Zoning.{Zoned}
 use Rattle.geneve_frames.specs.Meaning.{canon}
 use Rattle.geneve_frames.proofs.Faults.{one_spelled}
 use Rattle.flow_table.specs.declared.flow.Flow.{Flow}
-use Rattle.switch_engine.specs.Walk.{IsWalkOf}
+use Rattle.switch_engine.proofs.PlainLaw.{plain_walk as walks_are_plain}
+use Rattle.switch_engine.proofs.PlainTables.{plain_proper}
+use Rattle.switch_engine.specs.Outcome.{any_legal}
+use Rattle.switch_engine.specs.Zones.{ZoneLists}
 use Rattle.switch_engine.specs.declared.effect.Effect.{Effect}
-use Rattle.switch_engine.specs.declared.effect.Effect.TheVariants.{Out, Frame, Drop, Lost}
+use Rattle.switch_engine.specs.declared.effect.Effect.TheVariants.{Out, Frame, Drop, PickBackend, PickPort, Lost}
 use Rattle.switch_engine.specs.declared.effect.Entry.{Entry}
 use Rattle.switch_engine.specs.declared.effect.Entry.TheVariants.{Vif, Tunnel}
 use Rattle.switch_engine.specs.declared.effect.NetEffect.{NetEffect}
@@ -24,7 +27,8 @@ use Rattle.switch_engine.specs.declared.walk.Start.TheVariants as start_at
 use Rattle.switch_engine.specs.declared.walk.Step.{Step}
 use Rattle.chassis_sim.specs.Frames.{Carries}
 use Rattle.chassis_sim.specs.InNames.{all_in_names, frames_sent, next_after_all}
-use Rattle.chassis_sim.specs.Passing.{IsArrived, IsInjected, IsTold, arrived, with_frames}
+use Rattle.chassis_sim.specs.Holding.{IsWalkBy}
+use Rattle.chassis_sim.specs.Passing.{IsArrived, IsInjected, IsTold, arrived, rezoned, with_frames}
 use Rattle.chassis_sim.specs.State as sim
 use Rattle.chassis_sim.specs.State.{at_name, numbered, KeyPair}
 use Rattle.chassis_sim.specs.declared.out.SimOut.{SimOut}
@@ -35,7 +39,8 @@ use Rattle.sim_laws.specs.Passing.{GoesIn, AreDrained, clock, no_out}
 use Rattle.world_core.specs.EventPasses.{Passes}
 use Rattle.sim_laws.specs.PacketSteps.{most_arrivals}
 use Rattle.world_core.specs.WorldView.{WorldView, IsSound}
-use Rattle.sim_laws.specs.Held.{AreHeld}
+use Rattle.sim_laws.specs.Held.{AreHeld, HaveNoZone}
+use Rattle.sim_laws.proofs.NoZones.{none_left, plain_walk}
 use Rattle.physical_flows.proofs.FlowSearch.{some_of, is_some_of}
 use Rattle.sim_laws.proofs.OneWalk as walk
 use Rattle.sim_laws.proofs.PlainRecords.{plain_valid}
@@ -49,10 +54,17 @@ first_number (w ∷ ws) = w.0
 some_wait : {X : Type 0} (w : ℕ × X) (ws waiting : List (ℕ × X)) → waiting ≡ w ∷ ws → waiting ≢ []
 some_wait w ws waiting some none = cc
 
--- through the first flows and through the others a packet takes one walk
+-- two walks are one, and leave no zone
+record AreOne (steps others : List Step) (effects last : List Effect) (left final : ZoneLists) : Type 0 where
+  one : (steps ≡ others) × (effects ≡ last)
+  left_none : left ≡ []
+  final_none : final ≡ []
+
+-- where there are no zones, through the first flows and through the others a packet takes one walk
 abbrev HaveOneWalk : List Flow → List Flow → Type 0
 HaveOneWalk flows more =
-    (entry : Entry) (now : ℕ) (packet : inet.Packet) (steps others : List Step) (effects last : List Effect) → IsWalkOf flows entry now packet steps effects → IsWalkOf more entry now packet others last → (steps ≡ others) × (effects ≡ last)
+    (entry : Entry) (now : ℕ) (packet : inet.Packet) (lists others_lists left final : ZoneLists) (steps others : List Step) (effects last : List Effect) → lists ≡ [] → others_lists ≡ []
+    → IsWalkBy any_legal flows entry now packet lists steps effects left → IsWalkBy any_legal more entry now packet others_lists others last final → AreOne steps others effects last left final
 
 -- both hold the same chassis, bindings and waiting frames, and flows that give one walk
 record AreAlike (a b : sim.SimState) : Type 0 where
@@ -60,6 +72,8 @@ record AreAlike (a b : sim.SimState) : Type 0 where
   held : (c : Name) → IsSome (at_name a.chassis c) → IsSome (at_name b.chassis c)
   held_too : (c : Name) → IsSome (at_name b.chassis c) → IsSome (at_name a.chassis c)
   walks : (c : Name) (flows more : List Flow) → at_name a.chassis c ≡ Some flows → at_name b.chassis c ≡ Some more → HaveOneWalk flows more
+  none : HaveNoZone a.zones
+  none_too : HaveNoZone b.zones
   waiting : a.waiting ≡ b.waiting
   next : a.next ≡ b.next
 
@@ -72,7 +86,16 @@ sound_alike one two sound also states zones =
       bindings = λ q. first.bindings q ∙ sym (second.bindings q);
       held = λ c h. (second.held c).1 ((first.held c).0 h);
       held_too = λ c h. (first.held c).1 ((second.held c).0 h);
-      walks = λ c flows more is too. walk.one one.state one.zones c flows more (plain_valid one.state.config.net now.valid now.built) now.keys now.bound (first.flows c flows is) (second.flows c more too);
+      walks = λ c flows more is too entry time packet lists others_lists left final steps others effects last no_list no_other h k.
+          let plain = plain_walk walks_are_plain plain_proper one.state one.zones c flows now.keys now.bound (first.flows c flows is) entry time packet lists left steps effects h in
+          let too_plain = plain_walk walks_are_plain plain_proper one.state one.zones c more now.keys now.bound (second.flows c more too) entry time packet others_lists final others last k in
+          record {
+            one = walk.one one.state one.zones c flows more (plain_valid one.state.config.net now.valid now.built) now.keys now.bound (first.flows c flows is) (second.flows c more too) entry time packet steps others effects last plain.1 too_plain.1;
+            left_none = plain.0 ∙ no_list;
+            final_none = too_plain.0 ∙ no_other;
+          };
+      none = first.no_zone;
+      none_too = second.no_zone;
       waiting = first.waiting ∙ sym second.waiting;
       next = first.next ∙ sym second.next;
     }
@@ -83,12 +106,27 @@ same_frames names others chassis start next [] = refl
 same_frames names others chassis start next (Out port packet ∷ effects) = same_frames names others chassis start next effects
 same_frames names others chassis start next (Frame to vni in_key out_key packet ∷ effects) = ap (λ fs. (next, record { to = to; bytes = canon vni in_key out_key (frame_of packet) }) ∷ fs) (same_frames names others chassis start (next + 1) effects)
 same_frames names others chassis start next (Drop vni port cause ∷ effects) = same_frames names others chassis start next effects
+same_frames names others chassis start next (PickBackend vni vip backend ∷ effects) = same_frames names others chassis start next effects
+same_frames names others chassis start next (PickPort vni port ∷ effects) = same_frames names others chassis start next effects
 same_frames names others chassis start next (Lost ∷ effects) = same_frames names others chassis start next effects
 
 -- the same walks came, and what is held is alike
 record Same (after later : SimOut) (new other : sim.SimState) : Type 0 where
   walks : after.walks ≡ later.walks
   alike : AreAlike new other
+
+-- so it is after walks that leave no zone
+rezoned_alike : (a b : sim.SimState) → AreAlike a b → (c d : Name) (left final : ZoneLists) → left ≡ [] → final ≡ [] → AreAlike (rezoned a c left) (rezoned b d final)
+rezoned_alike a b alike c d left final no_left no_final = record {
+  bindings = alike.bindings;
+  held = alike.held;
+  held_too = alike.held_too;
+  walks = alike.walks;
+  none = none_left a.zones c left no_left alike.none;
+  none_too = none_left b.zones d final no_final alike.none_too;
+  waiting = alike.waiting;
+  next = alike.next;
+}
 
 module _ (a b : sim.SimState) (alike : AreAlike a b) where
   told_alike : (chassis : Name) (start : Start) (steps : List Step) (effects : List Effect) (before then after later : SimOut) (new other : sim.SimState) → before.walks ≡ then.walks
@@ -104,6 +142,8 @@ module _ (a b : sim.SimState) (alike : AreAlike a b) where
         held = alike.held;
         held_too = alike.held_too;
         walks = alike.walks;
+        none = alike.none;
+        none_too = alike.none_too;
         waiting = ap (λ ws. ws ++ frames_sent first) alike.waiting ∙ ap (λ fs. b.waiting ++ fs) frames;
         next = ap (λ n. next_after_all n effects) alike.next;
       } in
@@ -129,24 +169,27 @@ module _ (a b : sim.SimState) (alike : AreAlike a b) where
       let s = some_of (at_name a.chassis d) (alike.held_too d (is_some_of (at_name b.chassis d) flows is)) in
       none-some s.0 (sym none ∙ ap (λ n. at_name a.chassis n) same ∙ s.1)
 
+module _ (a b : sim.SimState) (alike : AreAlike a b) where
   injected_alike : (p : Name) (packet : inet.Packet) (before then after later : SimOut) (new other : sim.SimState) → before.walks ≡ then.walks
-      → IsInjected a p clock packet before after new → IsInjected b p clock packet then later other → Same after later new other
-  injected_alike p packet before then after later new other walks (IsInjected.through c flows steps effects home held walked told) (IsInjected.through d more others last there kept again said) =
+      → IsInjected any_legal a p clock packet before after new → IsInjected any_legal b p clock packet then later other → Same after later new other
+  injected_alike p packet before then after later new other walks (IsInjected.through c flows lists left steps effects home held zoned walked told) (IsInjected.through d more others_lists final others last there kept zoned_too again said) =
       let same : c ≡ d = same_Some c d (sym home ∙ alike.bindings p ∙ there) in
-      let one = alike.walks c flows more held (ap (λ n. at_name b.chassis n) same ∙ kept) (Vif p) clock packet steps others effects last walked again in
-      told_alike c (start_at.Port p) steps effects before then after later new other walks told (told_as c d (start_at.Port p) steps others effects last then later other same one said)
-  injected_alike p packet before then after later new other walks (IsInjected.through c flows steps effects home held walked told) (IsInjected.nowhere d there none said) =
-      absurd (both_held c d flows (same_Some c d (sym home ∙ alike.bindings p ∙ there)) held none)
-  injected_alike p packet before then after later new other walks (IsInjected.nowhere c home none told) (IsInjected.through d more others last there kept again said) =
-      absurd (both_held_too c d more (same_Some c d (sym home ∙ alike.bindings p ∙ there)) kept none)
+      let one = alike.walks c flows more held (ap (λ n. at_name b.chassis n) same ∙ kept) (Vif p) clock packet lists others_lists left final steps others effects last (alike.none c lists zoned) (alike.none_too d others_lists zoned_too) walked again in
+      let both : AreAlike (rezoned a c left) (rezoned b d final) = rezoned_alike a b alike c d left final one.left_none one.final_none in
+      told_alike (rezoned a c left) (rezoned b d final) both c (start_at.Port p) steps effects before then after later new other walks told
+      (told_as (rezoned a c left) (rezoned b d final) both c d (start_at.Port p) steps others effects last then later other same one.one said)
+  injected_alike p packet before then after later new other walks (IsInjected.through c flows lists left steps effects home held zoned walked told) (IsInjected.nowhere d there none said) =
+      absurd (both_held a b alike c d flows (same_Some c d (sym home ∙ alike.bindings p ∙ there)) held none)
+  injected_alike p packet before then after later new other walks (IsInjected.nowhere c home none told) (IsInjected.through d more others_lists final others last there kept zoned_too again said) =
+      absurd (both_held_too a b alike c d more (same_Some c d (sym home ∙ alike.bindings p ∙ there)) kept none)
   injected_alike p packet before then after later new other walks (IsInjected.nowhere c home none told) (IsInjected.nowhere d there never said) =
       let same : c ≡ d = same_Some c d (sym home ∙ alike.bindings p ∙ there) in
-      told_alike c (start_at.Port p) [] [] before then after later new other walks told (told_as c d (start_at.Port p) [] [] [] [] then later other same (refl, refl) said)
+      told_alike a b alike c (start_at.Port p) [] [] before then after later new other walks told (told_as a b alike c d (start_at.Port p) [] [] [] [] then later other same (refl, refl) said)
 
   goes_in_alike : (p : Name) (frame : List ℕ) (before then after later : SimOut) (new other : sim.SimState) → before.walks ≡ then.walks → GoesIn a p frame before after new → GoesIn b p frame then later other → Same after later new other
   goes_in_alike p frame before then after later new other walks h k =
       let packet : h.packet ≡ k.packet = one_packet_at_most h.packet k.packet h.whole k.whole (h.frame_is ∙ sym k.frame_is) in
-      injected_alike p k.packet before then after later new other walks (subst (λ x. IsInjected a p clock x before after new) packet h.injected) k.injected
+      injected_alike p k.packet before then after later new other walks (subst (λ x. IsInjected any_legal a p clock x before after new) packet h.injected) k.injected
 
   arrived_still : (n : ℕ) (keep : Bool) → AreAlike (arrived a n keep) (arrived b n keep)
   arrived_still n keep = record {
@@ -154,6 +197,8 @@ module _ (a b : sim.SimState) (alike : AreAlike a b) where
     held = alike.held;
     held_too = alike.held_too;
     walks = alike.walks;
+    none = alike.none;
+    none_too = alike.none_too;
     waiting = ap (λ ws. cond keep ws (remove_entry (is_at (nat_cmp n)) ws)) alike.waiting;
     next = alike.next;
   }
@@ -175,19 +220,24 @@ module _ (a b : sim.SimState) (alike : AreAlike a b) (n : ℕ) (keep : Bool) whe
   one_frame : (f g : WaitingFrame) → numbered a.waiting n ≡ Some f → numbered b.waiting n ≡ Some g → f ≡ g
   one_frame f g h k = same_Some f g (sym h ∙ ap (λ ws. numbered ws n) alike.waiting ∙ k)
 
-  arrives_alike : (before then after later : SimOut) (new other : sim.SimState) → before.walks ≡ then.walks → IsArrived a n keep clock before after new → IsArrived b n keep clock then later other → Same after later new other
-  arrives_alike before then after later new other walks (IsArrived.through f flows v i o packet steps effects waits held carried walked told) (IsArrived.through g more w j p own others last waits_too kept carries again said) =
+  arrives_alike : (before then after later : SimOut) (new other : sim.SimState) → before.walks ≡ then.walks → IsArrived any_legal a n keep clock before after new → IsArrived any_legal b n keep clock then later other → Same after later new other
+  arrives_alike before then after later new other walks (IsArrived.through f flows lists left v i o packet steps effects waits held zoned carried walked told)
+      (IsArrived.through g more others_lists final w j p own others last waits_too kept zoned_too carries again said) =
       let frame : f ≡ g = one_frame f g waits waits_too in
       let to : f.to ≡ g.to = ap (λ (x : WaitingFrame). x.to) frame in
       let same = one_carried g.bytes v i o packet w j p own (subst (λ (x : WaitingFrame). Carries x.bytes v i o packet) frame carried) carries in
       let entry : Tunnel v i o ≡ Tunnel w j p = λ t. Tunnel (same.vnis t) (same.in_keys t) (same.out_keys t) in
-      let moved : IsWalkOf flows (Tunnel w j p) clock own steps effects = subst (λ x. IsWalkOf flows (Tunnel w j p) clock x steps effects) same.packets (subst (λ e. IsWalkOf flows e clock packet steps effects) entry walked) in
-      let one = alike.walks f.to flows more held (ap (λ c. at_name b.chassis c) to ∙ kept) (Tunnel w j p) clock own steps others effects last moved again in
-      told_alike (arrived a n keep) (arrived b n keep) (arrived_still a b alike n keep) f.to (start_at.Frame n) steps effects before then after later new other walks told
-      (told_as (arrived a n keep) (arrived b n keep) (arrived_still a b alike n keep) f.to g.to (start_at.Frame n) steps others effects last then later other to one said)
-  arrives_alike before then after later new other walks (IsArrived.through f flows v i o packet steps effects waits held carried walked told) (IsArrived.gone g waits_too none said) =
+      let moved : IsWalkBy any_legal flows (Tunnel w j p) clock own lists steps effects left =
+      subst (λ x. IsWalkBy any_legal flows (Tunnel w j p) clock x lists steps effects left) same.packets (subst (λ e. IsWalkBy any_legal flows e clock packet lists steps effects left) entry walked) in
+      let one = alike.walks f.to flows more held (ap (λ c. at_name b.chassis c) to ∙ kept) (Tunnel w j p) clock own lists others_lists left final steps others effects last (alike.none f.to lists zoned) (alike.none_too g.to others_lists zoned_too) moved again in
+      let first : sim.SimState = rezoned (arrived a n keep) f.to left in
+      let second : sim.SimState = rezoned (arrived b n keep) g.to final in
+      let both : AreAlike first second = rezoned_alike (arrived a n keep) (arrived b n keep) (arrived_still a b alike n keep) f.to g.to left final one.left_none one.final_none in
+      told_alike first second both f.to (start_at.Frame n) steps effects before then after later new other walks told
+      (told_as first second both f.to g.to (start_at.Frame n) steps others effects last then later other to one.one said)
+  arrives_alike before then after later new other walks (IsArrived.through f flows lists left v i o packet steps effects waits held zoned carried walked told) (IsArrived.gone g waits_too none said) =
       absurd (both_held a b alike f.to g.to flows (ap (λ (x : WaitingFrame). x.to) (one_frame f g waits waits_too)) held none)
-  arrives_alike before then after later new other walks (IsArrived.gone f waits none told) (IsArrived.through g more w j p own others last waits_too kept carries again said) =
+  arrives_alike before then after later new other walks (IsArrived.gone f waits none told) (IsArrived.through g more others_lists final w j p own others last waits_too kept zoned_too carries again said) =
       absurd (both_held_too a b alike f.to g.to more (ap (λ (x : WaitingFrame). x.to) (one_frame f g waits waits_too)) kept none)
   arrives_alike before then after later new other walks (IsArrived.gone f waits none told) (IsArrived.gone g waits_too never said) =
       let to : f.to ≡ g.to = ap (λ (x : WaitingFrame). x.to) (one_frame f g waits waits_too) in
@@ -203,7 +253,7 @@ drained_alike (suc most) a b alike before then after later new other walks (inl 
 drained_alike (suc most) a b alike before then after later new other walks (inr h) (inl k) = absurd (some_wait (h.n, h.frame) h.behind a.waiting h.first (alike.waiting ∙ k.0))
 drained_alike (suc most) a b alike before then after later new other walks (inr h) (inr k) =
     let number : h.n ≡ k.n = ap first_number (sym h.first ∙ alike.waiting ∙ k.first) in
-    let first = arrives_alike a b alike k.n false before then h.between k.between h.mid k.mid walks (subst (λ n. IsArrived a n false clock before h.between h.mid) number h.arrives) k.arrives in
+    let first = arrives_alike a b alike k.n false before then h.between k.between h.mid k.mid walks (subst (λ n. IsArrived any_legal a n false clock before h.between h.mid) number h.arrives) k.arrives in
     drained_alike most h.mid k.mid first.alike h.between k.between after later new other first.walks h.others k.others
 
 through_alike : (most : ℕ) (a b : sim.SimState) → AreAlike a b → (p : Name) (frame : List ℕ) (between amid after later : SimOut) (mid half new other : sim.SimState) → GoesIn a p frame no_out between mid → AreDrained most mid between after new

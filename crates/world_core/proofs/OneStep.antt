@@ -2,12 +2,11 @@
 use Rattle.inet_packet.specs.declared.packet.Packet as inet
 use Rattle.inet_packet.proofs.OnePacket.{one_packet_at_most}
 use Rattle.net_model.specs.Journey.{Traffic, enter_one, arrive_one, lose_one, arrive_all, enter_and_arrive}
-use Rattle.net_model.specs.Trail.{End, leaves, is_dropped, crosses, picks_backend, picks_port, is_lost}
-use Rattle.sim_laws.proofs.PlainTravels.{one_way}
-use Rattle.sim_laws.proofs.PlainVisit.{plain}
+use Rattle.net_model.specs.Trail.{End, choices_in, leaves, is_dropped, crosses, picks_backend, picks_port, is_lost}
+use Rattle.net_model.proofs.SparedJourneys.{same_travels}
 use Rattle.sim_laws.specs.Effects.{effects_of}
 use Rattle.std.specs.Prelude.{◌≡◌, ◌+◌, ◌++◌, ℕ, true, false, List, [], ◌∷◌, Some, None, Option, map, unwrap_or, refl}
-use Rattle.std.specs.List.{AllByRecursion, filter_map}
+use Rattle.std.specs.List.{filter_map}
 use Rattle.std.specs.Option.{option_map}
 use Rattle.std.proofs.Common.{sym, ap, ◌∙◌, subst, inl, inr}
 use Rattle.std.proofs.lemmas.Option.{none-some, same_Some}
@@ -19,7 +18,8 @@ use Rattle.ovn_base.proofs.AmongLaws.{among_cases, among_filter_map, among_flat_
 use Rattle.ovn_base.proofs.ByNameLaws.{at_among, one_or_two, put_other, put_there}
 use Rattle.edit_reader.specs.declared.event.Event.{Event}
 use Rattle.edit_reader.specs.declared.event.Event.TheVariants as event_of
-use Rattle.event_lines.specs.Picks.{Pick, datapath_key, port_key, picks_of}
+use Rattle.conn_table.specs.Picks.{Choice, to_backend, to_port}
+use Rattle.event_lines.specs.Picks.{Pick, datapath_key, port_key, vip_backend, source_port, picks_of}
 use Rattle.switch_engine.specs.declared.effect.NetEffect.{NetEffect}
 use Rattle.tunnel_keys.specs.declared.owner.HeldDatapath.{HeldDatapath}
 use Rattle.tunnel_keys.specs.declared.owner.HeldPort.{HeldPort}
@@ -39,7 +39,6 @@ use Rattle.nb_records.specs.declared.change.Op.{Op}
 use Rattle.nb_rules.specs.Valid as rules
 use Rattle.net_model.specs.Owners.{owners_only_in}
 use Rattle.physical_flows.specs.Built.{IsBuilt}
-use Rattle.sim_laws.proofs.PlainRecords.{plain_valid}
 use Rattle.tunnel_keys.specs.declared.owner.KeyOwner.TheVariants.{Port}
 use Rattle.world_core.specs.Editing.{edited, next_net}
 use Rattle.world_core.specs.KeyLines.{added_ports, as_place, datapath_effect, key_effects, port_effect}
@@ -48,7 +47,6 @@ use Rattle.world_core.proofs.RefusedTurns.{edit_built, edit_faultless}
 use Rattle.physical_flows.specs.Numbers.{datapath_number, port_number}
 use Rattle.world_core.specs.Picks.{Fate, was_refused, was_accepted, Happens, Run}
 use Rattle.world_core.specs.Refusing.{refusal}
-use Rattle.physical_flows.specs.Valid.{IsValid}
 use Rattle.net_model.specs.State.{State, event_count, finished}
 use Rattle.world_core.specs.Step.{NetworkStep, Does, Moves, Sends}
 
@@ -67,6 +65,8 @@ placed_there owners d q birth m = among_filter_map as_place (Port d q birth) (d,
 abbrev key_in : Pick → ℕ
 key_in (datapath_key name key) = key
 key_in (port_key name key) = key
+key_in (vip_backend datapath vip backend) = 0
+key_in (source_port router port) = port
 
 abbrev head_or : Pick → List Pick → Pick
 head_or d [] = d
@@ -197,40 +197,53 @@ still effects others after later left more then h k a b e = record {
   rest = none_left effects others left more (ap (λ es. picks_of es) h) (ap (λ es. picks_of es) k) e;
 }
 
--- the ends of packets name no key
-none_of_ends : (keys : Keys) (n : ℕ) (ends : List End) → picks_of (effects_of keys n ends) ≡ []
-none_of_ends keys n [] = refl
-none_of_ends keys n (leaves q packet ∷ ends) = none_of_ends keys n ends
-none_of_ends keys n (is_dropped d q cause ∷ ends) = none_of_ends keys n ends
-none_of_ends keys n (crosses chassis x ∷ ends) = none_of_ends keys (n + 1) ends
-none_of_ends keys n (picks_backend d vip backend ∷ ends) = none_of_ends keys n ends
-none_of_ends keys n (picks_port router port ∷ ends) = none_of_ends keys n ends
-none_of_ends keys n (is_lost k ∷ ends) = none_of_ends keys n ends
+-- the choices that picks make
+abbrev choice_of : Pick → List Choice → List Choice
+choice_of (datapath_key name key) choices = choices
+choice_of (port_key name key) choices = choices
+choice_of (vip_backend datapath vip backend) choices = to_backend backend ∷ choices
+choice_of (source_port router port) choices = to_port port ∷ choices
 
-none_moved : (m : State) (traffic : Traffic) (effects : List NetEffect) (after : State) → Moves m traffic effects after → picks_of effects ≡ []
-none_moved m traffic effects after h = ap (λ es. picks_of es) h.effects_are ∙ none_of_ends m.keys m.next h.ends
+abbrev choices_of : List Pick → List Choice
+choices_of [] = []
+choices_of (p ∷ ps) = choice_of p (choices_of ps)
 
--- what is asked of packets has one outcome
-moved_with : (m : State) → IsValid m.config.net → (traffic : Traffic) (effects others : List NetEffect) (after later : State) (left more : List Pick) → Moves m traffic effects after → Moves m traffic others later
+-- the effects of ends name the choices of which those tell
+choices_named : (keys : Keys) (n : ℕ) (ends : List End) (left : List Pick) → choices_of (picks_of (effects_of keys n ends) ++ left) ≡ choices_in ends ++ choices_of left
+choices_named keys n [] left = refl
+choices_named keys n (leaves q packet ∷ ends) left = choices_named keys n ends left
+choices_named keys n (is_dropped d q cause ∷ ends) left = choices_named keys n ends left
+choices_named keys n (crosses chassis x ∷ ends) left = choices_named keys (n + 1) ends left
+choices_named keys n (picks_backend d vip backend ∷ ends) left = ap (λ cs. to_backend backend ∷ cs) (choices_named keys n ends left)
+choices_named keys n (picks_port router port ∷ ends) left = ap (λ cs. to_port port ∷ cs) (choices_named keys n ends left)
+choices_named keys n (is_lost k ∷ ends) left = choices_named keys n ends left
+
+-- behind the same picks
+same_behind : (ps left more : List Pick) → ps ++ left ≡ ps ++ more → left ≡ more
+same_behind [] left more e = e
+same_behind (p ∷ ps) left more e = same_behind ps left more (ap rest_of e)
+
+-- what is asked of packets has one outcome, with the picks that are made
+moved_with : (m : State) (traffic : Traffic) (effects others : List NetEffect) (after later : State) (left more : List Pick) → Moves m traffic effects after → Moves m traffic others later
     → picks_of effects ++ left ≡ picks_of others ++ more → Same effects others after later left more
-moved_with m valid traffic effects others after later left more h k e =
-    let one = one_way m (plain m.config.net valid) traffic h.ends k.ends after later h.travels k.travels in
-    record {
-      effects_are = h.effects_are ∙ ap (λ es. effects_of m.keys m.next es) one.0 ∙ sym k.effects_are;
-      state = one.1;
-      rest = none_left effects others left more (none_moved m traffic effects after h) (none_moved m traffic others later k) e;
-    }
+moved_with m traffic effects others after later left more h k e =
+    let told = sym (ap (λ es. picks_of es ++ left) h.effects_are) ∙ e ∙ ap (λ es. picks_of es ++ more) k.effects_are in
+    let choices : choices_in h.ends ++ choices_of left ≡ choices_in k.ends ++ choices_of more =
+    sym (choices_named m.keys m.next h.ends left) ∙ ap (λ ps. choices_of ps) told ∙ choices_named m.keys m.next k.ends more in
+    let one = same_travels m traffic h.ends k.ends after later (choices_of left) (choices_of more) h.travels k.travels choices in
+    let same : effects ≡ others = h.effects_are ∙ ap (λ es. effects_of m.keys m.next es) one.0 ∙ sym k.effects_are in
+    record { effects_are = same; state = one.1; rest = same_behind (picks_of effects) left more (e ∙ ap (λ es. picks_of es ++ more) (sym same)) }
 
-sent_with : (m : State) → IsValid m.config.net → (frame : List ℕ) (asks : inet.Packet → Traffic) (effects others : List NetEffect) (after later : State) (left more : List Pick) → Sends m frame asks effects after → Sends m frame asks others later
+sent_with : (m : State) (frame : List ℕ) (asks : inet.Packet → Traffic) (effects others : List NetEffect) (after later : State) (left more : List Pick) → Sends m frame asks effects after → Sends m frame asks others later
     → picks_of effects ++ left ≡ picks_of others ++ more → Same effects others after later left more
-sent_with m valid frame asks effects others after later left more h k e =
+sent_with m frame asks effects others after later left more h k e =
     let packet : h.packet ≡ k.packet = one_packet_at_most h.packet k.packet h.whole k.whole (h.frame_is ∙ sym k.frame_is) in
-    moved_with m valid (asks k.packet) effects others after later left more (subst (λ x. Moves m (asks x) effects after) packet h.moves) k.moves e
+    moved_with m (asks k.packet) effects others after later left more (subst (λ x. Moves m (asks x) effects after) packet h.moves) k.moves e
 
 -- what an event does takes the same of two lists of picks that are one, and has the same effects and leaves the same state
-does_with : (m : State) (event : Event) (effects others : List NetEffect) (after later : State) (left more : List Pick) → IsValid m.config.net → Does m event effects after → Does m event others later
+does_with : (m : State) (event : Event) (effects others : List NetEffect) (after later : State) (left more : List Pick) → Does m event effects after → Does m event others later
     → picks_of effects ++ left ≡ picks_of others ++ more → Same effects others after later left more
-does_with m (event_of.Edit ops) effects others after later left more valid h k e =
+does_with m (event_of.Edit ops) effects others after later left more h k e =
     let owners = owners_only_in (next_net m ops) m.config.net in
     let picked = sym (ap (λ es. picks_of es ++ left) h.effects_are) ∙ e ∙ ap (λ es. picks_of es ++ more) k.effects_are in
     let same = same_keys (retire m.keys (owners_only_in m.config.net (next_net m ops))) owners h.keys k.keys h.rekeys.given k.rekeys.given h.rekeys.hold.datapaths_in_order h.rekeys.hold.ports_in_order k.rekeys.hold.datapaths_in_order k.rekeys.hold.ports_in_order left more picked in
@@ -239,31 +252,31 @@ does_with m (event_of.Edit ops) effects others after later left more valid h k e
       state = h.state ∙ ap (λ (keys : Keys). edited m (next_net m ops) keys) same.0 ∙ sym k.state;
       rest = same.1;
     }
-does_with m (event_of.Bind p chassis) effects others after later left more valid h k e = still effects others after later left more _ h.0 k.0 h.1 k.1 e
-does_with m (event_of.Unbind p) effects others after later left more valid h k e = still effects others after later left more _ h.0 k.0 h.1 k.1 e
-does_with m (event_of.RemoveChassis chassis) effects others after later left more valid h k e = still effects others after later left more _ h.0 k.0 h.1 k.1 e
-does_with m (event_of.Keys datapaths ports) effects others after later left more valid h k e = still effects others after later left more _ h.0 k.0 h.1 k.1 e
-does_with m (event_of.Health balancer backend online) effects others after later left more valid h k e = still effects others after later left more _ h.0 k.0 h.1 k.1 e
-does_with m (event_of.Clock seconds) effects others after later left more valid h k e = still effects others after later left more _ h.0 k.0 h.1 k.1 e
-does_with m (event_of.AddChassis chassis) effects others after later left more valid h k e = still effects others after later left more _ h.0 k.0 h.1 k.1 e
-does_with m (event_of.Inject p frame) effects others after later left more valid h k e = sent_with m valid frame (λ packet. enter_one p packet) effects others after later left more h k e
-does_with m (event_of.Deliver n) effects others after later left more valid h k e = moved_with m valid (arrive_one n false) effects others after later left more h k e
-does_with m (event_of.Lose n) effects others after later left more valid h k e = moved_with m valid (lose_one n) effects others after later left more h k e
-does_with m (event_of.Repeat n) effects others after later left more valid h k e = moved_with m valid (arrive_one n true) effects others after later left more h k e
-does_with m event_of.Drain effects others after later left more valid h k e = moved_with m valid arrive_all effects others after later left more h k e
-does_with m (event_of.Packet p frame) effects others after later left more valid h k e = sent_with m valid frame (λ packet. enter_and_arrive p packet) effects others after later left more h k e
-does_with m (event_of.Unread fault) effects others after later left more valid h k e = absurd h
+does_with m (event_of.Bind p chassis) effects others after later left more h k e = still effects others after later left more _ h.0 k.0 h.1 k.1 e
+does_with m (event_of.Unbind p) effects others after later left more h k e = still effects others after later left more _ h.0 k.0 h.1 k.1 e
+does_with m (event_of.RemoveChassis chassis) effects others after later left more h k e = still effects others after later left more _ h.0 k.0 h.1 k.1 e
+does_with m (event_of.Keys datapaths ports) effects others after later left more h k e = still effects others after later left more _ h.0 k.0 h.1 k.1 e
+does_with m (event_of.Health balancer backend online) effects others after later left more h k e = still effects others after later left more _ h.0 k.0 h.1 k.1 e
+does_with m (event_of.Clock seconds) effects others after later left more h k e = still effects others after later left more _ h.0 k.0 h.1 k.1 e
+does_with m (event_of.AddChassis chassis) effects others after later left more h k e = still effects others after later left more _ h.0 k.0 h.1 k.1 e
+does_with m (event_of.Inject p frame) effects others after later left more h k e = sent_with m frame (λ packet. enter_one p packet) effects others after later left more h k e
+does_with m (event_of.Deliver n) effects others after later left more h k e = moved_with m (arrive_one n false) effects others after later left more h k e
+does_with m (event_of.Lose n) effects others after later left more h k e = moved_with m (lose_one n) effects others after later left more h k e
+does_with m (event_of.Repeat n) effects others after later left more h k e = moved_with m (arrive_one n true) effects others after later left more h k e
+does_with m event_of.Drain effects others after later left more h k e = moved_with m arrive_all effects others after later left more h k e
+does_with m (event_of.Packet p frame) effects others after later left more h k e = sent_with m frame (λ packet. enter_and_arrive p packet) effects others after later left more h k e
+does_with m (event_of.Unread fault) effects others after later left more h k e = absurd h
 
 -- so an event does
-pub step_with : (m : State) (event : Event) (effects others : List NetEffect) (after later : State) (left more : List Pick) → IsValid m.config.net → NetworkStep m event effects after → NetworkStep m event others later
+pub step_with : (m : State) (event : Event) (effects others : List NetEffect) (after later : State) (left more : List Pick) → NetworkStep m event effects after → NetworkStep m event others later
     → picks_of effects ++ left ≡ picks_of others ++ more → Same effects others after later left more
-step_with m event effects others after later left more valid h k e =
-    let d = does_with m event effects others h.mid k.mid left more valid h.does k.does e in
+step_with m event effects others after later left more h k e =
+    let d = does_with m event effects others h.mid k.mid left more h.does k.does e in
     record { effects_are = d.effects_are; state = h.state ∙ ap finished d.state ∙ sym k.state; rest = d.rest }
 
-pub same_step : (m : State) (event : Event) (effects others : List NetEffect) (after later : State) → IsValid m.config.net → NetworkStep m event effects after → NetworkStep m event others later → picks_of effects ≡ picks_of others
+pub same_step : (m : State) (event : Event) (effects others : List NetEffect) (after later : State) → NetworkStep m event effects after → NetworkStep m event others later → picks_of effects ≡ picks_of others
     → (effects ≡ others) × (after ≡ later)
-same_step m event effects others after later valid h k e = let s = step_with m event effects others after later [] [] valid h k (ap (λ ps. ps ++ []) e) in (s.effects_are, s.state)
+same_step m event effects others after later h k e = let s = step_with m event effects others after later [] [] h k (ap (λ ps. ps ++ []) e) in (s.effects_are, s.state)
 
 -- ---- the records stay valid
 
@@ -279,26 +292,6 @@ edited_sound m ops sound grammar allowed =
     let leaves = edit_sound m.config.net ops (event_count m + 1) sound.valid grammar.each none in
     record { valid = leaves.valid; built = edited_built m.config.net ops (event_count m + 1) sound.built is leaves.valid }
 
-does_sound : (m : State) (event : Event) (effects : List NetEffect) (after : State) → AreSound m.config.net → IsEventInGrammar event → refusal m event ≡ None → Does m event effects after → AreSound after.config.net
-does_sound m (event_of.Edit ops) effects after sound grammar allowed h = subst (λ (s : State). AreSound s.config.net) (sym h.state) (edited_sound m ops sound grammar allowed)
-does_sound m (event_of.Bind p chassis) effects after sound grammar allowed h = subst (λ (s : State). AreSound s.config.net) (sym h.1) sound
-does_sound m (event_of.Unbind p) effects after sound grammar allowed h = cc
-does_sound m (event_of.AddChassis chassis) effects after sound grammar allowed h = subst (λ (s : State). AreSound s.config.net) (sym h.1) sound
-does_sound m (event_of.RemoveChassis chassis) effects after sound grammar allowed h = cc
-does_sound m (event_of.Keys datapaths ports) effects after sound grammar allowed h = cc
-does_sound m (event_of.Health balancer backend online) effects after sound grammar allowed h = cc
-does_sound m (event_of.Clock seconds) effects after sound grammar allowed h = cc
-does_sound m (event_of.Inject p frame) effects after sound grammar allowed h = subst (λ (s : State). AreSound s.config.net) (sym h.moves.travels.state) sound
-does_sound m (event_of.Deliver n) effects after sound grammar allowed h = subst (λ (s : State). AreSound s.config.net) (sym h.travels.state) sound
-does_sound m (event_of.Lose n) effects after sound grammar allowed h = subst (λ (s : State). AreSound s.config.net) (sym h.travels.state) sound
-does_sound m (event_of.Repeat n) effects after sound grammar allowed h = subst (λ (s : State). AreSound s.config.net) (sym h.travels.state) sound
-does_sound m event_of.Drain effects after sound grammar allowed h = subst (λ (s : State). AreSound s.config.net) (sym h.travels.state) sound
-does_sound m (event_of.Packet p frame) effects after sound grammar allowed h = subst (λ (s : State). AreSound s.config.net) (sym h.moves.travels.state) sound
-does_sound m (event_of.Unread fault) effects after sound grammar allowed h = absurd h
-
-pub step_sound : (m : State) (event : Event) (effects : List NetEffect) (after : State) → AreSound m.config.net → IsEventInGrammar event → refusal m event ≡ None → NetworkStep m event effects after → AreSound after.config.net
-step_sound m event effects after sound grammar allowed h = subst (λ (s : State). AreSound s.config.net) (sym h.state) (does_sound m event effects h.mid sound grammar allowed h.does)
-
 -- ---- runs
 
 -- the same fate, the same state, and the same picks left
@@ -307,27 +300,23 @@ pub record SameFate (fate other : Fate) (after later : State) (left more : List 
   pub state : after ≡ later
   pub rest : left ≡ more
 
-pub happens_with : (m : State) (event : Event) (own their left more : List Pick) (fate other : Fate) (after later : State) → IsValid m.config.net → Happens m event own fate after → Happens m event their other later
+pub happens_with : (m : State) (event : Event) (own their left more : List Pick) (fate other : Fate) (after later : State) → Happens m event own fate after → Happens m event their other later
     → own ++ left ≡ their ++ more → SameFate fate other after later left more
-happens_with m event own their left more fate other after later valid (Happens.refuses why r n f s) (Happens.refuses who q o g t) e =
+happens_with m event own their left more fate other after later (Happens.refuses why r n f s) (Happens.refuses who q o g t) e =
     let cause : why ≡ who = same_Some why who (sym r ∙ q) in
     record { fates_are = f ∙ ap was_refused cause ∙ sym g; state = s ∙ sym t; rest = sym (ap (λ ps. ps ++ left) n) ∙ e ∙ ap (λ ps. ps ++ more) o }
-happens_with m event own their left more fate other after later valid (Happens.refuses why r n f s) (Happens.accepts others q step o g) e = absurd (none-some why (sym q ∙ r))
-happens_with m event own their left more fate other after later valid (Happens.accepts effects q step o g) (Happens.refuses why r n f s) e = absurd (none-some why (sym q ∙ r))
-happens_with m event own their left more fate other after later valid (Happens.accepts effects r step n f) (Happens.accepts others q walk o g) e =
-    let s = step_with m event effects others after later left more valid step walk (sym (ap (λ ps. ps ++ left) n) ∙ e ∙ ap (λ ps. ps ++ more) o) in
+happens_with m event own their left more fate other after later (Happens.refuses why r n f s) (Happens.accepts others q step o g) e = absurd (none-some why (sym q ∙ r))
+happens_with m event own their left more fate other after later (Happens.accepts effects q step o g) (Happens.refuses why r n f s) e = absurd (none-some why (sym q ∙ r))
+happens_with m event own their left more fate other after later (Happens.accepts effects r step n f) (Happens.accepts others q walk o g) e =
+    let s = step_with m event effects others after later left more step walk (sym (ap (λ ps. ps ++ left) n) ∙ e ∙ ap (λ ps. ps ++ more) o) in
     record { fates_are = f ∙ ap was_accepted s.effects_are ∙ sym g; state = s.state; rest = s.rest }
 
-happens_sound : (m : State) (event : Event) (own : List Pick) (fate : Fate) (after : State) → AreSound m.config.net → IsEventInGrammar event → Happens m event own fate after → AreSound after.config.net
-happens_sound m event own fate after valid admitted (Happens.refuses why r n f s) = subst (λ (w : State). AreSound w.config.net) (sym s) valid
-happens_sound m event own fate after valid admitted (Happens.accepts effects r step n f) = step_sound m event effects after valid admitted r step
-
-pub same_run : (m : State) (events : List Event) (picks : List Pick) (fates others : List Fate) (last end : State) → AreSound m.config.net → AllByRecursion IsEventInGrammar events → Run m events picks fates last → Run m events picks others end
+pub same_run : (m : State) (events : List Event) (picks : List Pick) (fates others : List Fate) (last end : State) → Run m events picks fates last → Run m events picks others end
     → (fates ≡ others) × (last ≡ end)
-same_run m [] picks fates others last end valid admitted h k = (h.1 ∙ sym k.1, h.2 ∙ sym k.2)
-same_run m (event ∷ events) picks fates others last end valid admitted h k =
-    let one = happens_with m event h.own k.own h.left k.left h.fate k.fate h.mid k.mid (plain_valid m.config.net valid.valid valid.built) h.happens k.happens (sym h.picked ∙ k.picked) in
+same_run m [] picks fates others last end h k = (h.1 ∙ sym k.1, h.2 ∙ sym k.2)
+same_run m (event ∷ events) picks fates others last end h k =
+    let one = happens_with m event h.own k.own h.left k.left h.fate k.fate h.mid k.mid h.happens k.happens (sym h.picked ∙ k.picked) in
     let moved : Run k.mid events h.left h.others last = subst (λ s. Run s events h.left h.others last) one.state h.after in
     let again : Run k.mid events k.left h.others last = subst (λ ps. Run k.mid events ps h.others last) one.rest moved in
-    let rest = same_run k.mid events k.left h.others k.others last end (happens_sound m event k.own k.fate k.mid valid admitted.0 k.happens) admitted.1 again k.after in
+    let rest = same_run k.mid events k.left h.others k.others last end again k.after in
     (h.all ∙ ap (λ f. f ∷ h.others) one.fates_are ∙ ap (λ fs. k.fate ∷ fs) rest.0 ∙ sym k.all, rest.1)

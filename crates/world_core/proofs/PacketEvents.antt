@@ -5,6 +5,7 @@ use Rattle.world_core.proofs.PlainSteps.{enters_moves, arrives_moves, drains_mov
 use Rattle.std.specs.Prelude.{◌≡◌, ◌<◌, ◌+◌, ◌^◌, ◌++◌, None, ℕ, zero, suc, Bool, true, false, cond, List, [], refl}
 use Rattle.std.proofs.Common.{sym, ap, ◌∙◌, subst, arith, inl, inr}
 use Rattle.ovn_base.specs.declared.name.Name.{Name}
+use Rattle.switch_engine.specs.Outcome.{any_legal}
 use Rattle.chassis_sim.specs.Passing as passing
 use Rattle.chassis_sim.specs.declared.out.SimOut.{SimOut}
 use Rattle.edit_reader.specs.declared.event.Event.{Event}
@@ -89,11 +90,11 @@ pub arrival_done : (old : WorldView) (n : ℕ) (keep : Bool) (before after : Sim
 arrival_done old n true before after mid new count t room none h then counts =
     let own : after.effects ≡ h.effects = h.all ∙ ap (λ l. l ++ h.effects) none.effects in
     finish_done old (event_of.Repeat n) after.effects after.walks mid new count t room (arrives_events old.state n true h.effects mid.state h.happens) (arrives_moves old.state (plain_valid old.state.config.net t.consistent.valid t.consistent.built) n true after.effects mid.state (subst (λ es. Arrives old.state n true es mid.state) (sym own) h.happens))
-    (subst (λ b. passing.IsArrived old.sim n true clock b after mid.sim) (nothing before none) h.passed) h.amidst h.held h.rest then refl counts
+    (subst (λ b. passing.IsArrived any_legal old.sim n true clock b after mid.sim) (nothing before none) h.passed) h.amidst h.held h.rest then refl counts
 arrival_done old n false before after mid new count t room none h then counts =
     let own : after.effects ≡ h.effects = h.all ∙ ap (λ l. l ++ h.effects) none.effects in
     finish_done old (event_of.Deliver n) after.effects after.walks mid new count t room (arrives_events old.state n false h.effects mid.state h.happens) (arrives_moves old.state (plain_valid old.state.config.net t.consistent.valid t.consistent.built) n false after.effects mid.state (subst (λ es. Arrives old.state n false es mid.state) (sym own) h.happens))
-    (subst (λ b. passing.IsArrived old.sim n false clock b after mid.sim) (nothing before none) h.passed) h.amidst h.held h.rest then refl counts
+    (subst (λ b. passing.IsArrived any_legal old.sim n false clock b after mid.sim) (nothing before none) h.passed) h.amidst h.held h.rest then refl counts
 
 pub drain_done : (old : WorldView) (before after : SimOut) (mid new : WorldView) (count : ℕ) → IsTaken old → event_count old.state < 2 ^ 42 → IsNothing before → AreGone most_arrivals old before after mid
     → new ≡ record mid { state = finished mid.state } → count ≡ matched after.walks → IsDone old event_of.Drain after.effects after.walks count new

@@ -7,6 +7,9 @@ use Rattle.std.specs.Ordering.{nat_cmp}
 use Rattle.std.proofs.lemmas.List.{drop_at}
 use Rattle.ovn_base.specs.names.ByName.{at}
 use Rattle.ovn_base.specs.declared.name.Name.{Name}
+use Rattle.switch_engine.proofs.PlainLaw.{plain_walk as walks_are_plain}
+use Rattle.switch_engine.proofs.PlainTables.{plain_proper}
+use Rattle.switch_engine.specs.Outcome.{any_legal}
 use Rattle.chassis_sim.specs.InNames.{frames_sent}
 use Rattle.chassis_sim.specs.Passing as passing
 use Rattle.chassis_sim.specs.State as sim
@@ -67,15 +70,15 @@ none_numbered : (n : ℕ) (xs : List Crossing) → xs ≡ [] → numbered_from n
 none_numbered n xs e = ap (λ l. numbered_from n l) e
 
 pub arrived_passed : (old : WorldView) (n : ℕ) (keep : Bool) (before after : SimOut) (s : sim.SimState) (waiting : List (ℕ × Crossing)) → IsAmidst old.state old.zones most_sent → AreHeld old.state old.zones.numbers old.sim
-    → passing.IsArrived old.sim n keep clock before after s → waiting ≡ (with_kept keep old.state n).waiting → HasArrived old n keep before after (world_with old waiting s)
+    → passing.IsArrived any_legal old.sim n keep clock before after s → waiting ≡ (with_kept keep old.state n).waiting → HasArrived old n keep before after (world_with old waiting s)
 arrived_passed old n keep before after s waiting a h arrives kept =
-    let r = arrival_refines law.arrival old.state old.zones most_sent old.sim s n keep before after a h arrives in
+    let r = arrival_refines law.arrival walks_are_plain plain_proper old.state old.zones most_sent old.sim s n keep before after a h arrives in
     let own = r.happens in
     let ends = arrival old.state n own.crossing in
     let none = arrival_cross old.state n own.crossing in
     let zero' : length (crossings_in ends) ≡ 0 = ap (λ (xs : List Crossing). length xs) none in
     let next : s.next ≡ old.state.next + length (crossings_in ends) = r.held.next ∙ ap (λ (m : State). m.next) own.state ∙ ap (λ k. k + length (crossings_in ends)) (next_of keep old.state n) in
-    passed_at old waiting s before after (λ s b a t. passing.IsArrived s n keep clock b a t) (λ m effects k. Arrives m n keep effects k) arrives r
+    passed_at old waiting s before after (λ s b a t. passing.IsArrived any_legal s n keep clock b a t) (λ m effects k. Arrives m n keep effects k) arrives r
     (
     kept_state keep old.state n waiting (numbered_from (with_kept keep old.state n).next (crossings_in ends)) (none_numbered (with_kept keep old.state n).next (crossings_in ends) none) s.next (length (crossings_in ends)) kept next zero'
     ∙ sym own.state
@@ -109,7 +112,7 @@ sent_also m next p to bytes x f = record {
 pub goes_on : (old : WorldView) (p : Name) (frame : List ℕ) (before after : SimOut) (s : sim.SimState) (effects : List NetEffect) → IsAmidst old.state old.zones 0 → AreHeld old.state old.zones.numbers old.sim → IsSome (at old.state.config.bindings p)
     → GoesIn old.sim p frame before after s → effects ≡ drop (length before.effects) after.effects → GoesOn old p frame before after s effects
 goes_on old p frame before after s effects a h bound g are =
-    let r = entry_refines law.entry old.state old.zones 0 old.sim s p frame before after a h g in
+    let r = entry_refines law.entry walks_are_plain plain_proper old.state old.zones 0 old.sim s p frame before after a h g in
     let own = r.happens in
     let ends = own.ends in
     let ws = numbered_from old.state.next (crossings_in ends) in

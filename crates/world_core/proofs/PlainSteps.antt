@@ -38,8 +38,8 @@ effects_joined keys n (is_dropped d q cause ∷ ends) more = ap (λ es. net.Drop
 effects_joined keys n (crosses chassis x ∷ ends) more =
     ap (λ es. net.Tunnel n chassis x.home (spelled keys x) ∷ es)
     (effects_joined keys (n + 1) ends more ∙ ap (λ k. effects_of keys (n + 1) ends ++ effects_of keys k more) (omega arith))
-effects_joined keys n (picks_backend d vip backend ∷ ends) more = effects_joined keys n ends more
-effects_joined keys n (picks_port router port ∷ ends) more = effects_joined keys n ends more
+effects_joined keys n (picks_backend d vip backend ∷ ends) more = ap (λ es. net.PickBackend d vip backend ∷ es) (effects_joined keys n ends more)
+effects_joined keys n (picks_port router port ∷ ends) more = ap (λ es. net.PickPort router port ∷ es) (effects_joined keys n ends more)
 effects_joined keys n (is_lost k ∷ ends) more = ap (λ es. net.Lost k ∷ es) (effects_joined keys n ends more)
 
 -- ---- one packet

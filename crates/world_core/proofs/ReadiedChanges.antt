@@ -76,11 +76,12 @@ abbrev pub ground_with : Network → List Name → Keys → Zoned → GroundView
 ground_with net names keys zones = record { config = record { net = net; chassis = names; bindings = zones.homes.ports }; keys = keys; zones = zones }
 
 -- the tables' part of a turn says nothing of what is bound and named
-pub tables_then : (h g : GroundView) → h ≡ g → (own change : GroundChange) → own ≡ change → (s t : SimChange TupleSpace) → t.added ≡ s.added → t.removed ≡ s.removed → t.tables ≡ s.tables
+pub tables_then : (h g : GroundView) → h ≡ g → (own change : GroundChange) → own ≡ change → (s t : SimChange TupleSpace) → t.added ≡ s.added → t.removed ≡ s.removed → t.emptied ≡ s.emptied → t.tables ≡ s.tables
     → IsTurnOfTables h (changed change h) s → IsTurnOfTables g (changed own g) t
-tables_then h g same own change is s t added removed tables turn =
+tables_then h g same own change is s t added removed emptied tables turn =
     let all : IsTurnOfTables h (changed change h) t = record {
       removed = removed ∙ turn.removed;
+      emptied = emptied ∙ turn.emptied;
       tables = ap (λ l. keys_of l) tables ∙ turn.tables;
       deltas = λ c among. subst (λ l. HasDelta h (changed change h) l c) (sym tables) (turn.deltas c among);
       chassis = λ c among. subst (λ l. Among c h.config.chassis ⊎ Among c (keys_of l)) (sym added) (turn.chassis c among);

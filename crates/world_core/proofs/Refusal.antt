@@ -38,6 +38,7 @@ held_on m zones s h = record {
   names = record { datapaths = h.names.datapaths; ports = h.names.ports };
   held = h.held;
   flows = h.flows;
+  no_zone = h.no_zone;
   waiting = h.waiting;
   next = h.next;
 }

@@ -135,10 +135,11 @@ deltas_lead before after stores patches are c m =
     record { delta = found.0.delta; is = seen_found delta_in patches c found.0 found.1; change = patch.change }
 
 pub turn_of_tables : (before after : GroundView) (stores : List (Name × UnitStore)) (patches : List (Name × Prepared Flow FlowUnit)) (who : Option Name) (come : Option (Name × UnitStore)) (change : SimChange TupleSpace)
-    → ArePatches before after stores patches → ComesOver before.config.chassis who after.config.chassis → ComesWith after who come change.added → change.removed ≡ [] → change.tables ≡ map (λ p. (p.0, p.1.delta)) patches
+    → ArePatches before after stores patches → ComesOver before.config.chassis who after.config.chassis → ComesWith after who come change.added → change.removed ≡ [] → change.emptied ≡ [] → change.tables ≡ map (λ p. (p.0, p.1.delta)) patches
     → IsTurnOfTables before after change
-turn_of_tables before after stores patches who come change are over comes removed tables = record {
+turn_of_tables before after stores patches who come change are over comes removed emptied tables = record {
   removed = removed;
+  emptied = emptied;
   tables = ap keys_of tables ∙ names_same patches ∙ are.chassis;
   deltas = λ c m. subst (λ t. HasDelta before after t c) (sym tables) (deltas_lead before after stores patches are c m);
   chassis = was_or_added before after come change.added who over comes;

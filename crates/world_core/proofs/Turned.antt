@@ -36,12 +36,14 @@ use Rattle.physical_flows.proofs.TableDeltas.{delta_of_held, replaced_exactly}
 use Rattle.physical_flows.proofs.TableSets.{units_have_all}
 use Rattle.sim_laws.proofs.PlainRecords.{plain_valid}
 use Rattle.sim_laws.specs.Consistent.{IsConsistent}
-use Rattle.sim_laws.specs.Held.{AreHeld, HaveOwnersNames, frame_of_crossing}
+use Rattle.sim_laws.specs.Held.{AreHeld, HaveNoZone, HaveOwnersNames, frame_of_crossing}
 use Rattle.switch_engine.specs.Proper.{IsProper}
+use Rattle.switch_engine.proofs.PlainTables.{plain_proper}
 use Rattle.tuple_space.specs.declared.space.TupleSpace.{TupleSpace}
 use Rattle.world_core.specs.Ground.{ground_of}
 use Rattle.world_core.specs.Setup.{HasDelta, IsTurnOfTables}
 use Rattle.world_core.proofs.HeldFlows.{flows_of}
+use Rattle.world_core.proofs.NoZoneTurns.{none_turned}
 
 -- ---- names
 
@@ -141,11 +143,11 @@ module _ (m mid : State) (zones after : Zoned) (change : SimChange TupleSpace) (
 
   pub are_proper : IsProperChange flows_of change
   are_proper = record {
-    deltas = all_among (λ t. IsProper t.1.added) change.tables (λ t among f added.
+    deltas = all_among (λ t. IsProper t.1.added) change.tables (λ t among. (plain_proper t.1.added (λ f added.
         let b = basis_then t.0 in
         let row = ((row_change t among).come f).0 added in
-        flow_proper mid after t.0 next.keys next.bound f ((units_have_all b next_valid next.keys f).0 row.1));
-    chassis = all_among (λ a. IsProper (flows_of a.1)) change.added (λ a among. proper mid after (flows_of a.1) a.0 next.keys next.bound (tables.added a among).2);
+        flow_proper mid after t.0 next.keys next.bound f ((units_have_all b next_valid next.keys f).0 row.1))).0);
+    chassis = all_among (λ a. IsProper (flows_of a.1)) change.added (λ a among. (plain_proper (flows_of a.1) (proper mid after (flows_of a.1) a.0 next.keys next.bound (tables.added a among).2)).0);
   }
 
   -- the change is made
@@ -211,6 +213,9 @@ module _ (m mid : State) (zones after : Zoned) (change : SimChange TupleSpace) (
       ]
     ]
 
+    zones_then : HaveNoZone new.zones
+    zones_then c lists found = none_turned change c (at_name old.zones c) (at_name new.zones c) tables.removed tables.emptied (held.no_zone c) (made.zones c) lists found
+
     -- with the bindings and the names of the state, and frames spelled as before
     pub held_then : ((q : Name) → set_in_turn same_name change.bound q (at m.config.bindings q) ≡ at mid.config.bindings q) → HaveOwnersNames mid.keys new
         → map (frame_of_crossing mid.keys) m.waiting ≡ map (frame_of_crossing m.keys) m.waiting → mid.waiting ≡ m.waiting → mid.next ≡ m.next → AreHeld mid after.numbers new
@@ -219,6 +224,7 @@ module _ (m mid : State) (zones after : Zoned) (change : SimChange TupleSpace) (
       names = named;
       held = λ c. (there_held c, held_there c);
       flows = flows_then;
+      no_zone = zones_then;
       waiting = made.waiting ∙ held.waiting ∙ sym frames ∙ ap (λ ws. map (frame_of_crossing mid.keys) ws) (sym waiting);
       next = made.next ∙ held.next ∙ sym numbered;
     }

@@ -1,5 +1,6 @@
 -- What the simulated chassis do with the packets of an event.
 use Rattle.std.specs.Prelude.{◌≡◌, true, false, []}
+use Rattle.switch_engine.specs.Outcome.{any_legal}
 use Rattle.chassis_sim.specs.Passing.{IsArrived}
 use Rattle.chassis_sim.specs.State as sim
 use Rattle.chassis_sim.specs.declared.out.SimOut.{SimOut}
@@ -23,9 +24,9 @@ Passes s (Keys datapaths ports) out new = out.walks ≡ []
 Passes s (Health balancer backend online) out new = out.walks ≡ []
 Passes s (Clock seconds) out new = out.walks ≡ []
 Passes s (Inject port frame) out new = GoesIn s port frame no_out out new
-Passes s (Deliver n) out new = IsArrived s n false clock no_out out new
+Passes s (Deliver n) out new = IsArrived any_legal s n false clock no_out out new
 Passes s (Lose n) out new = out.walks ≡ []
-Passes s (Repeat n) out new = IsArrived s n true clock no_out out new
+Passes s (Repeat n) out new = IsArrived any_legal s n true clock no_out out new
 Passes s Drain out new = AreDrained most_arrivals s no_out out new
 Passes s (Packet port frame) out new = GoesThrough s port frame out new
 Passes s (Unread fault) out new = ⊥

@@ -12,6 +12,7 @@ use Rattle.ovn_base.specs.lists.Among.{Among}
 use Rattle.ovn_base.specs.names.ByName.{at}
 use Rattle.ovn_base.specs.declared.name.Name.{Name}
 use Rattle.ovn_base.specs.declared.limits.TheConstants.{MAX_CHASSIS, MIN_FRAME, MAX_FRAME}
+use Rattle.switch_engine.specs.Outcome.{any_legal}
 use Rattle.chassis_sim.specs.InNames.{frames_sent}
 use Rattle.chassis_sim.specs.Passing as sim
 use Rattle.chassis_sim.specs.State as held
@@ -64,7 +65,7 @@ HasEntered old p frame before after new = HasPassed old before after new (λ s b
 
 -- a frame arrived
 abbrev pub HasArrived : WorldView → ℕ → Bool → SimOut → SimOut → WorldView → Type 0
-HasArrived old n keep before after new = HasPassed old before after new (λ s b a t. sim.IsArrived s n keep clock b a t) (λ m effects k. Arrives m n keep effects k)
+HasArrived old n keep before after new = HasPassed old before after new (λ s b a t. sim.IsArrived any_legal s n keep clock b a t) (λ m effects k. Arrives m n keep effects k)
 
 -- the waiting frames arrived, up to so many
 abbrev pub AreGone : ℕ → WorldView → SimOut → SimOut → WorldView → Type 0

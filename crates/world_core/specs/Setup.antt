@@ -102,6 +102,7 @@ pub record HasDelta (before after : GroundView) (tables : List (Name × Delta Fl
 -- the change of the simulated chassis is that of their rows; who comes has all of its own
 pub record IsTurnOfTables (before after : GroundView) (change : SimChange TupleSpace) : Type 0 where
   pub removed : change.removed ≡ []
+  pub emptied : change.emptied ≡ []
   pub tables : keys_of change.tables ≡ before.config.chassis
   pub deltas : (c : Name) → Among c before.config.chassis → HasDelta before after change.tables c
   pub chassis : (c : Name) → Among c after.config.chassis → Among c before.config.chassis ⊎ Among c (keys_of change.added)

@@ -1,27 +1,15 @@
 //! The addresses of a switch's port.
 ghost use Rattle.std.specs.Prelude.{◌≡◌, IfOk};
 ghost use Rattle.std.specs.List.{list_any};
-ghost use Rattle.std.specs.Option.{option_copied};
 ghost use Rattle.nb_records.specs.Switches as spec;
 ghost use Rattle.stage_rows.specs.Facts as facts;
 
-use nb_records::records::Records;
-use nb_records::router::RouterPort;
+use nb_records::addresses::ips_in_entry;
 use nb_records::switch::{PortAddress, SwitchPort};
 use ovn_base::address::{Ip4, Mac};
 use ovn_base::list::List;
 use ovn_base::memory::NoMemory;
 use std::alloc::Global;
-
-// The IPv4 addresses of the entry.
-fn entry_ips(entry: &PortAddress) -> &[Ip4]
-    ensures { result.now ≡ facts.entry_ips entry.now }
-{
-    match entry {
-        PortAddress::Ether { ips, .. } => ips.as_slice(),
-        PortAddress::Unknown | PortAddress::Router => &[],
-    }
-}
 
 /// The IPv4 addresses of the port's entries, one entry after the other.
 pub(crate) fn port_ips(alloc: Global, port: &SwitchPort) -> Result<List<Ip4>, NoMemory>
@@ -29,7 +17,7 @@ pub(crate) fn port_ips(alloc: Global, port: &SwitchPort) -> Result<List<Ip4>, No
 {
     let mut ips = List::new(alloc);
     'entries: for entry in port.addresses.as_slice() {
-        ips.extend_from_slice(entry_ips(entry))?;
+        ips.extend_from_slice(ips_in_entry(entry))?;
     }
     Ok(ips)
 }
@@ -67,31 +55,4 @@ pub(crate) fn mac_of_ip(port: &SwitchPort, ip: Ip4) -> Option<Mac>
         }
     }
     None
-}
-
-/// The router port behind a port to a router.
-pub(crate) fn router_port_behind<'a>(
-    records: &'a Records,
-    port: &SwitchPort,
-) -> Option<&'a RouterPort>
-    ensures { option_copied result ≡ spec.router_port_behind records.now port.now }
-{
-    match &port.router_port {
-        Some(name) => records.router_port(name),
-        None => None,
-    }
-}
-
-/// The Ethernet address of an entry of the port; `router` stands for that of the router port behind the port.
-pub(crate) fn entry_mac(records: &Records, port: &SwitchPort, entry: &PortAddress) -> Option<Mac>
-    ensures { result ≡ spec.entry_mac (spec.router_port_behind records.now port.now) entry.now }
-{
-    match entry {
-        PortAddress::Ether { mac, .. } => Some(*mac),
-        PortAddress::Unknown => None,
-        PortAddress::Router => match router_port_behind(records, port) {
-            Some(behind) => Some(behind.mac),
-            None => None,
-        },
-    }
 }

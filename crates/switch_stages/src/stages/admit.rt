@@ -2,8 +2,6 @@
 ghost use Rattle.std.specs.Prelude.{◌≡◌, ◌++◌, IfOk, OnOk};
 ghost use Rattle.stage_rows.specs.SwitchRows as spec;
 
-use crate::row::{drop_row, push_base};
-use crate::terms::{field_is, has_bit, in_is, only};
 use flow_table::flow::Cause;
 use logical_flows::flow::LFlow;
 use logical_flows::stage::Stage;
@@ -12,6 +10,8 @@ use match_language::field::Field;
 use nb_records::switch::SwitchPort;
 use ovn_base::list::List;
 use ovn_base::memory::NoMemory;
+use stage_rows::rows::{drop_row, push_base};
+use stage_rows::terms::{field_is, has_bit, in_is, only};
 use std::alloc::Global;
 
 // The bit of an Ethernet address that the addresses of groups have: the lowest of its first byte.

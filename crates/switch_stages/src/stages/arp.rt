@@ -1,35 +1,19 @@
 //! The rows of s_arp: requests for the address of a port of the switch are answered.
-ghost use Rattle.std.specs.Prelude.{◌≡◌, ◌++◌, ◌&&◌, flat_map, IfOk, OnOk};
+ghost use Rattle.std.specs.Prelude.{◌≡◌, ◌++◌, ◌&&◌, flat_map, OnOk};
 ghost use Rattle.nb_records.specs.Switches.{is_virtual, mac_of_ip};
 ghost use Rattle.stage_rows.specs.Rows.{on_some};
 ghost use Rattle.stage_rows.specs.SwitchRows as spec;
 
 use crate::facts::addresses::{mac_of_ip, port_ips};
-use crate::row::{deliver, match_row, pass_row};
-use crate::terms::{asks_for, in_is, only};
-use inet_packet::regs::Reg;
-use logical_flows::action::Action;
 use logical_flows::flow::LFlow;
 use logical_flows::stage::Stage;
 use nb_records::switch::SwitchPort;
 use ovn_base::address::{Ip4, Mac};
 use ovn_base::list::List;
 use ovn_base::memory::NoMemory;
+use stage_rows::rows::{answer_actions, match_row, pass_row};
+use stage_rows::terms::{asks_for, in_is, only};
 use std::alloc::Global;
-
-// Makes the answer, and sends it back by the port of entry.
-fn answer_actions(alloc: Global, mac: Mac, ip: Ip4) -> Result<List<Action>, NoMemory>
-    ensures { IfOk result (λ l. l ≡ spec.answer_actions mac ip) }
-{
-    let mut actions = only(alloc, Action::ArpReply { mac, ip })?;
-    actions.push(Action::OutIsIn)?;
-    actions.push(Action::Set {
-        reg: Reg::Loopback,
-        value: 1,
-    })?;
-    actions.push(deliver())?;
-    Ok(actions)
-}
 
 // Adds the rows of an address: the port's own requests go on, those of others are answered.
 fn push_address(

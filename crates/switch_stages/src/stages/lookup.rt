@@ -5,10 +5,6 @@ ghost use Rattle.stage_rows.specs.Facts.{answered_if};
 ghost use Rattle.stage_rows.specs.Rows.{when};
 ghost use Rattle.stage_rows.specs.SwitchRows as spec;
 
-use crate::facts::addresses::entry_mac;
-use crate::facts::answered::answered_behind;
-use crate::row::{deliver, match_row};
-use crate::terms::{asks_for, mac_is, only};
 use flow_table::flow::Cause;
 use inet_packet::regs::Reg;
 use logical_flows::action::Action;
@@ -16,12 +12,16 @@ use logical_flows::flow::LFlow;
 use logical_flows::stage::Stage;
 use match_language::expr::Expr;
 use match_language::field::{Field, Predicate};
+use nb_records::addresses::entry_mac;
 use nb_records::records::Records;
 use nb_records::switch::SwitchPort;
 use ovn_base::address::{Ip4, Mac};
 use ovn_base::limits::{FLOOD_KEY, UNKNOWN_KEY};
 use ovn_base::list::List;
 use ovn_base::memory::NoMemory;
+use stage_rows::answered::answered_behind;
+use stage_rows::rows::{deliver, match_row};
+use stage_rows::terms::{asks_for, mac_is, only};
 use std::alloc::Global;
 
 // ---- rows of a port

@@ -4,8 +4,6 @@ ghost use Rattle.stage_rows.specs.SwitchRows as spec;
 ghost use Rattle.stage_rows.specs.Rows as rows;
 ghost use Rattle.switch_stages.specs.SecurityRows.{send_row, send_rows, other_send_rows};
 
-use crate::row::{drop_row, pass_row};
-use crate::terms::{field_is, in_is, ip_in, mac_is, only};
 use flow_table::flow::Cause;
 use logical_flows::flow::LFlow;
 use logical_flows::stage::Stage;
@@ -15,6 +13,8 @@ use nb_records::switch::{SecurityEntry, SwitchPort};
 use ovn_base::address::Cidr;
 use ovn_base::list::List;
 use ovn_base::memory::NoMemory;
+use stage_rows::rows::{drop_row, pass_row};
+use stage_rows::terms::{field_is, in_is, ip_in, mac_is, only};
 use std::alloc::Global;
 
 // What comes by the port from the entry's Ethernet address.

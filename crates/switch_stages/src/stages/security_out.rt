@@ -4,8 +4,6 @@ ghost use Rattle.stage_rows.specs.Rows as rows;
 ghost use Rattle.stage_rows.specs.SwitchRows as spec;
 ghost use Rattle.switch_stages.specs.SecurityRows.{get_row, get_rows, other_get_rows};
 
-use crate::row::{drop_row, pass_row};
-use crate::terms::{ip_in, ip_in_some, mac_is, only, out_is};
 use flow_table::flow::Cause;
 use logical_flows::flow::LFlow;
 use logical_flows::stage::Stage;
@@ -15,6 +13,8 @@ use nb_records::switch::{SecurityEntry, SwitchPort};
 use ovn_base::address::{Cidr, Ip4};
 use ovn_base::list::List;
 use ovn_base::memory::NoMemory;
+use stage_rows::rows::{drop_row, pass_row};
+use stage_rows::terms::{ip_in, ip_in_some, mac_is, only, out_is};
 use std::alloc::Global;
 
 // The destinations of groups (RFC 1112 section 4), and that of all (RFC 919 section 7).

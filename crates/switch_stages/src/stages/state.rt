@@ -5,8 +5,6 @@ ghost use Rattle.stage_rows.specs.Rows.{when};
 ghost use Rattle.stage_rows.specs.StateRows as spec;
 ghost use Rattle.switch_stages.specs.StateGroups.{untracked_rows, reply_rows, allowed_rows};
 
-use crate::row::state_row;
-use crate::terms::only;
 use flow_table::flow::Cause;
 use inet_packet::regs::Reg;
 use logical_flows::action::{Action, ZoneOf};
@@ -14,7 +12,8 @@ use logical_flows::flow::{LFlow, RegIs};
 use logical_flows::stage::Stage;
 use ovn_base::list::List;
 use ovn_base::memory::NoMemory;
-use stage_rows::rows::go_on;
+use stage_rows::rows::{IS_FORWARD, IS_INVALID, IS_NEW, IS_REPLY, go_on, known_actions, state_row};
+use stage_rows::terms::only;
 use std::alloc::Global;
 
 // ---- registers
@@ -28,27 +27,6 @@ const IS_UNTRACKED: RegIs = RegIs {
 const IS_ON_TRACK: RegIs = RegIs {
     reg: Reg::Tracked,
     value: 1,
-};
-
-// What the list of connections says of the packet.
-const IS_NEW: RegIs = RegIs {
-    reg: Reg::State,
-    value: 1,
-};
-
-const IS_FORWARD: RegIs = RegIs {
-    reg: Reg::State,
-    value: 2,
-};
-
-const IS_REPLY: RegIs = RegIs {
-    reg: Reg::State,
-    value: 3,
-};
-
-const IS_INVALID: RegIs = RegIs {
-    reg: Reg::State,
-    value: 4,
 };
 
 // What the rules say.
@@ -164,16 +142,6 @@ fn push_invalid(
     }
     let actions = only(alloc, Action::Drop(Cause::Invalid))?;
     out.push(state_row(alloc, stage, 80, &[IS_INVALID], actions)?)
-}
-
-// Touches the connection, translates by it, and goes on.
-fn known_actions(alloc: Global, stage: Stage) -> Result<List<Action>, NoMemory>
-    ensures { IfOk result (λ l. l ≡ Action.Touch ∷ Action.Translate ∷ rows.go_on stage ∷ []) }
-{
-    let mut actions = only(alloc, Action::Touch)?;
-    actions.push(Action::Translate)?;
-    actions.push(go_on(stage))?;
-    Ok(actions)
 }
 
 // Adds the rows for replies.

@@ -4,8 +4,6 @@ ghost use Rattle.stage_rows.specs.Rows as rows;
 ghost use Rattle.stage_rows.specs.Rows.{when};
 ghost use Rattle.stage_rows.specs.SwitchRows as spec;
 
-use crate::row::{drop_row, match_row};
-use crate::terms::{in_is, only, out_is, unicast};
 use flow_table::flow::Cause;
 use inet_packet::regs::Reg;
 use logical_flows::action::{Action, ZoneOf};
@@ -16,7 +14,8 @@ use match_language::field::Predicate;
 use nb_records::switch::SwitchPort;
 use ovn_base::list::List;
 use ovn_base::memory::NoMemory;
-use stage_rows::rows::go_on;
+use stage_rows::rows::{drop_row, go_on, match_row};
+use stage_rows::terms::{in_is, only, out_is, unicast};
 use std::alloc::Global;
 
 // Of what passes the port, IPv4 to an Ethernet address that is no group's.

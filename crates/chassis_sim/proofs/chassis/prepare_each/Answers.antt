@@ -1,4 +1,4 @@
-use Rattle.std.proofs.Common.{◌≡◌, ◌∙◌, ◌+◌, ℕ, suc, ap, add-one, sym, subst, take, drop, List, [], ◌∷◌, ◌++◌}
+use Rattle.std.proofs.Common.{◌∙◌, suc, ap, add-one, sym, subst, take, drop, [], ◌∷◌, ◌++◌}
 use Rattle.std.specs.Map.{keys_of}
 use Rattle.ovn_base.specs.lists.Once.{EachOnce}
 use Rattle.ovn_base.specs.declared.delta.Delta.{Delta}

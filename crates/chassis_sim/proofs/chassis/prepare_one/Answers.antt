@@ -1,4 +1,4 @@
-use Rattle.std.proofs.Common.{◌≡◌, Some, OnOk, sym, ap, subst, ◌∙◌}
+use Rattle.std.proofs.Common.{OnOk, sym, ap, subst, ◌∙◌}
 use Rattle.ovn_base.specs.names.SameName.{same_name}
 use Rattle.chassis_sim.specs.Changing.{IsDeltaOfAny, IsReadyFor}
 use Rattle.chassis_sim.specs.Tables.{flows_held}

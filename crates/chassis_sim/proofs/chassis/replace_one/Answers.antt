@@ -1,4 +1,4 @@
-use Rattle.std.proofs.Common.{◌≡◌, Some, sym, subst, refl}
+use Rattle.std.proofs.Common.{Some, sym, subst, refl}
 use Rattle.chassis_sim.specs.Changing.{AreReplaced, IsReadyFor}
 use Rattle.chassis_sim.specs.State.{at_name}
 use Rattle.chassis_sim.specs.Tables.{flows_held}

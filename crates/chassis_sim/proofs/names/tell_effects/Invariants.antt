@@ -1,6 +1,6 @@
 use Rattle.std.proofs.Common.{◌≡◌, ◌+◌, ◌≤◌, ◌<◌, ◌^◌, ◌++◌, length}
 use Rattle.std.specs.List.{AllByRecursion}
-use Rattle.chassis_sim.specs.Frames.{CanBeSent}
+use Rattle.switch_engine.specs.Framed.{CanBeSent}
 use Rattle.chassis_sim.specs.InNames.{all_in_names, next_after_all, frames_sent}
 use Rattle.chassis_sim.specs.Passing.{IsFront}
 use Rattle.chassis_sim.proofs.names.tell_effects.Given as goal

@@ -4,7 +4,7 @@ use Rattle.std.specs.Cmp.{first_so, second_so}
 use Rattle.ovn_base.proofs.Exact.{nat_exact, pointwise_exact}
 use Rattle.flow_table.specs.contracts.flow.FlowOpPartialEq.TheImpl.{ghosts}
 use Rattle.flow_table.specs.declared.flow.FlowOp.{FlowOp}
-use Rattle.flow_table.specs.declared.flow.FlowOp.TheVariants.{Set, OutIsIn, Find, Undo, Translate, Touch, Block, Unblock, Commit, Dnat, Snat, Balance, ArpReply, EchoReply, DecTtl, NextDst, EthSrc, EthDst, Go, Drop, Header, Frame, Copies, Output}
+use Rattle.flow_table.specs.declared.flow.FlowOp.TheVariants.{Set, OutIsIn, Find, Undo, Translate, Touch, Block, Unblock, Commit, Dnat, Snat, Balance, ArpReply, EchoReply, DecTtl, NextDst, EthSrc, EthDst, Go, Drop, Header, Frame, Copies, Output, Patch}
 use Rattle.flow_table.proofs.exact.exact_op.Goals as goal
 
 pub returns : goal.returns
@@ -40,4 +40,12 @@ returns c = λ a b. (same a b, c.equal_where_same.ensures a b)
     same (Frame p) (Frame q) h = let names = (c.exact_name.ensures.equal p q).0 h in λ i. Frame (names i)
     same (Copies xs) (Copies ys) h = let members = pointwise_exact _ (λ p q. (c.exact_member.ensures p q).0) xs ys h in λ i. Copies (members i)
     same (Output p) (Output q) h = let names = (c.exact_name.ensures.equal p q).0 h in λ i. Output (names i)
+    same (Patch d k x z) (Patch e l y w) h =
+        let others = second_so _ _ h in
+        let zones = second_so _ _ others in
+        let datapaths = nat_exact d e (first_so _ _ h) in
+        let ports = nat_exact k l (first_so _ _ others) in
+        let dnats = nat_exact x y (first_so _ _ zones) in
+        let snats = nat_exact z w (second_so _ _ zones) in
+        λ i. Patch (datapaths i) (ports i) (dnats i) (snats i)
     same _ _ h = absurd (false≢true h)

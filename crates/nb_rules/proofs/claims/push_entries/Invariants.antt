@@ -1,7 +1,7 @@
 use Rattle.std.proofs.Common.{◌≡◌, ◌++◌, drop}
 use Rattle.std.specs.List.{flat_map}
 use Rattle.nb_rules.specs.Claims as spec
-use Rattle.nb_rules.specs.Holders.{ips_in_entry}
+use Rattle.nb_records.specs.Switches.{ips_in_entry}
 use Rattle.nb_rules.proofs.claims.push_entries.Given as goal
 
 -- those that are left come behind what there is

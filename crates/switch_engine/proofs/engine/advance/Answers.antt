@@ -1,10 +1,11 @@
 use Rattle.std.proofs.Common.{◌≡◌, [], ◌∷◌, ◌++◌, reverse, sym, ap, ◌∙◌, subst, append-nil}
+use Rattle.std.specs.Prelude.{List, option_to_list}
 use Rattle.std.proofs.lemmas.Result.{err_from_is_err_and}
 use Rattle.std.specs.List.{AllByRecursion}
-use Rattle.switch_engine.specs.Actions.{outcome}
-use Rattle.switch_engine.specs.Advance.{IsCarriedInRange}
+use Rattle.switch_engine.specs.declared.carried.Carried.{Carried}
+use Rattle.switch_engine.specs.Advance.{Brings, IsCarriedInRange}
 use Rattle.switch_engine.specs.Proper.{Sets}
-use Rattle.switch_engine.proofs.FrameKeys.{proper_sets}
+use Rattle.switch_engine.proofs.Settings.{proper_sets}
 use Rattle.switch_engine.proofs.WalkSteps.{advanced, stacked_some, stacked_none}
 use Rattle.switch_engine.proofs.Fronts.{on_err, keeps_all, keeps_steps, keeps_both}
 use Rattle.switch_engine.proofs.Lists.{all_append}
@@ -24,26 +25,34 @@ returns-in_err-push-clause-err g c =
 pub run_ops-requires-clause-sets : goal.run_ops-requires-clause-sets
 run_ops-requires-clause-sets g c = subst (AllByRecursion Sets) (sym c.as_slice.ensures) (proper_sets c.in-Some.flow.now (c.requires.proper c.in-Some.flow.now c.in-Some.ensures.found.held))
 
+pub run_ops-requires-clause-in_range : goal.run_ops-requires-clause-in_range
+run_ops-requires-clause-in_range g c = (c.requires.in_range, subst (AllByRecursion IsCarriedInRange) (sym c.new-made.ensures) tt)
+
 pub returns-in_ok-push-2-clause-ok : goal.returns-in_ok-push-2-clause-ok
 returns-in_ok-push-2-clause-ok g c =
-    let brought = outcome c.args.entry.now c.args.now c.as_slice.result.now c.args.copy in
-    let these : c.run_ops.new.made ≡ brought.made = c.in_ok-itself.ensures.made ∙ ap (λ l. l ++ brought.made) c.new-made.ensures in
-    advanced c.in-Some.flow.now c.in-Some.ensures.found c.as_slice.result.now c.as_slice.ensures (reverse c.args.pending.now) (reverse c.push-in-Some-itself.new.self)
-    (stacked_some brought c.args.pending.now c.put_all.new.pending c.push-in-Some-itself.new.self c.run_ops.new.made c.in_ok-itself.itself c.in-Some-itself.copy c.in_ok-itself.ensures.itself c.in-Some-itself.is these c.in_ok-put_all.ensures c.in_ok-push-2.ensures.ok)
-    c.args.out.now c.push.new.self c.run_ops.new.effects (c.in_ok-push.ensures.ok ∙ ap (λ step. c.args.out.now.walk ++ step ∷ []) c.in_ok-of.ensures) c.in_ok-itself.ensures.effects
+    advanced c.in-Some.flow.now c.in-Some.ensures.found c.as_slice.result.now c.as_slice.ensures c.args.out.now c.push.new.self c.run_ops.new.effects c.in_ok-itself.itself c.run_ops.new.made
+    (subst (λ (made : List Carried). Brings c.args.entry.now c.args.now c.as_slice.result.now c.args.copy c.in_ok-itself.itself c.args.zones.now.entries c.run_ops.new.zones.entries c.args.out.now.effects c.run_ops.new.effects made c.run_ops.new.made)
+    c.new-made.ensures c.in_ok-itself.ensures.brings)
+    (reverse c.args.pending.now) (reverse c.push-in-Some-itself.new.self)
+    (stacked_some c.args.pending.now c.put_all.new.pending c.push-in-Some-itself.new.self c.run_ops.new.made c.in_ok-itself.itself c.in-Some-itself.copy c.in-Some-itself.is c.in_ok-put_all.ensures c.in_ok-push-2.ensures.ok)
+    (c.in_ok-push.ensures.ok ∙ ap (λ step. c.args.out.now.walk ++ step ∷ []) c.in_ok-of.ensures)
 
 pub returns-in_ok-push-2-clause-all_in_range : goal.returns-in_ok-push-2-clause-all_in_range
 returns-in_ok-push-2-clause-all_in_range g c =
-    let brought = outcome c.args.entry.now c.args.now c.as_slice.result.now c.args.copy in
-    let these : c.run_ops.new.made ≡ brought.made = c.in_ok-itself.ensures.made ∙ ap (λ l. l ++ brought.made) c.new-made.ensures in
-    let stacked = stacked_some brought c.args.pending.now c.put_all.new.pending c.push-in-Some-itself.new.self c.run_ops.new.made c.in_ok-itself.itself c.in-Some-itself.copy c.in_ok-itself.ensures.itself c.in-Some-itself.is these c.in_ok-put_all.ensures c.in_ok-push-2.ensures.ok in
-    subst (AllByRecursion IsCarriedInRange) (sym stacked)
-    (all_append IsCarriedInRange _ _ (all_append IsCarriedInRange brought.itself brought.made (subst (AllByRecursion IsCarriedInRange) c.in_ok-itself.ensures.itself c.in_ok-itself.ensures.itself_in_range) (subst (AllByRecursion IsCarriedInRange) these c.in_ok-itself.ensures.all_in_range)) c.requires.all_in_range)
+    subst (AllByRecursion IsCarriedInRange)
+    (sym (stacked_some c.args.pending.now c.put_all.new.pending c.push-in-Some-itself.new.self c.run_ops.new.made c.in_ok-itself.itself c.in-Some-itself.copy c.in-Some-itself.is c.in_ok-put_all.ensures c.in_ok-push-2.ensures.ok))
+    (all_append IsCarriedInRange (option_to_list c.in_ok-itself.itself ++ c.run_ops.new.made) _ c.in_ok-itself.ensures.brings.in_range c.requires.all_in_range)
 
 pub returns-in_default-itself-clause-ok : goal.returns-in_default-itself-clause-ok
 returns-in_default-itself-clause-ok g c =
-    let brought = outcome c.args.entry.now c.args.now c.as_slice.result.now c.args.copy in
-    let these : c.run_ops.new.made ≡ brought.made = c.in_ok-itself.ensures.made ∙ ap (λ l. l ++ brought.made) c.new-made.ensures in
-    advanced c.in-Some.flow.now c.in-Some.ensures.found c.as_slice.result.now c.as_slice.ensures (reverse c.args.pending.now) (reverse c.put_all.new.pending)
-    (stacked_none brought c.args.pending.now c.put_all.new.pending c.run_ops.new.made c.in_ok-itself.itself c.in_ok-itself.ensures.itself c.in_default-itself.is these c.in_ok-put_all.ensures)
-    c.args.out.now c.push.new.self c.run_ops.new.effects (c.in_ok-push.ensures.ok ∙ ap (λ step. c.args.out.now.walk ++ step ∷ []) c.in_ok-of.ensures) c.in_ok-itself.ensures.effects
+    advanced c.in-Some.flow.now c.in-Some.ensures.found c.as_slice.result.now c.as_slice.ensures c.args.out.now c.push.new.self c.run_ops.new.effects c.in_ok-itself.itself c.run_ops.new.made
+    (subst (λ (made : List Carried). Brings c.args.entry.now c.args.now c.as_slice.result.now c.args.copy c.in_ok-itself.itself c.args.zones.now.entries c.run_ops.new.zones.entries c.args.out.now.effects c.run_ops.new.effects made c.run_ops.new.made)
+    c.new-made.ensures c.in_ok-itself.ensures.brings)
+    (reverse c.args.pending.now) (reverse c.put_all.new.pending)
+    (stacked_none c.args.pending.now c.put_all.new.pending c.run_ops.new.made c.in_ok-itself.itself c.in_default-itself.is c.in_ok-put_all.ensures)
+    (c.in_ok-push.ensures.ok ∙ ap (λ step. c.args.out.now.walk ++ step ∷ []) c.in_ok-of.ensures)
+
+pub returns-in_default-itself-clause-all_in_range : goal.returns-in_default-itself-clause-all_in_range
+returns-in_default-itself-clause-all_in_range g c =
+    subst (AllByRecursion IsCarriedInRange) (sym (stacked_none c.args.pending.now c.put_all.new.pending c.run_ops.new.made c.in_ok-itself.itself c.in_default-itself.is c.in_ok-put_all.ensures))
+    (all_append IsCarriedInRange (option_to_list c.in_ok-itself.itself ++ c.run_ops.new.made) _ c.in_ok-itself.ensures.brings.in_range c.requires.all_in_range)

@@ -1,7 +1,7 @@
 use Rattle.std.proofs.Common.{◌≡◌, ◌++◌, drop, flat_map}
-use Rattle.stage_rows.specs.Facts.{entry_ips}
+use Rattle.nb_records.specs.Switches.{ips_in_entry}
 use Rattle.switch_stages.proofs.facts.addresses.port_ips.Given as goal
 
 -- the addresses so far, and those of the entries that are left
 abbrev pub invariant-entries : goal.invariant-entries
-invariant-entries l = l.ips ++ flat_map entry_ips (drop l.entry-index l.entry-items) ≡ flat_map entry_ips l.port.addresses
+invariant-entries l = l.ips ++ flat_map ips_in_entry (drop l.entry-index l.entry-items) ≡ flat_map ips_in_entry l.port.addresses

@@ -58,7 +58,7 @@ returns-clause-turn c =
     (subst (λ (x : GroundView). nat_le 64 (length x.config.chassis) ≡ false) (ap (λ (i : Inside). i.ground) c.self-inside.view_is) (lt-leb 64 _ (subst (λ k. k < 64) c.len.ensures c.if-len-ge-MAX_CHASSIS.false))) in
     record {
       patch = c.in_ok-turn.ensures.patch;
-      tables = tables_then g g refl turn.patch.change _ c.in_ok-turn.ensures.change turn.sim turn.sim refl refl refl c.in_ok-turn.ensures.turned;
+      tables = tables_then g g refl turn.patch.change _ c.in_ok-turn.ensures.change turn.sim turn.sim refl refl refl refl c.in_ok-turn.ensures.turned;
       turned = λ m may.
           subst (λ ch. IsTurned m g.zones (event_of.AddChassis chassis) turn.effects turn.sim (changed ch g)) (sym c.in_ok-turn.ensures.change)
           (chassis_turns g n chassis m may (allowed_then m may) c.in_ok-names_with.field-0 names turn.effects c.in_ok-turn.ensures.bare.effects turn.sim c.in_ok-turn.ensures.bare.bound c.in_ok-turn.ensures.bare.names);

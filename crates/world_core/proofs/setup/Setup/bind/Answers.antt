@@ -83,7 +83,7 @@ returns-clause-turn c =
     (sym c.is_virtual_port.ensures ∙ c.if-not-is_virtual_port.false) (sym c.is_chassis.ensures ∙ c.if-not-is_chassis.false) in
     record {
       patch = c.in_ok-turn.ensures.patch;
-      tables = tables_then _ g (ap (λ (z : Zoned). ground_with c.self-inside.inside.0.0.records c.self-inside.inside.0.0.chassis c.self-inside.inside.0.0.keys z) c.prepare.ensures.kept ∙ start) turn.patch.change _ c.in_ok-turn.ensures.change turn.sim sim refl refl refl c.in_ok-turn.ensures.turned;
+      tables = tables_then _ g (ap (λ (z : Zoned). ground_with c.self-inside.inside.0.0.records c.self-inside.inside.0.0.chassis c.self-inside.inside.0.0.keys z) c.prepare.ensures.kept ∙ start) turn.patch.change _ c.in_ok-turn.ensures.change turn.sim sim refl refl refl refl c.in_ok-turn.ensures.turned;
       turned = λ m may.
           subst (λ ch. IsTurned m g.zones (event_of.Bind p chassis) turn.effects sim (changed ch g)) (sym c.in_ok-turn.ensures.change)
           (binding_turns g c.args.number p chassis m may (allowed m may) zones rezoned turn.effects c.in_ok-turn.ensures.bare.effects sim bound c.in_ok-turn.ensures.bare.names);

@@ -53,7 +53,7 @@ returns-clause-turn c =
     let named : c.in_ok-names.names ≡ map (key_name keys) plan.added = c.in_ok-names.ensures ∙ (λ i. map (key_name (c.after-2.ensures i)) (c.added-2.ensures i)) in
     record {
       patch = c.in_ok-turn.ensures.patch;
-      tables = tables_then g g refl turn.patch.change _ c.in_ok-turn.ensures.change turn.sim sim refl refl refl c.in_ok-turn.ensures.turned;
+      tables = tables_then g g refl turn.patch.change _ c.in_ok-turn.ensures.change turn.sim sim refl refl refl refl c.in_ok-turn.ensures.turned;
       turned = λ m may.
           subst (λ ch. IsTurned m g.zones (event_of.Edit ops) effects sim (changed ch g)) (sym c.in_ok-turn.ensures.change)
           (edit_turns g n ops m may plan keys c.requires.planned effects told sim c.in_ok-turn.ensures.bare.bound named);

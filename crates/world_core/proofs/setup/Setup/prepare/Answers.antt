@@ -65,11 +65,11 @@ returns-clause-turned c =
             subst (λ (b : Basis). AreExactly (TableFlow b) (flows_in held.bunches)) w.maps.ensures w.in_ok-flows-in-Some.ensures.flows,
           ) in
           turn_of_tables before after c.prepare_each.new.stores.entries c.in_ok-patches.patches c.args.come c.match-come.come c.match-come.sim c.in_ok-patches.ensures.patches over comes
-          (ap (λ s. s.removed) w.sim-is ∙ ap (λ s. s.removed) c.sim_change-sim.ensures) (ap (λ s. s.tables) w.sim-is ∙ deltas)
+          (ap (λ s. s.removed) w.sim-is ∙ ap (λ s. s.removed) c.sim_change-sim.ensures) (ap (λ s. s.emptied) w.sim-is ∙ ap (λ s. s.emptied) c.sim_change-sim.ensures) (ap (λ s. s.tables) w.sim-is ∙ deltas)
       | in-None w ↦
           let comes : ComesWith after c.args.come c.match-come.come c.match-come.sim.added =
           subst (λ (who : Option Name). ComesWith after who c.match-come.come c.match-come.sim.added) (sym w.in-None.is) (w.come-is, ap (λ s. s.added) w.sim-is ∙ ap (λ s. s.added) c.sim_change-sim.ensures) in
           turn_of_tables before after c.prepare_each.new.stores.entries c.in_ok-patches.patches c.args.come c.match-come.come c.match-come.sim c.in_ok-patches.ensures.patches over comes
-          (ap (λ s. s.removed) w.sim-is ∙ ap (λ s. s.removed) c.sim_change-sim.ensures) (ap (λ s. s.tables) w.sim-is ∙ deltas)
+          (ap (λ s. s.removed) w.sim-is ∙ ap (λ s. s.removed) c.sim_change-sim.ensures) (ap (λ s. s.emptied) w.sim-is ∙ ap (λ s. s.emptied) c.sim_change-sim.ensures) (ap (λ s. s.tables) w.sim-is ∙ deltas)
     ] in
     subst (λ (s : SetupView). IsTurnOfTables s.ground (changed c.args.change s.ground) c.match-come.sim) c.self.view_is turn

@@ -32,7 +32,7 @@ returns-then-not-keep c =
     let kept : left ≡ (with_kept c.args.keep old.state c.args.frame).waiting = c.remove.ensures.entries ∙ ap (λ k. (with_kept k old.state c.args.frame).waiting) (sym c.if-not-keep.true) in
     let passed : HasArrived c.args.self.now c.args.frame c.args.keep c.args.out.now c.arrive.new.out (world_with old left c.arrive.new.self.state) =
     subst (λ (v : WorldView). HasArrived v c.args.frame c.args.keep c.args.out.now c.arrive.new.out (world_with old left c.arrive.new.self.state)) c.self.view_is
-    (arrived_passed old c.args.frame c.args.keep c.args.out.now c.arrive.new.out c.arrive.new.self.state left amidst held c.in-Ok.ensures.answer kept) in
+    (arrived_passed old c.args.frame c.args.keep c.args.out.now c.arrive.new.out c.arrive.new.self.state left amidst held c.in-Ok.ensures.answer.0 kept) in
     elim c.match-remove.branch [
       | in-Some-1 w ↦ subst (λ (v : WorldView). HasArrived c.args.self.now c.args.frame c.args.keep c.args.out.now c.arrive.new.out v) (sym w.self-is) passed
       | in-None-1 w ↦ subst (λ (v : WorldView). HasArrived c.args.self.now c.args.frame c.args.keep c.args.out.now c.arrive.new.out v) (sym w.self-is) passed
@@ -45,4 +45,4 @@ returns-else-not-keep c =
     let held : AreHeld old.state old.zones.numbers old.sim = subst (λ (v : WorldView). AreHeld v.state v.zones.numbers v.sim) (sym c.self.view_is) c.requires.held in
     let kept : old.state.waiting ≡ (with_kept c.args.keep old.state c.args.frame).waiting = ap (λ k. (with_kept k old.state c.args.frame).waiting) (sym c.if-not-keep.false) in
     subst (λ (v : WorldView). HasArrived v c.args.frame c.args.keep c.args.out.now c.arrive.new.out (world_with old old.state.waiting c.arrive.new.self.state)) c.self.view_is
-    (arrived_passed old c.args.frame c.args.keep c.args.out.now c.arrive.new.out c.arrive.new.self.state old.state.waiting amidst held c.in-Ok.ensures.answer kept)
+    (arrived_passed old c.args.frame c.args.keep c.args.out.now c.arrive.new.out c.arrive.new.self.state old.state.waiting amidst held c.in-Ok.ensures.answer.0 kept)

@@ -18,7 +18,7 @@ keep_crossings-requires-clause-sent c =
     let held : AreHeld old.state old.zones.numbers old.sim = subst (λ (v : WorldView). AreHeld v.state v.zones.numbers v.sim) (sym c.self.view_is) c.requires.held in
     let bound : IsSome (at old.state.config.bindings c.args.port.now) = subst (λ (v : WorldView). IsSome (at v.state.config.bindings c.args.port.now)) (sym c.self.view_is) c.requires.bound in
     let in' : GoesIn old.sim c.args.port.now (frame_of c.args.packet) c.args.out.now c.inject.new.out c.inject.new.self.state =
-    record { packet = c.args.packet; whole = c.requires.whole; frame_is = refl; injected = c.in-Ok.ensures.answer } in
+    record { packet = c.args.packet; whole = c.requires.whole; frame_is = refl; injected = c.in-Ok.ensures.answer.0 } in
     let after = c.inject.new.out.effects in
     let slice = take_rest c.as_slice.result.now c.len-before.result ∙ ap (λ l. drop c.len-before.result l) c.as_slice.ensures ∙ ap (λ n. drop n after) c.len-before.ensures in
     let g = goes_on old c.args.port.now (frame_of c.args.packet) c.args.out.now c.inject.new.out c.inject.new.self.state _ amidst held bound in' slice in
@@ -31,7 +31,7 @@ returns c =
     let held : AreHeld old.state old.zones.numbers old.sim = subst (λ (v : WorldView). AreHeld v.state v.zones.numbers v.sim) (sym c.self.view_is) c.requires.held in
     let bound : IsSome (at old.state.config.bindings c.args.port.now) = subst (λ (v : WorldView). IsSome (at v.state.config.bindings c.args.port.now)) (sym c.self.view_is) c.requires.bound in
     let in' : GoesIn old.sim c.args.port.now (frame_of c.args.packet) c.args.out.now c.inject.new.out c.inject.new.self.state =
-    record { packet = c.args.packet; whole = c.requires.whole; frame_is = refl; injected = c.in-Ok.ensures.answer } in
+    record { packet = c.args.packet; whole = c.requires.whole; frame_is = refl; injected = c.in-Ok.ensures.answer.0 } in
     let after = c.inject.new.out.effects in
     let slice = take_rest c.as_slice.result.now c.len-before.result ∙ ap (λ l. drop c.len-before.result l) c.as_slice.ensures ∙ ap (λ n. drop n after) c.len-before.ensures in
     let g = goes_on old c.args.port.now (frame_of c.args.packet) c.args.out.now c.inject.new.out c.inject.new.self.state _ amidst held bound in' slice in

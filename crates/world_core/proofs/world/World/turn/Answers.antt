@@ -31,6 +31,9 @@ returns-in_err-prepare-clause-same c = let failed = err_from_is_err_and c.from_r
 pub returns-in_err-write_accepted-clause-done : goal.returns-in_err-write_accepted-clause-done
 returns-in_err-write_accepted-clause-done c = let failed = err_from_is_err_and c.from_residual-in_err-write_accepted.result c.from_residual-in_err-write_accepted.ensures.1 in rw failed.1 tt
 
+pub returns-in_err-write_accepted-clause-told : goal.returns-in_err-write_accepted-clause-told
+returns-in_err-write_accepted-clause-told c = let failed = err_from_is_err_and c.from_residual-in_err-write_accepted.result c.from_residual-in_err-write_accepted.ensures.1 in rw failed.1 (rw failed.2 tt)
+
 pub returns-in_err-write_accepted-clause-sound : goal.returns-in_err-write_accepted-clause-sound
 returns-in_err-write_accepted-clause-sound c = let failed = err_from_is_err_and c.from_residual-in_err-write_accepted.result c.from_residual-in_err-write_accepted.ensures.1 in rw failed.1 tt
 

@@ -1,0 +1,7 @@
+use Rattle.std.proofs.Common.{rules}
+use Rattle.switch_engine.specs.Zones.{all_expired}
+use Rattle.chassis_sim.proofs.Emptying.{seen_kept}
+use Rattle.chassis_sim.proofs.zones.expire_each.Goals as goal
+
+pub returns : goal.returns
+returns c = seen_kept _ (all_expired c.args.now) _ (λ k v b w f' t. search rules) c.args.zones.now.entries c.retain.new.self.entries c.retain.ensures.filtered

@@ -1,5 +1,0 @@
-use Rattle.switch_engine.specs.Proper.{IsProper}
-use Rattle.engine_tests.proofs.tables.put_all.Given as goal
-
-abbrev pub invariant-flows : goal.invariant-flows
-invariant-flows l = IsProper l.tables.flows

@@ -1,0 +1,56 @@
+//! A packet that would be tracked.
+ghost use Rattle.std.specs.Prelude.{IfOk};
+ghost use Rattle.switch_engine.specs.Proper.{IsProper};
+
+use crate::packets::{ASKED, read};
+use crate::rows::row;
+use crate::tables::{at, name, sent_in, set, tables, zones};
+use flow_table::flow::{FlowOp, ZoneOf};
+use flow_table::tables::Tables;
+use inet_packet::cube::{Bits, Cube};
+use inet_packet::regs::{At, Reg};
+use ovn_base::memory::NoMemory;
+use ovn_base::name::Name;
+use std::alloc::Global;
+use std::test::*;
+use switch_engine::effect::Entry;
+
+// The packets that are new to a list.
+fn new() -> Cube {
+    let mut cube = Cube::EVERYTHING;
+    cube.state = Bits { value: 1, mask: 7 };
+    cube
+}
+
+// Packets of the port p1 are looked for in zone 7, and new ones begin a connection.
+fn tracking(alloc: Global, p1: Name) -> Result<Tables, NoMemory>
+    ensures { IfOk result (λ t. IsProper t.flows) }
+{
+    let look = [set(Reg::ZIn, 7), FlowOp::Find(ZoneOf::In), FlowOp::Go(1)];
+    let begin = [FlowOp::Commit(ZoneOf::In), FlowOp::Output(p1)];
+    let rows = [
+        row(alloc, 0, at(At::Local(p1)), look)?,
+        row(alloc, 1, new(), begin)?,
+    ];
+    tables(alloc, &[], rows)
+}
+
+// Where the zone isn't there nothing is found, so no row of table 1 takes the packet.
+#[test]
+fn no_zone(rt: HostRuntime) -> Result<(), Fail> {
+    let alloc = rt.alloc();
+    let p1 = name(&rt, b"p1");
+    let tables = tracking(alloc, p1)?;
+    let mut zones = zones(alloc, &[8])?;
+    let out = sent_in(
+        alloc,
+        &tables,
+        &mut zones,
+        Entry::Vif(p1),
+        read(alloc, ASKED)?,
+        5,
+    )?;
+    assert!(rt; out.effects.is_empty());
+    assert_eq!(rt; out.walk.len(), 1);
+    Ok(())
+}

@@ -1,0 +1,4 @@
+-- Selection among the flows of a table, told by rows.
+pub mod PortKeys
+pub mod InNames
+pub mod BestRows

@@ -1,0 +1,10 @@
+-- Definitions that contracts cite.
+pub mod Rows
+pub mod Numbers
+pub mod CanLower
+pub mod BestRow
+pub mod Copies
+pub mod StageActions
+pub mod StageLaws
+pub mod Passages
+pub mod Ways

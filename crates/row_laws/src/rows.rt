@@ -1,0 +1,24 @@
+//! The law of a row, on functions that do nothing: call one, and its clauses are facts of the call.
+ghost use Rattle.row_laws.specs.BestRow as spec;
+ghost use Rattle.row_laws.specs.CanLower.{CanLowerLaw};
+ghost use Rattle.row_laws.specs.Numbers.{PortStandsLaw, NoneStandsLaw};
+
+/// Of a table that holds the rows of a network, the flow that a packet takes comes from a row of its datapath that holds and that no row
+/// which holds outranks, and does what that does. Some flow matches exactly where some row holds.
+pub fn best_row()
+    ensures best { spec.BestRowLaw }
+    ensures some { spec.SomeMatchesLaw }
+    ensures none { spec.NoneMatchesLaw }
+{}
+
+/// The rows of valid records can be lowered, where each datapath of the records has a live key: the values of their matches stand with
+/// their fields.
+pub fn rows_can_be_lowered()
+    ensures { CanLowerLaw }
+{}
+
+/// In a register, the live key of a switch's port stands for that port, and what is no key of a port for none.
+pub fn numbers_stand_for_ports()
+    ensures port { PortStandsLaw }
+    ensures none { NoneStandsLaw }
+{}

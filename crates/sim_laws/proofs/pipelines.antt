@@ -1,0 +1,25 @@
+-- The two pipelines of a switch, table by table.
+pub mod Copies
+pub mod Doings
+pub mod EgressStages
+pub mod FirstTable
+pub mod GoodLists
+pub mod HeldLists
+pub mod IngressStages
+pub mod KnownConnections
+pub mod NewConnections
+pub mod NewEntries
+pub mod Noting
+pub mod Pieces
+pub mod Registers
+pub mod Seeing
+pub mod Services
+pub mod SetValues
+pub mod StateBegins
+pub mod StateCarried
+pub mod StateStage
+pub mod Tables
+pub mod TargetKeys
+pub mod TargetStages
+pub mod TrackJudge
+pub mod WalkOn
