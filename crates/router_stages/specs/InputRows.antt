@@ -1,0 +1,18 @@
+-- The rows of r_input that a router has, in groups.
+use Rattle.std.specs.Prelude.{List, [], ◌∷◌}
+use Rattle.flow_table.specs.declared.flow.Cause.TheVariants as cause
+use Rattle.match_language.specs.declared.expr.Expr.TheVariants as e
+use Rattle.match_language.specs.declared.field.Field.TheVariants as f
+use Rattle.match_language.specs.declared.field.Predicate.TheVariants as p
+use Rattle.logical_flows.specs.declared.flow.LFlow.{LFlow}
+use Rattle.logical_flows.specs.declared.stage.Stage.TheVariants as stage
+use Rattle.stage_rows.specs.RouterRows.{from_or_to_unroutable}
+use Rattle.stage_rows.specs.Rows.{field_among, drop_row}
+
+-- what no router passes on
+abbrev pub dropped_rows : List LFlow
+dropped_rows =
+    drop_row stage.RouterInput 90 (e.Is p.Arp ∷ []) cause.Arp
+    ∷ drop_row stage.RouterInput 80 (from_or_to_unroutable ∷ []) cause.BadIp
+    ∷ drop_row stage.RouterInput 60 (field_among f.IpTtl (0 ∷ 1 ∷ []) ∷ []) cause.Ttl
+    ∷ []
