@@ -1,13 +1,14 @@
-"""Writes edits that make a random network, and now and then all rows of its switches, compiled here from the tables of stages alone. The
+"""Writes edits that make a random network, and now and then all rows of its datapaths, compiled here from the tables of stages alone. The
 words are the folder of the model, a seed, and how many edits there are, or a few more.
 
 Most edits are those of the model's generator; between them stand ports, rules, groups, balancers and translations that it makes
-seldom. Only edits without a fault are written. A line is a word and what belongs to it, with tabs between them: `do` has an edit, and
-`flows` all rows in order of their bytes.
+seldom. Only edits without a fault are written. A line is a word and what belongs to it, with tabs between them: `do` has an edit, `mark`
+says that a backend is offline or online, and `flows` has all rows in order of their bytes.
 
-A row is written as a logical flow of one datapath, behind the unit that has it: a port, a rule on a switch, or a switch. The rows of a
-unit are a set: entries of a port that repeat an address make one row. Equal rows of two units, as of two equal rules, are two lines here,
-since their units differ; in the program they are one flow. The rows by which a switch's balancers balance aren't here."""
+A row is written as a logical flow of one datapath, behind the unit that has it: a port, a rule on a switch, a switch, a router, a route,
+a neighbour of a router's port, a row of NAT, or a balancer on a switch or router. The rows of a unit are a set: entries of a port that
+repeat an address make one row. Equal rows of two units, as of two equal rules, are two lines here, since their units differ; in the
+program they are one flow."""
 
 import json
 import random
@@ -104,8 +105,11 @@ STAGES = {
     "s_admit": ("ingress", 9), "s_port_sec": ("ingress", 10), "s_track": ("ingress", 11), "s_acl_in": ("ingress", 12),
     "s_state_in": ("ingress", 13), "s_arp": ("ingress", 14), "s_lookup": ("ingress", None),
     "s_track_out": ("egress", 41), "s_acl_out": ("egress", 42), "s_state_out": ("egress", 43), "s_sec_out": ("egress", 64),
+    "r_admit": ("ingress", 9), "r_input": ("ingress", 10), "r_undo": ("ingress", 11), "r_dnat": ("ingress", 12),
+    "r_own": ("ingress", 13), "r_route": ("ingress", 14), "r_neighbour": ("ingress", None), "r_find": ("egress", 41),
+    "r_snat": ("egress", 64),
 }
-REGISTERS = ["state", "verdict", "tracked", "blocked"]
+REGISTERS = ["next", "state", "verdict", "tracked", "blocked", "own"]
 VERDICTS = {"allow": 1, "allow-related": 2, "allow-stateless": 3, "reject": 4, "drop": 5}
 RANKS = {"drop": 6, "reject": 5, "allow-stateless": 4, "allow-related": 3, "allow": 2}
 DELIVER = "go 32"
@@ -113,13 +117,14 @@ FLOOD_GROUP, UNKNOWN_GROUP = 32768, 32769
 GROUP_SENDER = "eth.src == 01:00:00:00:00:00/01:00:00:00:00:00"
 ADDRESS_REQUEST = "ip4.src == 0.0.0.0 && ip4.dst == 255.255.255.255 && udp.src == 68 && udp.dst == 67"
 FAR_TARGETS = "ip4.dst == {224.0.0.0/4, 255.255.255.255}"
+NOT_ROUTED = "{0.0.0.0/8, 127.0.0.0/8, 224.0.0.0/4, 255.255.255.255}"
 
 
 class Unit:
-    """The rows of a unit on a switch, each as a line."""
+    """The rows of a unit on a switch or router, each as a line."""
 
-    def __init__(self, name, switch):
-        self.name, self.switch, self.lines = name, switch, set()
+    def __init__(self, name, datapath):
+        self.name, self.datapath, self.lines = name, datapath, set()
 
     def put(self, stage, priority, terms, actions, registers=None, rank=0):
         """Puts a row whose match is all of the terms and registers; the action `pass` goes on at the next table."""
@@ -127,7 +132,7 @@ class Unit:
         held = [f"{register} == {registers[register]}" for register in REGISTERS if register in (registers or {})]
         whole = " && ".join(held + terms) or "1"
         done = ";".join(f"go {next_table}" if action == "pass" else action for action in actions)
-        place = f"{self.name}: {pipeline} {stage} priority={priority} rank={rank} datapaths={self.switch}"
+        place = f"{self.name}: {pipeline} {stage} priority={priority} rank={rank} datapaths={self.datapath}"
         self.lines.add(f"{place} match={whole} actions={done}")
 
 
@@ -161,7 +166,7 @@ def ethers(net, port):
         if isinstance(entry, PortAddress):
             yield entry.mac
         elif entry == "router":
-            yield net.by_kind["router_port"][port.router_port].mac
+            yield partner(net, port).mac
 
 
 def pairs(port):
@@ -174,15 +179,59 @@ def pairs(port):
     return found.items()
 
 
+def holds(prefix, ip):
+    return ip >> 32 - prefix.len == prefix.addr >> 32 - prefix.len
+
+
 def answered(net, port):
-    """The IPs for which the partner of the port answers: its own, and those of its router's translations and balancers that are near."""
-    partner = net.by_kind["router_port"][port.router_port]
-    outer = {row.external_ip for row in net.rows("nat") if row.router == partner.router}
+    """The IPs for which a router's port answers: its own, and those of its router's translations and balancers that are near."""
+    outer = {row.external_ip for row in net.rows("nat") if row.router == port.router}
     for balancer in net.rows("load_balancer"):
-        if partner.router in balancer.routers:
+        if port.router in balancer.routers:
             outer |= {vip.ip for vip, _backends in balancer.vips}
-    near = {ip for ip in outer for network in partner.networks if ip >> 32 - network.len == network.addr >> 32 - network.len}
-    return near | {network.addr for network in partner.networks}
+    near = {ip for ip in outer for network in port.networks if holds(network, ip)}
+    return near | {network.addr for network in port.networks}
+
+
+def partner(net, port):
+    """The router's port behind a port of a switch."""
+    return net.by_kind["router_port"][port.router_port]
+
+
+def is_translating(net, router):
+    """A gateway with a translation or a balancer."""
+    translations = any(row.router == router.name for row in net.rows("nat"))
+    return router.chassis is not None and (translations or any(router.name in row.routers for row in net.rows("load_balancer")))
+
+
+def exit_of(net, route):
+    """The port with the longest network that holds the route's next hop."""
+    near = [(network.len, port) for port in net.rows("router_port") if port.router == route.router
+            for network in port.networks if holds(network, route.nexthop)]
+    return max(near, key=lambda one: one[0], default=(0, None))[1]
+
+
+def on_switch(net, port, switch, ip):
+    """The Ethernet address of a port of the switch that has the IP, a virtual one first, or of another router's port that answers there."""
+    enabled = [one for one in net.rows("switch_port") if one.switch == switch and one.enabled]
+    found = [dict(pairs(one))[ip] for one in enabled if one.is_virtual and ip in dict(pairs(one))]
+    routers = [partner(net, one) for one in enabled if not one.is_virtual]
+    found += [one.mac for one in routers if one.name != port.name and ip in answered(net, one)]
+    return found[0] if found else None
+
+
+def neighbour(net, port, ip):
+    """The Ethernet address at which the router's port reaches the IP."""
+    for row in net.rows("static_mac"):
+        if (row.port, row.ip) == (port.name, ip):
+            return row.mac
+    for one in net.rows("switch_port"):
+        if one.router_port == port.name:
+            return on_switch(net, port, one.switch, ip)
+    for one in net.rows("router_port"):
+        if port.peer == one.name or one.peer == port.name:
+            return one.mac if ip in answered(net, one) else None
+    return None
 
 
 # ---- rows of a port
@@ -230,7 +279,7 @@ def requests(unit, port, comes):
 def targets(net, unit, port):
     """What is for the port goes to it."""
     if not port.is_virtual:
-        for ip in answered(net, port):
+        for ip in answered(net, partner(net, port)):
             asked = ["eth.mcast", "arp.op == 1", f"arp.tpa == {ip_text(ip)}"]
             unit.put("s_lookup", 80, asked, [f"set out={port.name}", DELIVER])
     for ether in ethers(net, port):
@@ -308,8 +357,126 @@ def switch_unit(net, switch):
     return unit
 
 
+# ---- rows of a router's port, of a route and a neighbour, and of a router
+
+
+def leaving(port, hop):
+    return ["dec_ttl", hop, f"set out={port.name}", f"eth_src {ether_text(port.mac)}", "set loopback=1", "pass"]
+
+
+def masked_text(prefix):
+    return prefix_text(prefix.addr >> 32 - prefix.len << 32 - prefix.len, prefix.len)
+
+
+def router_port_unit(net, port):
+    unit = Unit(f"port {port.name}", port.router)
+    here, ether = f'inport == "{port.name}"', ether_text(port.mac)
+    unit.put("r_admit", 50, [here, f"eth.dst == {ether}"], ["pass"])
+    unit.put("r_admit", 50, [here, "eth.mcast", "arp"], ["pass"])
+    for ip in answered(net, port):
+        answer = [f"arp_reply {ether} {ip_text(ip)}", "set out=in", "set loopback=1", DELIVER]
+        unit.put("r_input", 100, [here, "arp.op == 1", f"arp.tpa == {ip_text(ip)}"], answer)
+    for network in port.networks:
+        to_it = f"ip4.dst == {ip_text(network.addr)}"
+        unit.put("r_input", 70, [to_it, "icmp4.type == 8", "icmp4.code == 0"], ["echo_reply", "set own=1", "go 13"])
+        unit.put("r_own", 100, [to_it], ["drop for-router"])
+        unit.put("r_route", 100 + 2 * network.len + 1, [f"ip4.dst == {masked_text(network)}"], leaving(port, "next_dst"))
+    return unit
+
+
+def route_unit(net, route):
+    unit = Unit(f"route {route.name}", route.router)
+    leaves = leaving(exit_of(net, route), f"set next={route.nexthop}")
+    unit.put("r_route", 100 + 2 * route.prefix.len, [f"ip4.dst == {masked_text(route.prefix)}"], leaves)
+    return unit
+
+
+def known_ips(net):
+    """All IPs that a record could make a neighbour."""
+    found = {row.ip for row in net.rows("static_mac")}
+    found |= {ip for port in net.rows("switch_port") for ip, _ether in pairs(port)}
+    return sorted(found.union(*(answered(net, port) for port in net.rows("router_port"))))
+
+
+def neighbour_units(net, port):
+    for ip in known_ips(net):
+        ether = neighbour(net, port, ip)
+        if ether is not None:
+            unit = Unit(f"neighbour {port.name} {ip_text(ip)}", port.router)
+            unit.put("r_neighbour", 100, [f'outport == "{port.name}"'], [f"eth_dst {ether_text(ether)}", DELIVER], {"next": ip})
+            yield unit
+
+
+def router_unit(net, router):
+    unit = Unit(f"router {router.name}", router.name)
+    known = ["touch", "translate", "pass"]
+    unit.put("r_admit", 0, [], ["drop not-for-router"])
+    unit.put("r_input", 90, ["arp"], ["drop arp"])
+    unit.put("r_input", 80, [f"(ip4.src == {NOT_ROUTED} || ip4.dst == {NOT_ROUTED})"], ["drop bad-ip"])
+    unit.put("r_input", 60, ["ip.ttl == {0, 1}"], ["drop ttl"])
+    unit.put("r_input", 50, ["ip4"], ["pass"])
+    unit.put("r_input", 0, [], ["drop not-ip4"])
+    unit.put("r_dnat", 100, [], known, {"state": 2})
+    unit.put("r_dnat", 100, [], known, {"state": 3})
+    unit.put("r_route", 0, [], ["drop no-route"])
+    unit.put("r_neighbour", 0, [], ["drop no-neighbour"])
+    unit.put("r_snat", 200, [], known, {"state": 2})
+    for stage in ("r_undo", "r_dnat", "r_own", "r_find", "r_snat"):
+        unit.put(stage, 0, [], ["pass"])
+    if is_translating(net, router):
+        unit.put("r_undo", 100, ["ip4"], ["undo", "find dnat", "pass"])
+        unit.put("r_find", 100, ["ip4"], ["find snat", "pass"], {"own": 0})
+    return unit
+
+
+# ---- rows of a row of NAT, and of a balancer on a switch or router
+
+
+def nat_unit(row):
+    unit = Unit(f"nat {row.name}", row.router)
+    external = ip_text(row.external_ip)
+    if row.type in ("dnat", "dnat_and_snat"):
+        unit.put("r_dnat", 80, [f"ip4.dst == {external}"], [f"dnat dnat {ip_text(row.logical_ip.addr)}", "pass"], {"state": 1})
+    if row.type in ("snat", "dnat_and_snat"):
+        priority, inside = 100 + row.logical_ip.len, [f"ip4.src == {masked_text(row.logical_ip)}"]
+        unit.put("r_snat", priority, inside, [f"snat snat {external}", "pass"], {"state": 1})
+        unit.put("r_snat", priority, inside, ["drop invalid"], {"state": 4})
+    return unit
+
+
+def backend_text(backend):
+    return f"{ip_text(backend.ip)}:{backend.port}"
+
+
+def balancer_unit(net, balancer, datapath):
+    unit = Unit(f"balancer {balancer.name} {datapath}", datapath)
+    for vip, backends in balancer.vips:
+        to_it = [balancer.protocol, f"ip4.dst == {ip_text(vip.ip)}", f"{balancer.protocol}.dst == {vip.port}"]
+        online = ",".join(backend_text(backend) for backend in backends if (balancer.name, backend) not in net.offline)
+        choice = f"{backend_text(vip)} [{online}]"
+        if datapath in balancer.switches:
+            unit.put("s_state_in", 55, to_it, [f"balance in {choice}", "pass"], {"tracked": 1, "state": 1})
+        if datapath in balancer.routers:
+            unit.put("r_dnat", 90, to_it, [f"balance dnat {choice}", "pass"], {"state": 1})
+    return unit
+
+
+def translating_units(net):
+    yield from (nat_unit(row) for row in net.rows("nat"))
+    for balancer in net.rows("load_balancer"):
+        yield from (balancer_unit(net, balancer, datapath) for datapath in {*balancer.switches, *balancer.routers})
+
+
+def router_units(net):
+    for port in net.rows("router_port"):
+        yield router_port_unit(net, port)
+        yield from neighbour_units(net, port)
+    yield from (route_unit(net, route) for route in net.rows("route"))
+    yield from (router_unit(net, router) for router in net.rows("router"))
+
+
 def rows(net):
-    units = [port_unit(net, port) for port in net.rows("switch_port")]
+    units = [port_unit(net, port) for port in net.rows("switch_port")] + list(router_units(net)) + list(translating_units(net))
     for switch in net.rows("switch"):
         units.append(switch_unit(net, switch.name))
         units += [rule_unit(rule, switch.name) for rule in rules_on(net, switch.name)]
@@ -413,24 +580,49 @@ class Seldom:
 
     def balancer(self):
         """One with virtual addresses inside and outside the networks of routers, or with none."""
-        there = ["10.0.0.200:80", "172.16.8.2:80", "10.9.0.7:443", "10.9.0.10:53"]
-        vips = {vip: "10.0.0.1:80" for vip in there if draw.random() < 0.4}
-        switches = [self.a_name("switch")] if draw.random() < 0.6 else []
+        there = ["10.0.0.200:80", "172.16.8.2:80", "10.9.0.7:443", "10.9.0.10:53", "10.9.0.10:65535"]
+        some = ["10.0.0.1:80", "10.0.0.1:8080", "10.0.0.2:80", "10.9.0.7:443"]
+        vips = {vip: ",".join(draw.choices(some, k=draw.randrange(5))) for vip in there if draw.random() < 0.4}
+        switches = [self.a_name("switch") for _ in range(draw.choice([0, 1, 1, 2]))]
         routers = ["g8"] if draw.random() < 0.5 else []
-        return [self.put("load_balancer", f"lx{draw.randrange(3)}", {}, vips=vips, switches=switches, routers=routers)]
+        fixed = {"protocol": draw.choice(["tcp", "udp"])}
+        return [self.put("load_balancer", f"lx{draw.randrange(3)}", fixed, vips=vips, switches=switches, routers=routers)]
 
     def translation(self):
         fixed = {"router": "g8", "type": draw.choice(["snat", "dnat", "dnat_and_snat"])}
         external = draw.choice(["10.0.0.201", "172.16.8.1", "172.16.9.9", "10.9.0.8", "9.9.9.9"])
-        return [self.put("nat", f"x{draw.randrange(3)}", fixed, external_ip=external, logical_ip=self.an_ip(0))]
+        inside = draw.choice([self.an_ip(0), self.an_ip(0), "10.0.0.0/24", "10.0.0.0/9", "128.0.0.0/1", "0.0.0.0/0"])
+        return [self.put("nat", f"x{draw.randrange(3)}", fixed, external_ip=external, logical_ip=inside)]
+
+    def route(self):
+        """A route of a router, with a next hop that one or several of its networks hold, or none."""
+        port = draw.choice(list(self.net.rows("router_port")) or [None])
+        if port is None:
+            return []
+        network = draw.choice(port.networks)
+        nexthop = network.addr ^ draw.choice([1, 2, 3, 64, 128])
+        prefix = draw.choice(["0.0.0.0/0", "10.0.0.0/8", "10.9.0.0/30", "128.0.0.0/1", "192.0.2.7/32"])
+        return [self.put("route", f"y{draw.randrange(6)}", {"router": port.router}, prefix=prefix, nexthop=ip_text(nexthop))]
+
+    def binding(self):
+        """A static binding of an address that others may have too."""
+        addresses = [ip for port in self.net.rows("switch_port") for ip, _ether in pairs(port)] + [0x0A090001]
+        fixed = {"port": self.a_name("router_port")}
+        return [self.put("static_mac", f"z{draw.randrange(6)}", fixed, ip=ip_text(draw.choice(addresses)), mac=f"0a:00:00:00:09:0{draw.randrange(9)}")]
+
+    def joint(self):
+        """A router's port that names another as its peer, or one more network of it."""
+        fields = draw.choice([{"peer": self.a_name("router_port")}, {"networks": ["10.1.0.129/25", "10.1.0.254/24"]}])
+        return [{"set": "router_port", "name": self.a_name("router_port"), **fields}]
 
     def removal(self):
-        kind = draw.choice(["acl", "acl", "switch_port", "load_balancer", "nat"])
+        kind = draw.choice(["acl", "acl", "switch_port", "load_balancer", "nat", "route", "static_mac"])
         return [{"remove": kind, "name": self.a_name(kind)}]
 
     def ops(self):
-        makers = [self.port, self.enabling, self.router, self.rule, self.group, self.balancer, self.translation, self.removal]
-        return draw.choices(makers, [6, 2, 3, 5, 2, 1, 1, 1])[0]()
+        makers = [self.port, self.enabling, self.router, self.rule, self.group, self.balancer, self.translation, self.removal,
+                  self.route, self.binding, self.joint]
+        return draw.choices(makers, [6, 2, 3, 5, 2, 2, 2, 1, 2, 2, 1])[0]()
 
 
 # ---- lines
@@ -456,6 +648,17 @@ class Lines:
             self.made += 1
             print(f"do\t{line}")
 
+    def health(self):
+        """Marks a backend of a balancer, most often offline."""
+        listed = [(row.name, backend) for row in self.net.rows("load_balancer") for _vip, backends in row.vips for backend in backends]
+        if not listed:
+            return
+        mark, online = draw.choice(listed), draw.random() < 0.3
+        self.net = self.net.draft()
+        self.net.offline = self.net.offline - {mark} if online else self.net.offline | {mark}
+        event = {"balancer": mark[0], "backend": backend_text(mark[1]), "online": online}
+        print("mark\t" + json.dumps({"health": event}, separators=(",", ":")))
+
     def flows(self):
         found = rows(self.net)
         self.shown.update(line.split(": ", 1)[1].split(" ")[1] for line in found)
@@ -467,6 +670,8 @@ for ops in generated():
     lines.edit(ops)
     for _ in range(draw.randrange(4)):
         lines.edit(Seldom(lines.net).ops())
+    if draw.random() < 0.3:
+        lines.health()
     if draw.random() < 8 / count:
         lines.flows()
     if lines.made >= count:

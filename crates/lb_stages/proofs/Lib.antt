@@ -1,0 +1,3 @@
+-- Lemmas.
+pub mod Kept
+pub mod BalancerUnits
