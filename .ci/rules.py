@@ -7,7 +7,8 @@ A name stands in backquotes. In the column of that title it is
   proof        CLAUSE                    a clause of the contract of one of the row's functions
                CRATE/FILE LAW [CLAUSE]   a function whose contract is a law, and a clause of it
   test         CRATE TEST                a #[test] function, or a constant that a file with one uses
-  edit         CRATE EDIT                a file of must-fail/, which changes the row's functions, or constants beside them
+  edit         CRATE EDIT                a file of must-fail/, or of bench/must-fail/CRATE/ where the gate leaves it out, which changes
+                                         the row's functions, or constants beside them
 Each row of a table has names in all five. The proof speaks of each function: it names one of its clauses, or says "one clause"
 and the function has no other. A function of an impl without a contract has that of the trait's, which stands beside it.
 
@@ -115,7 +116,8 @@ def names_in(text):
 
 def changes_of(crate, edit):
     """The files that the edit changes, each with the text that it changes there."""
-    text = text_of(CRATES / crate / "must-fail" / f"{edit}.edit")
+    folders = [CRATES / crate / "must-fail", TOP / "bench" / "must-fail" / crate]
+    text = "".join(text_of(it / f"{edit}.edit") for it in folders)
     return re.findall(r"^file: src/(.*?)\.rt\nold: (.*?)\nnew: ", text, re.M | re.S)
 
 

@@ -1,9 +1,8 @@
 //! Single actions, and copies of what came of them.
 
 use crate::rows::row;
-use crate::tables::{name, sent, set, stranger, tables, visits};
+use crate::tables::{all, comes_to, name, sent, set, stranger, tables};
 use flow_table::flow::{Cause, FlowOp};
-use inet_packet::cube::Cube;
 use inet_packet::regs::Reg;
 use ovn_base::list::List;
 use std::test::Fail;
@@ -19,7 +18,7 @@ fn reads_the_header(rt: HostRuntime) -> Result<(), Fail> {
     let rows = [row(
         alloc,
         0,
-        Cube::EVERYTHING,
+        all(),
         [set(Reg::Dp, 5), FlowOp::Header, FlowOp::Frame(hv2)],
     )?];
     let tables = tables(alloc, &[], rows)?;
@@ -36,8 +35,7 @@ fn reads_the_header(rt: HostRuntime) -> Result<(), Fail> {
         packet: stranger(alloc),
     };
     let out = sent(alloc, &tables, tunnel)?;
-    assert_eq!(rt; out.effects.len(), 1);
-    assert!(rt; out.effects.as_slice()[0] == carried);
+    assert!(rt; comes_to(&out, &[carried], &[0]));
     let stayed = Effect::Frame {
         chassis: hv2,
         vni: 5,
@@ -46,8 +44,7 @@ fn reads_the_header(rt: HostRuntime) -> Result<(), Fail> {
         packet: stranger(alloc),
     };
     let out = sent(alloc, &tables, Entry::Vif(p1))?;
-    assert_eq!(rt; out.effects.len(), 1);
-    assert!(rt; out.effects.as_slice()[0] == stayed);
+    assert!(rt; comes_to(&out, &[stayed], &[0]));
     Ok(())
 }
 
@@ -56,7 +53,7 @@ fn reads_the_header(rt: HostRuntime) -> Result<(), Fail> {
 fn drops(rt: HostRuntime) -> Result<(), Fail> {
     let alloc = rt.alloc();
     let p1 = name(&rt, b"p1");
-    let rows = [row(alloc, 0, Cube::EVERYTHING, [FlowOp::Drop(Cause::Vlan)])?];
+    let rows = [row(alloc, 0, all(), [FlowOp::Drop(Cause::Vlan)])?];
     let tables = tables(alloc, &[], rows)?;
     let out = sent(alloc, &tables, Entry::Vif(p1))?;
     let dropped = Effect::Drop {
@@ -64,9 +61,7 @@ fn drops(rt: HostRuntime) -> Result<(), Fail> {
         port: 0,
         cause: Cause::Vlan,
     };
-    assert_eq!(rt; out.effects.len(), 1);
-    assert!(rt; out.effects.as_slice()[0] == dropped);
-    assert!(rt; visits(&out, &[0]));
+    assert!(rt; comes_to(&out, &[dropped], &[0]));
     Ok(())
 }
 
@@ -76,8 +71,7 @@ fn matches_nothing(rt: HostRuntime) -> Result<(), Fail> {
     let p1 = name(&rt, b"p1");
     let tables = tables(alloc, &[], [])?;
     let out = sent(alloc, &tables, Entry::Vif(p1))?;
-    assert!(rt; out.effects.is_empty());
-    assert!(rt; out.walk.is_empty());
+    assert!(rt; comes_to(&out, &[], &[]));
     Ok(())
 }
 
@@ -86,7 +80,7 @@ fn matches_nothing(rt: HostRuntime) -> Result<(), Fail> {
 fn copies(rt: HostRuntime) -> Result<(), Fail> {
     let alloc = rt.alloc();
     let p1 = name(&rt, b"p1");
-    let rows = [row(alloc, 0, Cube::EVERYTHING, [FlowOp::Frame(p1)])?];
+    let rows = [row(alloc, 0, all(), [FlowOp::Frame(p1)])?];
     let tables = tables(alloc, &[], rows)?;
     let out = sent(alloc, &tables, Entry::Vif(p1))?;
     let copy = out.copy()?;

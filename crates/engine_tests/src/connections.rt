@@ -4,7 +4,7 @@ ghost use Rattle.switch_engine.specs.Proper.{IsProper};
 
 use crate::packets::{ASKED, read};
 use crate::rows::row;
-use crate::tables::{at, name, sent_in, set, tables, zones};
+use crate::tables::{at, comes_to, name, sent_in, set, tables, zones};
 use flow_table::flow::{FlowOp, ZoneOf};
 use flow_table::tables::Tables;
 use inet_packet::cube::{Bits, Cube};
@@ -50,7 +50,6 @@ fn no_zone(rt: HostRuntime) -> Result<(), Fail> {
         read(alloc, ASKED)?,
         5,
     )?;
-    assert!(rt; out.effects.is_empty());
-    assert_eq!(rt; out.walk.len(), 1);
+    assert!(rt; comes_to(&out, &[], &[0]));
     Ok(())
 }

@@ -4,10 +4,9 @@ ghost use Rattle.inet_packet.specs.Whole.{IsWhole};
 ghost use Rattle.switch_engine.specs.Proper.{IsProper};
 
 use crate::rows::row;
-use crate::tables::{name, sent_in, set, tables, zones};
+use crate::tables::{all, name, sent_in, set, tables, zones};
 use flow_table::flow::{Cause, FlowOp, ZoneOf};
 use flow_table::tables::Tables;
-use inet_packet::cube::Cube;
 use inet_packet::decode::decode;
 use inet_packet::packet::Packet;
 use inet_packet::regs::Reg;
@@ -43,7 +42,7 @@ fn committing(alloc: Global, p1: Name) -> Result<Tables, NoMemory>
         FlowOp::Commit(ZoneOf::In),
         FlowOp::Output(p1),
     ];
-    tables(alloc, &[], [row(alloc, 0, Cube::EVERYTHING, begin)?])
+    tables(alloc, &[], [row(alloc, 0, all(), begin)?])
 }
 
 // What comes of the packet between these ports: its only effect.

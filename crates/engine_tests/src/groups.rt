@@ -1,7 +1,7 @@
 //! Packets for groups of ports.
 
 use crate::rows::row;
-use crate::tables::{at, name, sent, set, stranger, tables, to, visits};
+use crate::tables::{at, comes_to, name, sent, set, stranger, tables, to};
 use flow_table::flow::{FlowOp, Member};
 use inet_packet::regs::{At, Reg};
 use ovn_base::list::List;
@@ -69,12 +69,9 @@ fn unknown_group_where_it_is_sent(rt: HostRuntime) -> Result<(), Fail> {
     ];
     let tables = tables(alloc, &way, rows)?;
     let out = sent(alloc, &tables, Entry::Vif(p1))?;
-    let effects = out.effects.as_slice();
-    assert_eq!(rt; effects.len(), 2);
-    assert!(rt; effects[0] == framed(alloc, hv2, 1));
-    assert!(rt; effects[1] == given(alloc, p3));
-    let visited = [0, 8, 9, 10, 11, 12, 13, 14, 32, 33, 34, 40, 41, 42, 43, 64];
-    assert!(rt; visits(&out, &visited));
+    let effects = [framed(alloc, hv2, 1), given(alloc, p3)];
+    let way = [0, 8, 9, 10, 11, 12, 13, 14, 32, 33, 34, 40, 41, 42, 43, 64];
+    assert!(rt; comes_to(&out, &effects, &way));
     Ok(())
 }
 
@@ -102,10 +99,9 @@ fn unknown_group_where_it_arrives(rt: HostRuntime) -> Result<(), Fail> {
         out_key: UNKNOWN,
     };
     let out = sent(alloc, &tables, entry)?;
-    let effects = out.effects.as_slice();
-    assert_eq!(rt; effects.len(), 1);
-    assert!(rt; effects[0] == given(alloc, p4));
-    assert!(rt; visits(&out, &[0, 33, 34, 40, 41, 42, 43, 64]));
+    let effects = [given(alloc, p4)];
+    let way = [0, 33, 34, 40, 41, 42, 43, 64];
+    assert!(rt; comes_to(&out, &effects, &way));
     Ok(())
 }
 
@@ -148,13 +144,14 @@ fn copies_for_all_members_but_one(rt: HostRuntime) -> Result<(), Fail> {
     ];
     let tables = tables(alloc, &[(34, 64)], rows)?;
     let out = sent(alloc, &tables, Entry::Vif(p2))?;
-    let effects = out.effects.as_slice();
-    assert_eq!(rt; effects.len(), 4);
-    assert!(rt; effects[0] == framed(alloc, hv2, 2));
-    assert!(rt; effects[1] == framed(alloc, hv3, 2));
-    assert!(rt; effects[2] == given(alloc, p1));
-    assert!(rt; effects[3] == given(alloc, p5));
-    assert!(rt; visits(&out, &[0, 33, 34, 64, 34, 64]));
+    let effects = [
+        framed(alloc, hv2, 2),
+        framed(alloc, hv3, 2),
+        given(alloc, p1),
+        given(alloc, p5),
+    ];
+    let way = [0, 33, 34, 64, 34, 64];
+    assert!(rt; comes_to(&out, &effects, &way));
     Ok(())
 }
 
@@ -172,10 +169,8 @@ fn carries_each_copy_to_its_end(rt: HostRuntime) -> Result<(), Fail> {
     ];
     let tables = tables(alloc, &[(34, 64), (40, 64)], rows)?;
     let out = sent(alloc, &tables, Entry::Vif(p1))?;
-    let effects = out.effects.as_slice();
-    assert_eq!(rt; effects.len(), 2);
-    assert!(rt; effects[0] == given(alloc, p1));
-    assert!(rt; effects[1] == given(alloc, p3));
-    assert!(rt; visits(&out, &[0, 40, 64, 34, 64]));
+    let effects = [given(alloc, p1), given(alloc, p3)];
+    let way = [0, 40, 64, 34, 64];
+    assert!(rt; comes_to(&out, &effects, &way));
     Ok(())
 }

@@ -1,7 +1,7 @@
 //! How often a packet passes from datapath to datapath.
 
 use crate::rows::row;
-use crate::tables::{name, sent, set, tables};
+use crate::tables::{all, name, sent, set, tables};
 use flow_table::flow::{Cause, FlowOp};
 use inet_packet::cube::{Bits, Cube};
 use inet_packet::regs::Reg;
@@ -37,8 +37,8 @@ fn hop_limit(rt: HostRuntime) -> Result<(), Fail> {
     let begin = [set(Reg::Dp, 3), FlowOp::Go(8)];
     let leave = [set(Reg::OutPort, 9), FlowOp::Go(64)];
     let rows = [
-        row(alloc, 0, Cube::EVERYTHING, begin)?,
-        row(alloc, 8, Cube::EVERYTHING, leave)?,
+        row(alloc, 0, all(), begin)?,
+        row(alloc, 8, all(), leave)?,
         row(alloc, 64, of(3), [into(5)])?,
         row(alloc, 64, of(5), [into(3)])?,
     ];
@@ -49,8 +49,7 @@ fn hop_limit(rt: HostRuntime) -> Result<(), Fail> {
         port: 9,
         cause: Cause::HopLimit,
     };
-    assert_eq!(rt; out.effects.len(), 1);
-    assert!(rt; out.effects.as_slice()[0] == dropped);
+    assert!(rt; out.effects.as_slice() == [dropped].as_slice());
     assert_eq!(rt; out.walk.len(), 131);
     Ok(())
 }

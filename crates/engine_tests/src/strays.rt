@@ -1,9 +1,8 @@
 //! Copies whose port isn't here.
 
 use crate::rows::row;
-use crate::tables::{at, name, sent, set, tables};
+use crate::tables::{all, at, comes_to, name, sent, set, tables};
 use flow_table::flow::{Cause, FlowOp};
-use inet_packet::cube::Cube;
 use inet_packet::regs::{At, Reg};
 use std::test::Fail;
 use switch_engine::effect::{Effect, Entry};
@@ -27,8 +26,7 @@ fn lost_straight_from_a_tunnel(rt: HostRuntime) -> Result<(), Fail> {
     let rows = [row(alloc, 0, at(At::Tunnel), [FlowOp::Header, FlowOp::Go(33)])?];
     let tables = tables(alloc, &[], rows)?;
     let out = sent(alloc, &tables, FROM_TUNNEL)?;
-    assert_eq!(rt; out.effects.len(), 1);
-    assert!(rt; out.effects.as_slice()[0] == Effect::Lost);
+    assert!(rt; comes_to(&out, &[Effect::Lost], &[0]));
     Ok(())
 }
 
@@ -38,8 +36,7 @@ fn dropped_on_the_way_from_a_tunnel(rt: HostRuntime) -> Result<(), Fail> {
     let rows = [row(alloc, 0, at(At::Tunnel), [FlowOp::Header, FlowOp::Go(32)])?];
     let tables = tables(alloc, &[(32, 33)], rows)?;
     let out = sent(alloc, &tables, FROM_TUNNEL)?;
-    assert_eq!(rt; out.effects.len(), 1);
-    assert!(rt; out.effects.as_slice()[0] == UNBOUND);
+    assert!(rt; comes_to(&out, &[UNBOUND], &[0, 32]));
     Ok(())
 }
 
@@ -50,12 +47,11 @@ fn dropped_from_a_port(rt: HostRuntime) -> Result<(), Fail> {
     let rows = [row(
         alloc,
         0,
-        Cube::EVERYTHING,
+        all(),
         [set(Reg::Dp, 1), set(Reg::OutPort, 3), FlowOp::Go(33)],
     )?];
     let tables = tables(alloc, &[], rows)?;
     let out = sent(alloc, &tables, Entry::Vif(p1))?;
-    assert_eq!(rt; out.effects.len(), 1);
-    assert!(rt; out.effects.as_slice()[0] == UNBOUND);
+    assert!(rt; comes_to(&out, &[UNBOUND], &[0]));
     Ok(())
 }

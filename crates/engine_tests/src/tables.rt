@@ -15,10 +15,15 @@ use ovn_base::memory::NoMemory;
 use ovn_base::name::Name;
 use std::alloc::Global;
 use std::process::Abort;
-use switch_engine::effect::Entry;
+use switch_engine::effect::{Effect, Entry};
 use switch_engine::engine::run;
 use switch_engine::walk::RunOut;
 use switch_engine::zones::Zones;
+
+/// Every packet.
+pub fn all() -> Cube {
+    Cube::EVERYTHING
+}
 
 /// Every packet that enters there.
 pub fn at(entry: At) -> Cube {
@@ -64,7 +69,7 @@ pub fn tables<const N: usize>(
 {
     let mut flows = Vec::from_array(alloc, rows)?;
     for &(table, next) in way {
-        flows.push(row(alloc, table, Cube::EVERYTHING, [FlowOp::Go(next)])?)?;
+        flows.push(row(alloc, table, all(), [FlowOp::Go(next)])?)?;
     }
     put_all(alloc, flows)
 }
@@ -106,10 +111,15 @@ pub fn zones(alloc: Global, numbers: &[u16]) -> Result<Zones, NoMemory> {
     Ok(zones)
 }
 
-/// Whether the steps are of these tables.
-pub fn visits(out: &RunOut, way: &[u8]) -> bool {
+// Whether the steps are of these tables.
+fn visits(out: &RunOut, way: &[u8]) -> bool {
     let mut steps = out.walk.as_slice().iter().map(|step| step.table);
     steps.eq(way.iter().copied())
+}
+
+/// Whether the packet came to these effects, in steps of these tables.
+pub fn comes_to(out: &RunOut, effects: &[Effect], way: &[u8]) -> bool {
+    out.effects.as_slice() == effects && visits(out, way)
 }
 
 /// The name of a test.

@@ -14,6 +14,3 @@ pub use fault::GeneveFault;
 pub use laws::{one_fault, one_reading, reads_back};
 pub use reading::{View, read};
 pub use writing::write;
-
-#[cfg(test)]
-mod tests;

@@ -5,3 +5,5 @@
 mod flows;
 #[cfg(test)]
 mod tests;
+#[cfg(test)]
+mod whole_list;

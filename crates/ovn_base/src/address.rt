@@ -185,21 +185,3 @@ pub fn exact_set_entry()
     exact_cidr();
     exact_mac();
 }
-
-#[cfg(test)]
-mod tests {
-    use super::*;
-
-    #[test]
-    fn ethernet_addresses_have_numbers(rt: HostRuntime) {
-        let fe = Mac([0x0a, 0, 0, 0, 0, 0xfe]);
-        let group = Mac([0x01, 0, 0x5e, 0, 0, 1]);
-        assert_eq!(rt; fe.number(), 0x0a00_0000_00fe);
-        assert!(rt; !fe.is_multicast());
-        assert!(rt; group.is_multicast());
-        assert!(rt; Mac([0xff; 6]).is_multicast());
-        assert!(rt; Mac([0; 6]).is_zero());
-        assert!(rt; !fe.is_zero());
-        assert!(rt; fe > group);
-    }
-}

@@ -131,24 +131,3 @@ impl<T: fmt::Debug> fmt::Debug for Boxed<T> {
         fmt::Debug::fmt(self.get(), f)
     }
 }
-
-#[cfg(test)]
-mod tests {
-    use super::Boxed;
-    use crate::list::List;
-    use std::test::Fail;
-
-    #[test]
-    fn holds_a_value(rt: HostRuntime) -> Result<(), Fail> {
-        let five = Boxed::new(rt.alloc(), 5u16)?;
-        assert_eq!(rt; *five.get(), 5);
-        let copy = five.copy()?;
-        assert_eq!(rt; copy, five);
-        assert!(rt; copy < Boxed::new(five.allocator(), 6u16)?);
-        assert_eq!(rt; five.into_inner(), 5);
-        let list = Boxed::new(rt.alloc(), List::from_slice(rt.alloc(), &[1u8, 2])?)?;
-        assert_eq!(rt; list.clone()?, list);
-        assert_eq!(rt; format!(in rt.alloc(); "{list:?}")?.as_str(), "[1, 2]");
-        Ok(())
-    }
-}

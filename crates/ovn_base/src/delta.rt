@@ -25,22 +25,3 @@ impl<F: Clone> Delta<F> {
         })
     }
 }
-
-#[cfg(test)]
-mod tests {
-    use super::Delta;
-    use crate::list::List;
-    use std::test::Fail;
-
-    #[test]
-    fn copies_what_came_and_went(rt: HostRuntime) -> Result<(), Fail> {
-        let delta = Delta {
-            added: List::from_slice(rt.alloc(), &[1u16, 2])?,
-            removed: List::from_slice(rt.alloc(), &[3])?,
-        };
-        let copy = delta.copy()?;
-        assert_eq!(rt; copy, delta);
-        assert_eq!(rt; copy.removed.as_slice(), [3].as_slice());
-        Ok(())
-    }
-}

@@ -166,31 +166,3 @@ impl Sink for SureSink {
         Ok(())
     }
 }
-
-#[cfg(test)]
-mod tests {
-    use super::*;
-    use std::test::Fail;
-
-    #[test]
-    fn fails_at_the_listed_calls(rt: HostRuntime) -> Result<(), Fail> {
-        let alloc = rt.alloc();
-        let mut sink = MemorySink::new(alloc, 10, vec![in alloc; (2, 3), (2, 0), (5, 9)]?)?;
-        assert_eq!(rt; sink.give(b"hello"), Ok(()));
-        assert_eq!(rt; sink.give(b"world"), Err(Failed));
-        assert_eq!(rt; sink.bytes(), b"hellowor".as_slice());
-        assert_eq!(rt; sink.give(b"abc"), Err(Failed));
-        assert_eq!(rt; sink.bytes(), b"hellowor".as_slice());
-        assert_eq!(rt; sink.give(b"a"), Ok(()));
-        assert_eq!(rt; sink.give(b"b"), Err(Failed));
-        assert_eq!(rt; sink.bytes(), b"helloworab".as_slice());
-        assert_eq!(rt; sink.give(b""), Ok(()));
-        Ok(())
-    }
-
-    #[test]
-    fn a_sure_sink_takes_all(rt: HostRuntime) {
-        let mut sink = SureSink::new();
-        assert_eq!(rt; sink.give(b"hello"), Ok(()));
-    }
-}

@@ -167,21 +167,3 @@ impl Source for SureSource {
         Ok(count)
     }
 }
-
-#[cfg(test)]
-mod tests {
-    use super::*;
-    use std::test::Fail;
-
-    #[test]
-    fn a_sure_source_gives_all(rt: HostRuntime) -> Result<(), Fail> {
-        let mut source = SureSource::new(Vec::from_slice(rt.alloc(), b"abc")?);
-        let mut buf = [0; 2];
-        assert_eq!(rt; source.take(&mut buf), Ok(2));
-        assert_eq!(rt; buf, *b"ab");
-        assert_eq!(rt; source.take(&mut buf), Ok(1));
-        assert_eq!(rt; buf, *b"cb");
-        assert_eq!(rt; source.take(&mut buf), Ok(0));
-        Ok(())
-    }
-}

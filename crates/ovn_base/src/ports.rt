@@ -21,23 +21,3 @@ impl Ports {
         })
     }
 }
-
-#[cfg(test)]
-mod tests {
-    use super::Ports;
-    use crate::list::List;
-    use crate::name::Name;
-    use std::test::Fail;
-
-    #[test]
-    fn copies_ports(rt: HostRuntime) -> Result<(), Fail> {
-        let p1 = Name::read(b"p1").expect(&rt, "a name");
-        let ports = Ports {
-            list: List::from_slice(rt.alloc(), &[(p1, 2)])?,
-        };
-        let copy = ports.copy()?;
-        assert_eq!(rt; copy, ports);
-        assert_eq!(rt; copy.list.get(0), Some(&(p1, 2)));
-        Ok(())
-    }
-}

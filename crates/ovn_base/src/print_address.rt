@@ -85,24 +85,3 @@ pub fn printed_spells()
     ensures ip4 { (ip : Ip4) → ip.0 < 2 ^ 32 → SpellsIp4 (ip4_text ip) ip }
     ensures cidr { (cidr : Cidr) → cidr.addr.0 < 2 ^ 32 → cidr.len ≤ 32 → SpellsCidr (cidr_text cidr) cidr }
 {}
-
-#[cfg(test)]
-mod tests {
-    use super::*;
-    use std::test::Fail;
-
-    #[test]
-    fn prints_addresses(rt: HostRuntime) -> Result<(), Fail> {
-        let mut out = Vec::new(rt.alloc());
-        push_mac(&mut out, Mac([0x0a, 0, 0, 0, 1, 0xfe]))?;
-        assert_eq!(rt; out.as_slice(), b"0a:00:00:00:01:fe".as_slice());
-        let mut out = Vec::new(rt.alloc());
-        push_ip4(&mut out, Ip4(0xc0a8_0a01))?;
-        assert_eq!(rt; out.as_slice(), b"192.168.10.1".as_slice());
-        let mut out = Vec::new(rt.alloc());
-        let addr = Ip4(0x0a00_0000);
-        push_cidr(&mut out, Cidr { addr, len: 8 })?;
-        assert_eq!(rt; out.as_slice(), b"10.0.0.0/8".as_slice());
-        Ok(())
-    }
-}

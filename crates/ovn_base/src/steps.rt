@@ -43,20 +43,3 @@ impl<L> Steps<L> {
         self.count
     }
 }
-
-#[cfg(test)]
-mod tests {
-    use super::Steps;
-
-    /// Names a counter.
-    struct Calls;
-
-    #[test]
-    fn counts_calls(rt: HostRuntime) {
-        let mut steps: Steps<Calls> = Steps::new();
-        assert_eq!(rt; steps.count(), 0);
-        steps.tick();
-        steps.tick();
-        assert_eq!(rt; steps.count(), 2);
-    }
-}

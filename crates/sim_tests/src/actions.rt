@@ -68,14 +68,23 @@ struct Bench {
     sim: Sim<Tables>,
 }
 
+// Adds the flow of the table that does the actions.
+fn add<const N: usize>(
+    flows: &mut Vec<Flow>,
+    table: u8,
+    cube: Cube,
+    ops: [FlowOp; N],
+) -> Result<(), NoMemory> {
+    let alloc = *flows.allocator();
+    flows.push(row(alloc, table, cube, ops)?)?;
+    Ok(())
+}
+
 // A chassis with these flows.
-fn bench_with<const N: usize>(
-    rt: &impl Abort,
-    alloc: Global,
-    flows: [Flow; N],
-) -> Result<Bench, NoMemory> {
+fn bench_with(rt: &impl Abort, flows: Vec<Flow>) -> Result<Bench, NoMemory> {
+    let alloc = *flows.allocator();
     let (chassis, p1, p2) = (name(rt, b"hv1"), name(rt, b"p1"), name(rt, b"p2"));
-    let tables = put_all(alloc, Vec::from_array(alloc, flows)?)?;
+    let tables = put_all(alloc, flows)?;
     let mut sim = Sim::new(alloc)?;
     bring(alloc, &mut sim, chassis, tables, p1)?;
     Ok(Bench {
@@ -93,8 +102,9 @@ fn doing<const N: usize>(
     alloc: Global,
     ops: [FlowOp; N],
 ) -> Result<Bench, NoMemory> {
-    let flows = [row(alloc, 0, Cube::EVERYTHING, ops)?];
-    bench_with(rt, alloc, flows)
+    let mut flows = Vec::new(alloc);
+    add(&mut flows, 0, all(), ops)?;
+    bench_with(rt, flows)
 }
 
 // The action that gives a packet out of p2.
@@ -116,6 +126,52 @@ fn seen(state: u64, blocked: u64) -> Cube {
     cube
 }
 
+// Every packet.
+fn all() -> Cube {
+    Cube::EVERYTHING
+}
+
+// Those of which the next hop is the address.
+fn next_to(ip: u64) -> Cube {
+    let mut cube = Cube::EVERYTHING;
+    cube.next = Bits {
+        value: ip,
+        mask: 0xffff_ffff,
+    };
+    cube
+}
+
+// Those that go to the port of the key.
+fn to(key: u64) -> Cube {
+    let mut cube = Cube::EVERYTHING;
+    cube.out_port = Bits {
+        value: key,
+        mask: 0xffff,
+    };
+    cube
+}
+
+// Those on the datapath of the key that came in at its port of the key.
+fn on(datapath: u64, port: u64) -> Cube {
+    let mut cube = Cube::EVERYTHING;
+    cube.dp = Bits {
+        value: datapath,
+        mask: 0xff_ffff,
+    };
+    cube.in_port = Bits {
+        value: port,
+        mask: 0xffff,
+    };
+    cube
+}
+
+// Those that are new to the zone and come from the address.
+fn new_from(ip: u64) -> Cube {
+    let mut cube = seen(1, 0);
+    cube.ip4_src = from(ip).ip4_src;
+    cube
+}
+
 // The packets that come from the address.
 fn from(ip: u64) -> Cube {
     let mut cube = Cube::EVERYTHING;
@@ -126,14 +182,17 @@ fn from(ip: u64) -> Cube {
     cube
 }
 
-// The flow of table 0 that looks for the connection of a packet in zone 5.
-fn looks(alloc: Global) -> Result<Flow, NoMemory> {
+// The flow of table 0 alone, which looks for the connection of a packet in zone 5.
+fn looking(alloc: Global) -> Result<Vec<Flow>, NoMemory> {
     let zone = FlowOp::Set {
         reg: Reg::ZIn,
         value: 5,
     };
     let find = FlowOp::Find(ZoneOf::In);
-    row(alloc, 0, Cube::EVERYTHING, [zone, find, FlowOp::Go(1)])
+    let mut flows = Vec::new(alloc);
+    let ops = [zone, find, FlowOp::Go(1)];
+    add(&mut flows, 0, all(), ops)?;
+    Ok(flows)
 }
 
 // Whether the packet of the bytes has this effect alone, from p1 and in as many steps.
@@ -260,16 +319,10 @@ fn answers_no_other(rt: HostRuntime) -> Result<(), Fail> {
 #[test]
 fn next_hop(rt: HostRuntime) -> Result<(), Fail> {
     let alloc = rt.alloc();
-    let mut near = Cube::EVERYTHING;
-    near.next = Bits {
-        value: 0x0a00_0002,
-        mask: 0xffff_ffff,
-    };
-    let flows = [
-        row(alloc, 0, Cube::EVERYTHING, [FlowOp::NextDst, FlowOp::Go(1)])?,
-        row(alloc, 1, near, [gives(&rt)])?,
-    ];
-    let mut bench = bench_with(&rt, alloc, flows)?;
+    let mut flows = Vec::new(alloc);
+    add(&mut flows, 0, all(), [FlowOp::NextDst, FlowOp::Go(1)])?;
+    add(&mut flows, 1, next_to(0x0a00_0002), [gives(&rt)])?;
+    let mut bench = bench_with(&rt, flows)?;
     let is_so = becomes(alloc, &mut bench, ASKED, ASKED, 2).expect(&rt, "an answer");
     assert!(rt; is_so);
     Ok(())
@@ -279,27 +332,17 @@ fn next_hop(rt: HostRuntime) -> Result<(), Fail> {
 #[test]
 fn passes_into_a_datapath(rt: HostRuntime) -> Result<(), Fail> {
     let alloc = rt.alloc();
-    let mut there = Cube::EVERYTHING;
-    there.dp = Bits {
-        value: 4,
-        mask: 0xff_ffff,
-    };
-    there.in_port = Bits {
-        value: 2,
-        mask: 0xffff,
-    };
     let patch = FlowOp::Patch {
         dp: 4,
         in_port: 2,
         z_dnat: 0,
         z_snat: 0,
     };
-    let flows = [
-        row(alloc, 0, Cube::EVERYTHING, [FlowOp::Go(64)])?,
-        row(alloc, 64, Cube::EVERYTHING, [patch])?,
-        row(alloc, 8, there, [gives(&rt)])?,
-    ];
-    let mut bench = bench_with(&rt, alloc, flows)?;
+    let mut flows = Vec::new(alloc);
+    add(&mut flows, 0, all(), [FlowOp::Go(64)])?;
+    add(&mut flows, 64, all(), [patch])?;
+    add(&mut flows, 8, on(4, 2), [gives(&rt)])?;
+    let mut bench = bench_with(&rt, flows)?;
     let is_so = becomes(alloc, &mut bench, ASKED, ASKED, 3).expect(&rt, "an answer");
     assert!(rt; is_so);
     Ok(())
@@ -309,16 +352,14 @@ fn passes_into_a_datapath(rt: HostRuntime) -> Result<(), Fail> {
 #[test]
 fn destination_nat(rt: HostRuntime) -> Result<(), Fail> {
     let alloc = rt.alloc();
-    let to = FlowOp::Dnat {
+    let turns = FlowOp::Dnat {
         zone: ZoneOf::In,
         ip: Ip4(0x0a00_0002),
     };
-    let flows = [
-        looks(alloc)?,
-        row(alloc, 1, seen(1, 0), [to, gives(&rt)])?,
-        row(alloc, 1, seen(3, 0), [FlowOp::Translate, gives(&rt)])?,
-    ];
-    let mut bench = bench_with(&rt, alloc, flows)?;
+    let mut flows = looking(alloc)?;
+    add(&mut flows, 1, seen(1, 0), [turns, gives(&rt)])?;
+    add(&mut flows, 1, seen(3, 0), [FlowOp::Translate, gives(&rt)])?;
+    let mut bench = bench_with(&rt, flows)?;
     let asked = becomes(alloc, &mut bench, ASKED_7, ASKED, 2).expect(&rt, "an answer");
     let answered = becomes(alloc, &mut bench, ANSWERED, ANSWERED_7, 2).expect(&rt, "an answer");
     assert!(rt; asked && answered);
@@ -335,26 +376,11 @@ fn copies_and_goes_back(rt: HostRuntime) -> Result<(), Fail> {
     };
     let members = [Member { key: 3, zone: 0 }, Member { key: 4, zone: 0 }];
     let copies = FlowOp::Copies(List::from_slice(alloc, &members)?);
-    let (mut back, mut there) = (Cube::EVERYTHING, Cube::EVERYTHING);
-    back.out_port = Bits {
-        value: 4,
-        mask: 0xffff,
-    };
-    there.out_port = Bits {
-        value: 3,
-        mask: 0xffff,
-    };
-    let flows = [
-        row(
-            alloc,
-            0,
-            Cube::EVERYTHING,
-            [came, FlowOp::OutIsIn, FlowOp::Go(1)],
-        )?,
-        row(alloc, 1, back, [copies])?,
-        row(alloc, 34, there, [gives(&rt)])?,
-    ];
-    let mut bench = bench_with(&rt, alloc, flows)?;
+    let mut flows = Vec::new(alloc);
+    add(&mut flows, 0, all(), [came, FlowOp::OutIsIn, FlowOp::Go(1)])?;
+    add(&mut flows, 1, to(4), [copies])?;
+    add(&mut flows, 34, to(3), [gives(&rt)])?;
+    let mut bench = bench_with(&rt, flows)?;
     let is_so = becomes(alloc, &mut bench, ASKED, ASKED, 3).expect(&rt, "an answer");
     assert!(rt; is_so);
     Ok(())
@@ -370,18 +396,12 @@ fn hiding(rt: &impl Abort, alloc: Global) -> Result<Bench, NoMemory> {
         zone: ZoneOf::Snat,
         ip: Ip4(0xac10_00fe),
     };
-    let flows = [
-        row(
-            alloc,
-            0,
-            Cube::EVERYTHING,
-            [zone, FlowOp::Undo, FlowOp::Go(1)],
-        )?,
-        row(alloc, 1, from(0x0a00_0001), [hide.clone()?, gives(rt)])?,
-        row(alloc, 1, from(0x0a00_0002), [gives(rt)])?,
-        row(alloc, 1, from(0x0a00_0003), [hide, gives(rt)])?,
-    ];
-    bench_with(rt, alloc, flows)
+    let mut flows = Vec::new(alloc);
+    add(&mut flows, 0, all(), [zone, FlowOp::Undo, FlowOp::Go(1)])?;
+    add(&mut flows, 1, from(0x0a00_0001), [hide.clone()?, gives(rt)])?;
+    add(&mut flows, 1, from(0x0a00_0002), [gives(rt)])?;
+    add(&mut flows, 1, from(0x0a00_0003), [hide, gives(rt)])?;
+    bench_with(rt, flows)
 }
 
 #[test]
@@ -422,12 +442,10 @@ fn picks_a_backend(rt: HostRuntime) -> Result<(), Fail> {
         vip,
         backends: List::from_slice(alloc, &[backend])?,
     };
-    let flows = [
-        looks(alloc)?,
-        row(alloc, 1, seen(1, 0), [balance, gives(&rt)])?,
-        row(alloc, 1, seen(3, 0), [FlowOp::Translate, gives(&rt)])?,
-    ];
-    let mut bench = bench_with(&rt, alloc, flows)?;
+    let mut flows = looking(alloc)?;
+    add(&mut flows, 1, seen(1, 0), [balance, gives(&rt)])?;
+    add(&mut flows, 1, seen(3, 0), [FlowOp::Translate, gives(&rt)])?;
+    let mut bench = bench_with(&rt, flows)?;
     let pick = NetEffect::PickBackend {
         datapath: name(&rt, b"-"),
         vip,
@@ -448,11 +466,9 @@ fn no_backend(rt: HostRuntime) -> Result<(), Fail> {
         vip: at_port(0x0a00_0007),
         backends: List::new(alloc),
     };
-    let flows = [
-        looks(alloc)?,
-        row(alloc, 1, seen(1, 0), [balance, gives(&rt)])?,
-    ];
-    let mut bench = bench_with(&rt, alloc, flows)?;
+    let mut flows = looking(alloc)?;
+    add(&mut flows, 1, seen(1, 0), [balance, gives(&rt)])?;
+    let mut bench = bench_with(&rt, flows)?;
     let dropped = drops(&rt, alloc, &mut bench, ASKED_7, Cause::NoLiveBackend);
     assert!(rt; dropped.expect(&rt, "an answer"));
     Ok(())
@@ -470,31 +486,29 @@ fn at_port(ip: u32) -> Backend {
 #[test]
 fn blocks_and_unblocks(rt: HostRuntime) -> Result<(), Fail> {
     let alloc = rt.alloc();
-    let flows = [
-        looks(alloc)?,
-        row(
-            alloc,
-            1,
-            seen(1, 0),
-            [FlowOp::Commit(ZoneOf::In), gives(&rt)],
-        )?,
-        row(
-            alloc,
-            1,
-            seen(2, 0),
-            [FlowOp::Block, FlowOp::Drop(Cause::Acl)],
-        )?,
-        row(alloc, 1, seen(2, 4), [FlowOp::Unblock, gives(&rt)])?,
-        row(alloc, 1, seen(3, 0), [gives(&rt)])?,
-        row(alloc, 1, seen(3, 4), [FlowOp::Drop(Cause::Blocked)])?,
-    ];
-    let mut bench = bench_with(&rt, alloc, flows)?;
+    let mut flows = looking(alloc)?;
+    add(
+        &mut flows,
+        1,
+        seen(1, 0),
+        [FlowOp::Commit(ZoneOf::In), gives(&rt)],
+    )?;
+    add(
+        &mut flows,
+        1,
+        seen(2, 0),
+        [FlowOp::Block, FlowOp::Drop(Cause::Acl)],
+    )?;
+    add(&mut flows, 1, seen(2, 4), [FlowOp::Unblock, gives(&rt)])?;
+    add(&mut flows, 1, seen(3, 0), [gives(&rt)])?;
+    add(&mut flows, 1, seen(3, 4), [FlowOp::Drop(Cause::Blocked)])?;
+    let mut bench = bench_with(&rt, flows)?;
     let is_so = is_closed_and_open(&rt, alloc, &mut bench).expect(&rt, "an answer");
     assert!(rt; is_so);
     Ok(())
 }
 
-// Whether a connection begins, is closed, and is open again.
+// Whether a connection new_from(0x0a00_0001), is closed, and is open again.
 fn is_closed_and_open(rt: &impl Abort, alloc: Global, bench: &mut Bench) -> Result<bool, SimFault> {
     let begun = becomes(alloc, bench, ASKED, ASKED, 2)?;
     let closed = drops(rt, alloc, bench, ASKED, Cause::Acl)?;
@@ -508,15 +522,16 @@ fn is_closed_and_open(rt: &impl Abort, alloc: Global, bench: &mut Bench) -> Resu
 #[test]
 fn touches(rt: HostRuntime) -> Result<(), Fail> {
     let alloc = rt.alloc();
-    let mut begins = seen(1, 0);
-    begins.ip4_src = from(0x0a00_0001).ip4_src;
-    let flows = [
-        looks(alloc)?,
-        row(alloc, 1, begins, [FlowOp::Commit(ZoneOf::In), gives(&rt)])?,
-        row(alloc, 1, seen(2, 0), [FlowOp::Touch, gives(&rt)])?,
-        row(alloc, 1, seen(3, 0), [gives(&rt)])?,
-    ];
-    let mut bench = bench_with(&rt, alloc, flows)?;
+    let mut flows = looking(alloc)?;
+    add(
+        &mut flows,
+        1,
+        new_from(0x0a00_0001),
+        [FlowOp::Commit(ZoneOf::In), gives(&rt)],
+    )?;
+    add(&mut flows, 1, seen(2, 0), [FlowOp::Touch, gives(&rt)])?;
+    add(&mut flows, 1, seen(3, 0), [gives(&rt)])?;
+    let mut bench = bench_with(&rt, flows)?;
     let is_so = is_kept(alloc, &mut bench).expect(&rt, "an answer");
     assert!(rt; is_so);
     Ok(())

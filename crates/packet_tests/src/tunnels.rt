@@ -1,4 +1,6 @@
-use super::*;
+//! Frames between chassis.
+
+use geneve_frames::{GeneveFault, View, read, write};
 use std::test::*;
 
 /// Network 1 from key 1 to key 2, with OVN's option alone.

@@ -1,0 +1,5 @@
+//! Tests of `event_lines`.
+#![tactic(auto)]
+
+#[cfg(test)]
+mod tests;
