@@ -1,0 +1,7 @@
+-- Lemmas.
+pub mod Counted
+pub mod Joined
+pub mod NorthPlans
+pub mod Pairs
+pub mod RowUnits
+pub mod Stores

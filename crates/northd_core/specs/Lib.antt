@@ -1,0 +1,5 @@
+-- Definitions that contracts cite.
+pub mod Gate
+pub mod Listing
+pub mod Held
+pub mod Plans
