@@ -1,5 +1,5 @@
 -- Homes that change, one after the other.
-use Rattle.std.specs.Prelude.{◌≡◌, ◌≢◌, true, false, cond, List, ◌∷◌, Option, Some, None, is_some, map, refl}
+use Rattle.std.specs.Prelude.{◌≡◌, ◌≢◌, true, false, cond, List, ◌∷◌, Option, Some, None, map, refl}
 use mathlib.Core.Path.{sym, ap, subst, ◌∙◌}
 use mathlib.Core.Logic.{inl, inr}
 use Rattle.std.specs.BTreeMap.{is_at}
@@ -37,11 +37,3 @@ step before after e rest once moved q = elim (one_or_two q e.0) [
       ap (λ o. unwrap_or (at rest q) o) (moved q ∙ cond-false (is_at (slice_cmp nat_cmp e.0) q) e.1 (at before q) other)
       ∙ sym (ap (λ o. unwrap_or o (at before q)) (at_tail e rest q apart))
 ]
-
--- a name that comes first is found
-pub found_first : {X : Type 0} (e : Name × X) (rest : List (Name × X)) (q : Name) → q ≡ e.0 → is_some (at (e ∷ rest) q) ≡ true
-found_first e rest q same = ap (λ o. is_some o) (ap (λ n. at (e ∷ rest) n) same ∙ at_head e rest)
-
--- and another is found behind it
-pub found_behind : {X : Type 0} (e : Name × X) (rest : List (Name × X)) (q : Name) → q ≢ e.0 → is_some (at rest q) ≡ is_some (at (e ∷ rest) q)
-found_behind e rest q apart = ap (λ o. is_some o) (sym (at_tail e rest q apart))

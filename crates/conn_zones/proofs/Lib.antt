@@ -6,5 +6,6 @@ pub mod PlaceLaws
 pub mod GivingLaws
 pub mod ZoneLists
 pub mod ZoneChanges
+pub mod NamedLaws
 pub mod OneResult
 pub mod ForCallers

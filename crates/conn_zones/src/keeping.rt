@@ -1,9 +1,15 @@
-//! Who stays at home, and keeps the numbers.
-ghost use Rattle.std.specs.Prelude.{◌≡◌, ◌++◌, ◌∷◌, [], IfOk, OnOk, cond, is_some};
-ghost use Rattle.std.specs.Option.{option_copied};
-ghost use Rattle.ovn_base.specs.names.ByName.{at, IsByName};
-ghost use Rattle.conn_zones.specs.Rezoning.{is_home_on, remains, stays_on, zones_in, coming};
-ghost use Rattle.conn_zones.specs.Giving.{keep_places, AreKeptNumbers};
+//! Who stays at home and keeps the numbers, and who comes.
+ghost use Rattle.std.specs.Prelude.{◌≡◌, IfOk, OnOk, cond, map};
+ghost use Rattle.std.specs.BTreeMap.{is_at};
+ghost use Rattle.std.specs.Cmp.Lexicographic.{slice_cmp};
+ghost use Rattle.std.specs.Option.{option_copied, option_or};
+ghost use Rattle.std.specs.Ordering.{nat_cmp};
+ghost use Rattle.ovn_base.specs.declared.name.Name.{Name};
+ghost use Rattle.ovn_base.specs.lists.Once.{EachOnce};
+ghost use Rattle.ovn_base.specs.names.ByName.{at};
+ghost use Rattle.conn_zones.specs.Zoning.{KnownHomes, IsZoned};
+ghost use Rattle.conn_zones.specs.Rezoning.{IsRehomed, is_home_on, zones_in, coming};
+ghost use Rattle.conn_zones.specs.Giving.{place_at_home, comes_to, ArePlacesAfter, AreComers, AreKeptNumbers};
 
 use crate::change::HomeChange;
 use crate::homes::Homes;
@@ -25,66 +31,52 @@ fn is_home_on(home: Option<&Name>, chassis: &Name) -> bool
     }
 }
 
-// Whether the name is one of these.
-fn is_named(replaced: &[(Name, Option<Name>)], name: &Name) -> bool
-    ensures { result ≡ is_some (at replaced.now name.now) }
+// Leaves who has the name its place only where it is at home.
+fn keep_one(places: &mut BTreeMap<Name, ZonePlace>, homes: &BTreeMap<Name, Name>, name: &Name)
+    ensures { (q : Name) → at places.new.entries q ≡ cond (is_at (slice_cmp nat_cmp name.now) q) (place_at_home (at homes.now.entries name.now) (at places.old.entries name.now)) (at places.old.entries q) }
 {
-    'replaced: for (other, _) in replaced {
-        if *name == *other {
-            return true;
+    let home = homes.get(name);
+    match places.get(name) {
+        Some(place) if is_home_on(home, &place.chassis) => {}
+        _ => {
+            places.remove(name);
         }
     }
-    false
 }
 
-// Whether who has the name is at home on the chassis, and is not replaced.
-fn remains(
-    homes: &BTreeMap<Name, Name>,
-    replaced: &[(Name, Option<Name>)],
-    name: &Name,
-    chassis: &Name,
-) -> bool
-    ensures { result ≡ remains homes.now.entries replaced.now name.now chassis.now }
-{
-    is_home_on(homes.get(name), chassis) && !is_named(replaced, name)
-}
-
-// The places of those who stay at home there.
+// The places, of which those of the named are left only where they are at home.
 fn kept_places(
     places: &BTreeMap<Name, ZonePlace>,
-    after: &BTreeMap<Name, Name>,
-    replaced: &[(Name, Option<Name>)],
+    homes: &BTreeMap<Name, Name>,
+    change: &[(Name, Option<Name>)],
 ) -> Result<BTreeMap<Name, ZonePlace>, NoMemory>
-    ensures kept { IfOk result (λ m. m.entries ≡ keep_places after.now.entries replaced.now places.now.entries) }
-    ensures in_order { IfOk result (λ m. IsByName m.entries) }
+    ensures { IfOk result (λ m. ArePlacesAfter homes.now.entries change.now places.now.entries m.entries) }
 {
     let mut kept = copy_of(places)?;
-    keep(&mut kept, after, replaced);
+    'change: for (name, _) in change {
+        keep_one(&mut kept, homes, name);
+    }
     names_ascend(&kept);
     Ok(kept)
 }
 
-// Keeps the places of those who stay at home there.
-fn keep(
-    places: &mut BTreeMap<Name, ZonePlace>,
-    after: &BTreeMap<Name, Name>,
-    replaced: &[(Name, Option<Name>)],
-)
-    ensures { places.new.entries ≡ keep_places after.now.entries replaced.now places.old.entries }
-{
-    places.retain(|name, place| remains(after, replaced, name, &place.chassis));
-}
-
 impl ZoneNumbers {
-    // The numbers of those who stay at home there.
-    pub(crate) fn kept(&self, after: &Homes, change: &HomeChange) -> Result<ZoneNumbers, NoMemory>
-        ensures { IfOk result (AreKeptNumbers self.now change.now after.now) }
+    // The numbers of those who stay at home there. Who isn't named stays, and so does a named port whose home stays; a named
+    // router is one of another birth.
+    pub(crate) fn kept(
+        &self,
+        alloc: Global,
+        after: &Homes,
+        change: &HomeChange,
+    ) -> Result<ZoneNumbers, NoMemory>
+        ensures { IfOk result (λ n. (before : KnownHomes) → IsZoned (record { homes = before; numbers = self.now }) → IsRehomed before change.now after.now → AreKeptNumbers self.now change.now after.now n) }
     {
-        let replaced = change.routers.as_slice();
+        let nobody = BTreeMap::new(alloc);
+        let routers = change.routers.as_slice();
         Ok(ZoneNumbers {
-            ports: kept_places(&self.ports, &after.ports, &[])?,
-            dnat: kept_places(&self.dnat, &after.routers, replaced)?,
-            snat: kept_places(&self.snat, &after.routers, replaced)?,
+            ports: kept_places(&self.ports, &after.ports, change.ports.as_slice())?,
+            dnat: kept_places(&self.dnat, &nobody, routers)?,
+            snat: kept_places(&self.snat, &nobody, routers)?,
         })
     }
 }
@@ -104,51 +96,55 @@ fn zones_in(alloc: Global, homes: &Homes) -> Result<List<(ZoneUse, Name)>, NoMem
     Ok(zones)
 }
 
-// Whether the zone stays on the chassis.
-fn stays_on(before: &Homes, change: &HomeChange, chassis: &Name, zone: &ZoneUse) -> bool
-    ensures { result ≡ stays_on before.now change.now chassis.now zone.now }
-{
-    match zone {
-        ZoneUse::Port(name) => remains(&before.ports, &[], name, chassis),
-        ZoneUse::Dnat(name) | ZoneUse::Snat(name) => remains(
-            &before.routers,
-            change.routers.as_slice(),
-            name,
-            chassis,
-        ),
-    }
-}
-
-// Puts the zone behind the others, if it comes.
-fn push_coming(
-    zones: &mut List<(ZoneUse, Name)>,
-    before: &Homes,
-    change: &HomeChange,
-    zone: &ZoneUse,
-    chassis: &Name,
+// Puts who has the name with its home, if it comes there.
+fn put_comer(
+    comers: &mut BTreeMap<Name, Name>,
+    before: &BTreeMap<Name, Name>,
+    name: &Name,
+    home: &Option<Name>,
 ) -> Result<(), NoMemory>
-    ensures { OnOk result (zones.new ≡ zones.old ++ cond (stays_on before.now change.now chassis.now zone.now) [] ((zone.now, chassis.now) ∷ [])) }
+    ensures { OnOk result ((q : Name) → at comers.new.entries q ≡ cond (is_at (slice_cmp nat_cmp name.now) q) (option_or (comes_to (at before.now.entries name.now) (Some home.now)) (at comers.old.entries q)) (at comers.old.entries q)) }
 {
-    if stays_on(before, change, chassis, zone) {
-        return Ok(());
+    match home {
+        Some(chassis) if !is_home_on(before.get(name), chassis) => {
+            comers.insert(*name, *chassis)?;
+            Ok(())
+        }
+        _ => Ok(()),
     }
-    zones.push((*zone, *chassis))?;
-    Ok(())
 }
 
-// The zones that come, each with its chassis.
+// Those of the named who come to a chassis, each with it.
+fn comers(
+    alloc: Global,
+    before: &BTreeMap<Name, Name>,
+    change: &[(Name, Option<Name>)],
+) -> Result<BTreeMap<Name, Name>, NoMemory>
+    requires { EachOnce (map (λ e. e.0) change.now) }
+    ensures { IfOk result (λ m. AreComers before.now.entries change.now m.entries) }
+{
+    let mut comers = BTreeMap::new(alloc);
+    'change: for (name, home) in change {
+        put_comer(&mut comers, before, name, home)?;
+    }
+    names_ascend(&comers);
+    Ok(comers)
+}
+
+// The zones that come, each with its chassis: those of the named, since who isn't named stays.
 pub(crate) fn coming(
     alloc: Global,
     before: &Homes,
     change: &HomeChange,
-    after: &Homes,
 ) -> Result<List<(ZoneUse, Name)>, NoMemory>
-    ensures { IfOk result (λ l. l ≡ coming before.now change.now after.now) }
+    requires ports_once { EachOnce (map (λ e. e.0) change.now.ports) }
+    requires routers_once { EachOnce (map (λ e. e.0) change.now.routers) }
+    ensures { IfOk result (λ l. (after : KnownHomes) → IsRehomed before.now change.now after → l ≡ coming before.now change.now after) }
 {
-    let all = zones_in(alloc, after)?;
-    let mut zones = List::new(alloc);
-    'all: for (zone, chassis) in all.as_slice() {
-        push_coming(&mut zones, before, change, zone, chassis)?;
-    }
-    Ok(zones)
+    let nobody = BTreeMap::new(alloc);
+    let comers = Homes {
+        ports: comers(alloc, &before.ports, change.ports.as_slice())?,
+        routers: comers(alloc, &nobody, change.routers.as_slice())?,
+    };
+    zones_in(alloc, &comers)
 }

@@ -137,8 +137,8 @@ impl ConnZones {
     {
         let alloc = self.alloc;
         let homes = self.homes.after(change)?;
-        let mut numbers = self.numbers.kept(&homes, change)?;
-        let zones = coming(alloc, &self.homes, change, &homes)?;
+        let mut numbers = self.numbers.kept(alloc, &homes, change)?;
+        let zones = coming(alloc, &self.homes, change)?;
         give_each(alloc, &mut numbers, zones.as_slice())?;
         Ok(ConnZones {
             alloc,
