@@ -1,24 +1,22 @@
 -- What an edit without a fault leaves is valid, and its owners were there or come with it.
-use Rattle.std.specs.Prelude.{◌≡◌, ◌≤◌, ◌⊎◌, ◌++◌, ◌&&◌, ◌||◌, ℕ, Bool, true, false, not, List, [], ◌∷◌, map, Option, Some, None, option_map, is_some, unwrap_or, refl}
+use Rattle.std.specs.Prelude.{◌≡◌, ◌≤◌, ◌⊎◌, ◌++◌, ◌||◌, ℕ, Bool, true, false, not, List, [], ◌∷◌, map, Option, Some, None, option_map, is_some, unwrap_or, refl}
 use Rattle.std.specs.List.{AllByRecursion}
-use Rattle.std.proofs.lemmas.Bool.{false≢true, true≢false}
+use Rattle.std.proofs.lemmas.Bool.{true≢false}
 use mathlib.Core.Path.{sym, ap, subst, ◌∙◌}
 use mathlib.Core.Logic.{inl, inr}
 use Rattle.match_language.specs.Nesting.{FitsLevels}
 use Rattle.match_language.specs.declared.expr.Expr.{Expr}
 use Rattle.match_language.specs.declared.field.Direction.{Direction}
 use Rattle.match_language.specs.declared.field.Direction.TheVariants as way
-use Rattle.ovn_base.specs.declared.address.Birth.{Birth}
 use Rattle.ovn_base.specs.declared.limits.TheConstants.{MAX_DEPTH}
 use Rattle.ovn_base.specs.declared.name.Name.{Name}
-use Rattle.ovn_base.specs.lists.Among.{Among}
 use Rattle.ovn_base.specs.names.ByName.{at, IsByName}
 use Rattle.ovn_base.specs.names.NameText.{IsName}
 use Rattle.ovn_base.proofs.AmongLaws.{among_all, all_among, among_append, map_among, among_map, among_left, among_right}
-use Rattle.ovn_base.proofs.ByNameLaws.{at_among, put_cases}
+use Rattle.ovn_base.proofs.ByNameLaws.{put_cases}
 use Rattle.nb_records.specs.Editing.{born, changed_record, with_change, with_listed_marks, operated, accepted, new_or}
-use Rattle.nb_records.specs.Grammar.{IfGiven, IsInGrammar, IsChangeInGrammar, IsOpInGrammar, IsDirected, IsAcl, kind_of_change}
-use Rattle.nb_records.specs.Network.{Network, AreInOrder, with_record, without_record, record_at, records_of, is_there, kind_of, name_of, birth_of, marked}
+use Rattle.nb_records.specs.Grammar.{IfGiven, IsInGrammar, IsChangeInGrammar, IsOpInGrammar, IsDirected, IsAcl}
+use Rattle.nb_records.specs.Network.{Network, AreInOrder, with_record, without_record, record_at, records_of, is_there, kind_of, name_of, marked}
 use Rattle.nb_records.specs.Switches.{or_else}
 use Rattle.nb_records.specs.declared.balancer.LoadBalancer.{LoadBalancer}
 use Rattle.nb_records.specs.declared.balancer.OfflineMark.{OfflineMark}
@@ -44,14 +42,13 @@ use Rattle.nb_rules.specs.First.{fault_if}
 use Rattle.nb_rules.specs.FirstBroken.{first_broken}
 use Rattle.nb_rules.specs.Valid.{IsValid, AreNamed, AreApart, AreAtTheirNames}
 use Rattle.nb_rules.specs.declared.fault.SchemaFault.{SchemaFault}
-use Rattle.net_model.specs.Owners.{owners_of}
 use Rattle.tunnel_keys.specs.Owners.{birth_in}
 use Rattle.tunnel_keys.specs.declared.owner.KeyOwner.{KeyOwner}
 use Rattle.tunnel_keys.specs.declared.owner.KeyOwner.TheVariants.{Datapath, Port}
 use Rattle.nb_edits.proofs.DirectionLaws.{fits_too}
 use Rattle.nb_edits.proofs.KindLists.{IsKept, put_kept, removed_kept, kept_at, removed_at, put_apart, apart_put, removed_apart, apart_removed, apart_at, apart_back}
 use Rattle.nb_edits.proofs.OwnerLaws.{Owns}
-use Rattle.nb_edits.specs.Directions.{is_from, names_outport, misdirects}
+use Rattle.nb_edits.specs.Directions.{misdirects}
 use Rattle.nb_edits.specs.OpFaults.{is_taken_for, is_misdirected, is_misdirecting, op_fault, ops_fault}
 
 -- ---- what is kept by each operation

@@ -1,7 +1,5 @@
 -- A mark breaks no rule: no rule reads the marks.
-use Rattle.std.specs.Prelude.{◌≡◌, ◌≤◌, ℕ, Bool, true, false, List, [], ◌∷◌, Option, Some, None, refl}
-use Rattle.std.specs.List.{AllByRecursion}
-use mathlib.Core.Path.{sym, ap, subst, ◌∙◌}
+use Rattle.std.specs.Prelude.{◌≡◌, ℕ, Bool, true, false, List, [], ◌∷◌, None, refl}
 use Rattle.ovn_base.specs.declared.address.Backend.{Backend}
 use Rattle.ovn_base.specs.declared.name.Name.{Name}
 use Rattle.nb_records.specs.Network.{Network, is_there, marked, records_of}

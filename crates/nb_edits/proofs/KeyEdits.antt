@@ -1,9 +1,8 @@
 -- The owners by which valid records differ are an edit that fits their keys.
-use Rattle.std.specs.Prelude.{◌≡◌, ◌≢◌, ◌<◌, ◌⊎◌, ◌++◌, ℕ, Bool, true, false, not, List, map, Option, Some, None, option_map, is_some, refl}
-use Rattle.std.specs.List.{AllByRecursion, filter}
+use Rattle.std.specs.Prelude.{◌≡◌, ◌⊎◌, ℕ, Bool, true, false, not, List, map, Option, Some, None, option_map, is_some, refl}
 use Rattle.std.proofs.lemmas.Bool.{false≢true}
 use Rattle.std.proofs.lemmas.Option.{none-some, same_Some}
-use mathlib.Core.Path.{sym, ap, subst, ◌∙◌}
+use mathlib.Core.Path.{sym, ap, ◌∙◌}
 use mathlib.Core.Logic.{inl, inr}
 use native.Mathlib.Omega.{arith}
 use Rattle.ovn_base.specs.declared.address.Birth.{Birth}
@@ -12,8 +11,7 @@ use Rattle.ovn_base.specs.lists.Among.{Among}
 use Rattle.ovn_base.specs.names.ByName.{at}
 use Rattle.ovn_base.proofs.AmongLaws.{among_all, among_right, among_left, among_map, among_filter, filter_among}
 use Rattle.ovn_base.proofs.ByNameLaws.{at_among}
-use Rattle.nb_records.specs.Network.{Network, records_of, is_there}
-use Rattle.nb_records.specs.declared.kinds.Kind.TheVariants as kind
+use Rattle.nb_records.specs.Network.{Network, records_of}
 use Rattle.nb_records.specs.declared.record.Record.{Record}
 use Rattle.nb_records.specs.declared.record.Record.TheVariants as row
 use Rattle.nb_records.specs.declared.router.Router.{Router}
@@ -26,11 +24,9 @@ use Rattle.nb_rules.specs.Unbroken.{AreThere, AreUnbroken}
 use Rattle.nb_rules.specs.Valid.{IsValid}
 use Rattle.net_model.specs.Owners.{owners_of, owners_only_in}
 use Rattle.tunnel_keys.proofs.Lists.{once_filter}
-use Rattle.tunnel_keys.specs.Edits.{IsKeyEdit, IsLive, IsNew, IsThereAfter}
-use Rattle.tunnel_keys.specs.Keys.{Keys, held_datapaths, held_ports, held_datapath, held_port}
+use Rattle.tunnel_keys.specs.Edits.{IsKeyEdit, IsNew, IsThereAfter}
+use Rattle.tunnel_keys.specs.Keys.{Keys}
 use Rattle.tunnel_keys.specs.Owners.{is_listed, birth_in}
-use Rattle.tunnel_keys.specs.declared.owner.HeldDatapath.{HeldDatapath}
-use Rattle.tunnel_keys.specs.declared.owner.HeldPort.{HeldPort}
 use Rattle.tunnel_keys.specs.declared.owner.KeyOwner.{KeyOwner}
 use Rattle.tunnel_keys.specs.declared.owner.KeyOwner.TheVariants.{Datapath, Port}
 use Rattle.nb_edits.proofs.OwnerLaws.{IsDatapath, IsPort, among_owns, datapath_among, listed_among, among_listed, owners_once}

@@ -10,5 +10,6 @@ pub mod EditValidity
 pub mod MarkOrder
 pub mod MarkLaws
 pub mod RecordLaws
+pub mod TouchedLaws
 pub mod EditSoundness
 pub mod HealthLaws

@@ -1,21 +1,17 @@
 -- Marks stay ones of backends that their balancers list.
-use Rattle.std.specs.Prelude.{◌≡◌, ℕ, true, false, List, [], ◌∷◌, Option, Some, None, refl}
-use Rattle.std.specs.List.{AllByRecursion, filter}
+use Rattle.std.specs.Prelude.{◌≡◌, ℕ, true, false, List, [], ◌∷◌, None}
+use Rattle.std.specs.List.{AllByRecursion}
 use Rattle.std.proofs.lemmas.Bool.{false≢true}
 use mathlib.Core.Path.{sym, ap, subst, ◌∙◌}
 use mathlib.Core.Logic.{inl, inr}
-use Rattle.ovn_base.specs.declared.name.Name.{Name}
-use Rattle.ovn_base.specs.lists.Among.{Among}
-use Rattle.ovn_base.specs.names.ByName.{at, put}
+use Rattle.ovn_base.specs.names.ByName.{at}
 use Rattle.ovn_base.proofs.AmongLaws.{among_all, all_among, filter_among}
 use Rattle.ovn_base.proofs.ByNameLaws.{one_or_two, put_other}
 use Rattle.nb_records.specs.Editing.{born, with_change, with_listed_marks, operated, accepted, lists_backend}
 use Rattle.nb_records.specs.Network.{Network, with_record, without_record, record_at, kind_of, name_of, mark_of}
-use Rattle.nb_records.specs.declared.balancer.LoadBalancer.{LoadBalancer}
 use Rattle.nb_records.specs.declared.balancer.OfflineMark.{OfflineMark}
 use Rattle.nb_records.specs.declared.change.Op.{Op}
 use Rattle.nb_records.specs.declared.change.Op.TheVariants as op
-use Rattle.nb_records.specs.declared.kinds.Kind.TheVariants as kind
 use Rattle.nb_records.specs.declared.record.Record.{Record}
 use Rattle.nb_records.specs.declared.record.Record.TheVariants as row
 use Rattle.nb_rules.specs.First.{fault_if}

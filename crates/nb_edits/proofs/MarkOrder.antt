@@ -11,9 +11,8 @@ use Rattle.std.specs.declared.cmp.Ordering.TheVariants.{Less, Equal, Greater}
 use Rattle.std.proofs.lemmas.Cmp.{nat_list_cmp_total}
 use Rattle.std.proofs.lemmas.List.Kept.{IsStrictlySortedBy-filter}
 use mathlib.Core.Path.{sym, ap, subst, ◌∙◌}
-use Rattle.ovn_base.specs.declared.address.Backend.{Backend}
 use Rattle.ovn_base.specs.declared.name.Name.{Name}
-use Rattle.nb_records.specs.Editing.{born, changed_record, with_change, with_listed_marks, operated, accepted}
+use Rattle.nb_records.specs.Editing.{born, changed_record, with_change, operated, accepted}
 use Rattle.nb_records.specs.Network.{Network, AreInOrder, with_record, without_record, record_at, mark_cmp, backend_cmp}
 use Rattle.nb_records.specs.declared.balancer.OfflineMark.{OfflineMark}
 use Rattle.nb_records.specs.declared.change.Change.{Change}

@@ -1,7 +1,7 @@
 -- Owners of keys, by the records that own them.
-use Rattle.std.specs.Prelude.{◌≡◌, ◌⊎◌, ◌++◌, ◌&&◌, ◌||◌, Bool, true, false, not, List, map, Option, Some, None, refl}
+use Rattle.std.specs.Prelude.{◌≡◌, ◌⊎◌, ◌++◌, ◌&&◌, Bool, true, false, not, List, map, Option, Some, None, refl}
 use Rattle.std.specs.Cmp.{first_so, second_so}
-use Rattle.std.specs.List.{AllByRecursion, filter}
+use Rattle.std.specs.List.{filter}
 use Rattle.std.proofs.lemmas.Bool.{false≢true, and_from, or_cases, or_left, or_right}
 use mathlib.Core.Path.{sym, ap, subst, ◌∙◌}
 use mathlib.Core.Logic.{inl, inr}
@@ -21,7 +21,7 @@ use Rattle.nb_records.specs.declared.switch.Switch.{Switch}
 use Rattle.nb_records.specs.declared.switch.SwitchPort.{SwitchPort}
 use Rattle.nb_rules.specs.Valid.{IsValid, AreApart}
 use Rattle.net_model.specs.Owners.{switch_owner, router_owner, router_port_owner, switch_port_owner, owners_of, owners_only_in}
-use Rattle.tunnel_keys.specs.Owners.{is_listed, name_in, birth_in, place_in}
+use Rattle.tunnel_keys.specs.Owners.{is_listed, name_in}
 use Rattle.tunnel_keys.specs.Same.{same_birth, same_owner, name_exact, name_own, birth_exact, birth_own, owner_exact, owner_own}
 use Rattle.tunnel_keys.specs.declared.owner.KeyOwner.{KeyOwner}
 use Rattle.tunnel_keys.specs.declared.owner.KeyOwner.TheVariants.{Datapath, Port}

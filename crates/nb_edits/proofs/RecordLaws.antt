@@ -74,7 +74,8 @@ set_twice (row.LoadBalancer r) (row.LoadBalancer s) t h k = absurd k
 set_twice (row.StaticMac r) (row.StaticMac s) t h k = absurd k
 set_twice r s t h k = absurd h
 
-same_birth : (r s : Record) → IsSetOf r s → birth_of r ≡ birth_of s
+-- a record that is another one but for values that were set has its birth
+pub same_birth : (r s : Record) → IsSetOf r s → birth_of r ≡ birth_of s
 same_birth (row.Switch r) (row.Switch s) h = ap (λ (x : Switch). x.birth) h
 same_birth (row.Router r) (row.Router s) h = ap (λ (x : Router). x.birth) h
 same_birth (row.RouterPort r) (row.RouterPort s) h = ap (λ (x : RouterPort). x.birth) h
@@ -254,7 +255,7 @@ found_without net f kind.StaticMac p kind.StaticMac q r h =
     ap (option_map row.StaticMac) (removed_at _ net.static_macs (f.each kind.StaticMac).sorted q x.0 x.1) ∙ ap Some x.2
 found_without net f j p k q r h = h
 
-found_unmarked : (net : Network) (marks : List OfflineMark) (k : Kind) (q : Name) → record_at (record net { offline = marks }) k q ≡ record_at net k q
+pub found_unmarked : (net : Network) (marks : List OfflineMark) (k : Kind) (q : Name) → record_at (record net { offline = marks }) k q ≡ record_at net k q
 found_unmarked net marks kind.Switch q = refl
 found_unmarked net marks kind.Router q = refl
 found_unmarked net marks kind.RouterPort q = refl

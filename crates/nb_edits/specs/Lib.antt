@@ -3,4 +3,5 @@ pub mod Directions
 pub mod OpFaults
 pub mod Owners
 pub mod Plans
+pub mod Touched
 pub mod EditLeaves

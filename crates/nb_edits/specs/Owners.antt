@@ -1,6 +1,7 @@
 -- Whether records have an owner of keys, by what stands at its name.
-use Rattle.std.specs.Prelude.{◌&&◌, ◌||◌, Bool, false, not, List, map, Option, Some, None}
+use Rattle.std.specs.Prelude.{◌&&◌, ◌||◌, Bool, false, not, List, [], ◌∷◌, Option, Some, None}
 use Rattle.std.specs.List.{filter}
+use Rattle.ovn_base.specs.declared.name.Name.{Name}
 use Rattle.ovn_base.specs.names.ByName.{at}
 use Rattle.ovn_base.specs.names.SameName.{same_name}
 use Rattle.nb_records.specs.Network.{Network}
@@ -8,11 +9,9 @@ use Rattle.nb_records.specs.declared.router.Router.{Router}
 use Rattle.nb_records.specs.declared.router.RouterPort.{RouterPort}
 use Rattle.nb_records.specs.declared.switch.Switch.{Switch}
 use Rattle.nb_records.specs.declared.switch.SwitchPort.{SwitchPort}
-use Rattle.net_model.specs.Owners.{switch_owner, router_owner, router_port_owner, switch_port_owner}
 use Rattle.tunnel_keys.specs.Same.{same_birth}
 use Rattle.tunnel_keys.specs.declared.owner.KeyOwner.{KeyOwner}
 use Rattle.tunnel_keys.specs.declared.owner.KeyOwner.TheVariants as owner
-use Rattle.nb_edits.specs.declared.owners.KindOwners.{KindOwners}
 
 -- a record of the test stands there
 abbrev pub passes : {X : Type 0} → (X → Bool) → Option X → Bool
@@ -31,6 +30,11 @@ has_owner net (owner.Port datapath name birth) =
 abbrev pub only_in : Network → List KeyOwner → List KeyOwner
 only_in net owners = filter (λ o. not (has_owner net o)) owners
 
--- the owners of the records, kind by kind
-abbrev pub kind_owners : Network → KindOwners
-kind_owners net = record { switches = map switch_owner net.switches; routers = map router_owner net.routers; router_ports = map router_port_owner net.router_ports; switch_ports = map switch_port_owner net.switch_ports }
+-- the owner of a record that stands at the name
+abbrev pub owner_in : {X : Type 0} → (Name × X → KeyOwner) → Name → Option X → List KeyOwner
+owner_in owner name None = []
+owner_in owner name (Some x) = owner (name, x) ∷ []
+
+-- it, if the other records don't have it
+abbrev pub new_at : {X : Type 0} → Network → (Name × X → KeyOwner) → List (Name × X) → Name → List KeyOwner
+new_at net owner entries name = only_in net (owner_in owner name (at entries name))

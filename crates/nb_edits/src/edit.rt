@@ -3,12 +3,13 @@ ghost use Rattle.std.specs.Prelude.{◌≡◌};
 ghost use Rattle.nb_edits.specs.Plans.{Plans};
 
 use crate::operate::operate_all;
-use crate::owners::{kind_owners, new_owners};
+use crate::owners::new_owners;
 use crate::plan::{EditFault, EditPlan};
 use nb_records::change::Op;
 use nb_records::records::Records;
 use nb_rules::check::first_broken_indexed;
 use std::alloc::Global;
+use std::collections::BTreeSet;
 
 /// The edit by the event of this number: what the operations leave, one after another, or the first that is wrong with them or with
 /// the records after all. The records stay.
@@ -23,16 +24,15 @@ pub fn plan(
     ensures same { records.new ≡ records.old }
 {
     let mut after = records.copy()?;
-    if let Err(fault) = operate_all(&mut after, ops, number) {
+    let mut touched = BTreeSet::new(alloc);
+    if let Err(fault) = operate_all(&mut after, ops, number, &mut touched) {
         return Err(fault);
     }
     if let Some(fault) = first_broken_indexed(alloc, &after, ops)? {
         return Err(EditFault::Schema(fault));
     }
-    let owners = kind_owners(alloc, records)?;
-    let owners_after = kind_owners(alloc, &after)?;
-    let added = new_owners(alloc, records, &owners, &owners_after)?;
-    let removed = new_owners(alloc, &after, &owners_after, &owners)?;
+    let added = new_owners(alloc, records, &after, &touched)?;
+    let removed = new_owners(alloc, &after, records, &touched)?;
     Ok(EditPlan {
         after,
         added,

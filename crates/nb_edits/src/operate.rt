@@ -1,10 +1,14 @@
 //! The operations of an edit, one after another.
 ghost use Rattle.std.specs.Prelude.{◌≡◌, None, IfOk, OnOk, IfErr};
+ghost use Rattle.std.specs.BTreeSet.{insert_key};
+ghost use Rattle.std.specs.Cmp.Lexicographic.{slice_cmp};
+ghost use Rattle.std.specs.Ordering.{nat_cmp};
 ghost use Rattle.nb_records.specs.Editing.{operated, accepted};
 ghost use Rattle.nb_records.specs.Network as net;
 ghost use Rattle.nb_records.specs.declared.change.Op.TheVariants as form;
 ghost use Rattle.nb_edits.specs.OpFaults as spec;
 ghost use Rattle.nb_edits.specs.Plans.{Refuses};
+ghost use Rattle.nb_edits.specs.Touched.{touched_name, touched_names};
 
 use crate::born::born;
 use crate::change::changed;
@@ -18,6 +22,7 @@ use nb_records::records::Records;
 use nb_rules::fault::SchemaFault;
 use ovn_base::memory::NoMemory;
 use ovn_base::name::Name;
+use std::collections::BTreeSet;
 
 fn kind_of(row: &Record) -> Kind
     ensures { result ≡ net.kind_of row.now }
@@ -131,7 +136,9 @@ fn record_at(records: &Records, kind: Kind, name: &Name) -> Result<Option<Record
     }
 }
 
-fn add(records: &mut Records, row: &Record, number: u64) -> Result<(), EditFault>
+// Adds the record, and answers its name.
+fn add(records: &mut Records, row: &Record, number: u64) -> Result<Name, EditFault>
+    ensures touched { IfOk result (λ q. q ≡ touched_name records.old (form.Add row.now)) }
     ensures ok { OnOk result (spec.op_fault records.old (form.Add row.now) ≡ None) }
     ensures after { OnOk result (records.new ≡ operated records.old (form.Add row.now) number) }
     ensures err { IfErr result (λ e. Refuses e (spec.op_fault records.old (form.Add row.now))) }
@@ -144,16 +151,18 @@ fn add(records: &mut Records, row: &Record, number: u64) -> Result<(), EditFault
         return Err(EditFault::Schema(SchemaFault::BadDirection(name)));
     }
     records.put(born(row, number)?)?;
-    Ok(())
+    Ok(name)
 }
 
+// Gives the record the values of the change, and answers the record's own name.
 fn set(
     records: &mut Records,
     kind: Kind,
     name: &Name,
     change: &Change,
     number: u64,
-) -> Result<(), EditFault>
+) -> Result<Name, EditFault>
+    ensures touched { IfOk result (λ q. q ≡ touched_name records.old (form.Set kind name.now change.now)) }
     ensures ok { OnOk result (spec.op_fault records.old (form.Set kind name.now change.now) ≡ None) }
     ensures after { OnOk result (records.new ≡ operated records.old (form.Set kind name.now change.now) number) }
     ensures err { IfErr result (λ e. Refuses e (spec.op_fault records.old (form.Set kind name.now change.now))) }
@@ -166,10 +175,12 @@ fn set(
     }
     records.put(changed(change, &record)?)?;
     drop_unlisted(records)?;
-    Ok(())
+    Ok(name_of(&record))
 }
 
-fn remove(records: &mut Records, kind: Kind, name: &Name, number: u64) -> Result<(), EditFault>
+// Takes the record out, and answers its name.
+fn remove(records: &mut Records, kind: Kind, name: &Name, number: u64) -> Result<Name, EditFault>
+    ensures touched { IfOk result (λ q. q ≡ touched_name records.old (form.Remove kind name.now)) }
     ensures ok { OnOk result (spec.op_fault records.old (form.Remove kind name.now) ≡ None) }
     ensures after { OnOk result (records.new ≡ operated records.old (form.Remove kind name.now) number) }
     ensures err { IfErr result (λ e. Refuses e (spec.op_fault records.old (form.Remove kind name.now))) }
@@ -178,10 +189,12 @@ fn remove(records: &mut Records, kind: Kind, name: &Name, number: u64) -> Result
         return Err(EditFault::Schema(SchemaFault::NoSuch(*name)));
     }
     drop_unlisted(records)?;
-    Ok(())
+    Ok(*name)
 }
 
-fn operate(records: &mut Records, op: &Op, number: u64) -> Result<(), EditFault>
+// Does the operation, and answers the name of the only records that it can change.
+fn operate(records: &mut Records, op: &Op, number: u64) -> Result<Name, EditFault>
+    ensures touched { IfOk result (λ q. q ≡ touched_name records.old op.now) }
     ensures ok { OnOk result (spec.op_fault records.old op.now ≡ None) }
     ensures after { OnOk result (records.new ≡ operated records.old op.now number) }
     ensures err { IfErr result (λ e. Refuses e (spec.op_fault records.old op.now)) }
@@ -196,13 +209,26 @@ fn operate(records: &mut Records, op: &Op, number: u64) -> Result<(), EditFault>
             online,
         } => {
             records.mark(balancer, *backend, *online)?;
-            Ok(())
+            Ok(*balancer)
         }
     }
 }
 
-/// The operations one after another, up to the first that has a fault.
-pub(crate) fn operate_all(records: &mut Records, ops: &[Op], number: u64) -> Result<(), EditFault>
+fn touch(names: &mut BTreeSet<Name>, name: Name) -> Result<(), NoMemory>
+    ensures { OnOk result (names.new.keys ≡ insert_key (slice_cmp nat_cmp) names.old.keys name) }
+{
+    names.insert(name)?;
+    Ok(())
+}
+
+/// The operations one after another, up to the first that has a fault. The names come to the others of which they can change records.
+pub(crate) fn operate_all(
+    records: &mut Records,
+    ops: &[Op],
+    number: u64,
+    names: &mut BTreeSet<Name>,
+) -> Result<(), EditFault>
+    ensures touched { OnOk result (names.new.keys ≡ touched_names records.old names.old.keys ops.now number) }
     ensures ok { OnOk result (spec.ops_fault records.old ops.now number ≡ None) }
     ensures after { OnOk result (records.new ≡ accepted records.old ops.now number) }
     ensures err { IfErr result (λ e. Refuses e (spec.ops_fault records.old ops.now number)) }
@@ -211,7 +237,10 @@ pub(crate) fn operate_all(records: &mut Records, ops: &[Op], number: u64) -> Res
         return Ok(());
     };
     match operate(records, op, number) {
-        Ok(()) => operate_all(records, others, number),
+        Ok(name) => {
+            touch(names, name)?;
+            operate_all(records, others, number, names)
+        }
         Err(fault) => Err(fault),
     }
 }

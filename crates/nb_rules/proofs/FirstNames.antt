@@ -1,7 +1,8 @@
 -- The first name of a list of references, and the references of a match by its parts.
-use Rattle.std.specs.Prelude.{◌≡◌, ◌<◌, ◌+◌, ℕ, length, drop, get_or, Bool, true, false, cond, List, [], ◌∷◌, ◌++◌, map, Some}
+use Rattle.std.specs.Prelude.{◌≡◌, ◌<◌, ◌+◌, ℕ, length, drop, get_or, Bool, true, false, cond, List, [], ◌∷◌, ◌++◌, map, option_map, Option, Some, None}
 use Rattle.std.specs.List.{flat_map}
 use Rattle.std.proofs.Common.{refl, sym, ap, ◌∙◌}
+use Rattle.std.proofs.lemmas.Bool.{false≢true}
 use Rattle.std.proofs.lemmas.List.{drop_more}
 use Rattle.match_language.specs.declared.expr.Expr.{Expr, Expr-F, fold-roll-Expr}
 use Rattle.match_language.specs.declared.expr.Expr.TheVariants as ex
@@ -9,8 +10,15 @@ use Rattle.match_language.specs.declared.expr.Rel.{Rel}
 use Rattle.match_language.specs.declared.expr.Value.{Value}
 use Rattle.match_language.specs.declared.field.Field.{Field}
 use Rattle.match_language.specs.declared.field.Predicate.{Predicate}
-use Rattle.nb_records.specs.Switches.{or_else}
-use Rattle.nb_rules.specs.References.{Reference, value_references, layer_references, match_references, first_named}
+use Rattle.ovn_base.specs.declared.name.Name.{Name}
+use Rattle.ovn_base.specs.names.SameName.{bytes_decides}
+use Rattle.nb_records.specs.Network.{Network}
+use Rattle.nb_records.specs.Switches.{is_given, or_else}
+use Rattle.nb_records.specs.declared.change.Op.{Op}
+use Rattle.nb_records.specs.declared.kinds.Kind.TheVariants as kind
+use Rattle.nb_records.specs.declared.record.Record.TheVariants as row
+use Rattle.nb_records.specs.declared.switch.SwitchPort.{SwitchPort}
+use Rattle.nb_rules.specs.References.{Reference, value_references, layer_references, match_references, is_missing, first_named, missing_by, reference_fault}
 
 named_by : (test : Reference → Bool) (x : Reference) (xs ys : List Reference) (b : Bool) → first_named test (xs ++ ys) ≡ or_else (first_named test xs) (first_named test ys)
     → cond b (Some x.1) (first_named test (xs ++ ys)) ≡ or_else (cond b (Some x.1) (first_named test xs)) (first_named test ys)
@@ -57,3 +65,18 @@ references_any xs = ap match_references (sym (ex.rolls-Any xs)) ∙ fold-roll-Ex
 pub references_compare : (f : Field) (r : Rel) (vs : List Value) → match_references (ex.Compare f r vs) ≡ flat_map value_references vs
 unfolding match_references
 references_compare f r vs = ap match_references (sym (ex.rolls-Compare f r vs)) ∙ fold-roll-Expr (List Reference) layer_references (Expr-F.Compare f r vs)
+
+-- ---- a port whose references are there
+
+none_named : {A : Type 0} (f : Name → A) (b : Bool) (name : Name) (rest : Option Name) → option_map f (cond b (Some name) rest) ≡ None → b ≡ false
+none_named f true name rest h = absurd cc
+none_named f false name rest h = refl
+
+-- its switch isn't missing
+pub switch_there : (net : Network) (ops : List Op) (removed : Bool) (r : SwitchPort) → reference_fault net ops removed (row.SwitchPort r) ≡ None → is_missing net ops removed (kind.Switch, r.switch) ≡ false
+switch_there net ops removed r h = none_named (missing_by removed r.name) (is_missing net ops removed (kind.Switch, r.switch)) r.switch _ h
+
+-- a name that is given is the one
+pub given_is : (name : Name) (o : Option Name) → is_given name o ≡ true → o ≡ Some name
+given_is name None h = absurd (false≢true h)
+given_is name (Some given) h = ap Some ((bytes_decides given name).0 h)

@@ -1,10 +1,9 @@
--- Where each place has one holder, no two ports of a switch have one address.
-use Rattle.std.specs.Prelude.{◌≡◌, ◌++◌, ◌&&◌, ◌||◌, ℕ, Bool, true, false, cond, List, [], ◌∷◌, map, flat_map, Option, Some, None}
-use Rattle.std.specs.BTreeMap.{is_at}
+-- Where each mark has one holder, no two ports of a switch have one address.
+use Rattle.std.specs.Prelude.{◌≡◌, ◌++◌, ◌&&◌, ◌||◌, ℕ, Bool, true, false, cond, List, [], ◌∷◌, map, flat_map, option_map, Option, Some, None}
 use Rattle.std.specs.Cmp.{first_so, second_so}
 use Rattle.std.specs.List.{list_any, list_all, AllByRecursion}
-use Rattle.std.specs.Map.{lookup}
-use Rattle.std.specs.Ordering.{is_lt, nat_cmp}
+use Rattle.std.specs.Option.{option_map_or}
+use Rattle.std.specs.Ordering.{is_lt}
 use Rattle.std.proofs.Common.{refl, sym, ap, subst, ◌∙◌, append_assoc}
 use Rattle.std.proofs.lemmas.Bool.{false≢true, cases_Bool}
 use Rattle.std.proofs.lemmas.Bool.Decides.{Decides-eqb}
@@ -21,36 +20,38 @@ use Rattle.ovn_base.specs.names.SameName.{same_name, bytes_decides}
 use Rattle.ovn_base.proofs.AmongLaws.{among_all, all_among, among_map, among_flat_map, any_among, among_any}
 use Rattle.nb_records.specs.Network.{Network}
 use Rattle.nb_records.specs.Routers.{nats_of, served_ips, has_own_ip, answers_if, contains}
-use Rattle.nb_records.specs.Switches.{balancers_of, is_given, same_ip, same_mac, macs_of, has_mac, ips_in_entry, router_port_behind}
+use Rattle.nb_records.specs.Switches.{balancers_of, same_ip, same_mac, macs_of, has_mac, ips_in_entry, router_port_behind}
 use Rattle.nb_records.specs.declared.balancer.LoadBalancer.{LoadBalancer}
 use Rattle.nb_records.specs.declared.router.Nat.{Nat}
 use Rattle.nb_records.specs.declared.router.RouterPort.{RouterPort}
 use Rattle.nb_records.specs.declared.switch.PortKind.{PortKind}
 use Rattle.nb_records.specs.declared.switch.PortKind.TheVariants as port_kind
 use Rattle.nb_records.specs.declared.switch.SwitchPort.{SwitchPort}
-use Rattle.nb_rules.specs.Claims.{place_on, claim_of, mac_claim, port_macs, mac_claims, ip_claim, claims_to, port_ips, ip_claims, mark_of, is_holder, HaveOneHolder}
+use Rattle.nb_rules.specs.Claims.{mixed_all, mark_on, claim_of, mac_claim, port_macs, mac_claims, ip_claim, claims_to, port_ips, ip_claims, claim_at, is_holder, HaveOneHolder}
 use Rattle.nb_rules.specs.First.{least_of, lesser}
 use Rattle.nb_rules.specs.Holders.{is_switch_mate, is_before, has_mate, is_mac_shared, shared_mac, mac_number_of, the_mac, ip_number, the_ip, own_ips, known_ips, ips_by_kind, holds_by_kind, holds_ip, is_ip_shared, shared_ip, mac_fault, ip_fault, twice_mac, twice_ip}
 use Rattle.nb_rules.specs.declared.claims.Claim.{Claim}
-use Rattle.nb_rules.specs.declared.claims.Place.{Place}
 use Rattle.nb_rules.proofs.Validity.{none_each, mapped}
 
--- ---- an index of holders
+-- ---- an index of claims
 
-given_some : (name : Name) (o : Option Name) → is_given name o ≡ true → o ≡ Some name
-given_some name None h = absurd (false≢true h)
-given_some name (Some given) h = ap Some ((bytes_decides given name).0 h)
+abbrev holder_in : Option Claim → Option Name
+holder_in claim = option_map (λ (c : Claim). c.holder) claim
 
-all_hold : (holders : List (ℕ × Name)) (claims : List Claim) → list_all (is_holder holders) claims ≡ true
-    → AllByRecursion (λ (c : Claim). lookup (is_at (nat_cmp (mark_of c.place))) holders ≡ Some c.holder) claims
-all_hold holders [] h = tt
-all_hold holders (c ∷ claims) h = (
-  given_some c.holder (lookup (is_at (nat_cmp (mark_of c.place))) holders) (first_so (is_holder holders c) (list_all (is_holder holders) claims) h),
-  all_hold holders claims (second_so (is_holder holders c) (list_all (is_holder holders) claims) h),
-)
+same_holder : (name : Name) (claim : Option Claim) → option_map_or (λ (d : Claim). same_name d.holder name) claim false ≡ true → holder_in claim ≡ Some name
+same_holder name None h = absurd (false≢true h)
+same_holder name (Some d) h = ap Some ((bytes_decides d.holder name).0 h)
 
-pub one_holder : (holders : List (ℕ × Name)) (claims : List Claim) → list_all (is_holder holders) claims ≡ true → HaveOneHolder claims
-one_holder holders claims h = ((λ place. lookup (is_at (nat_cmp (mark_of place))) holders), all_hold holders claims h)
+module _ (index : List (ℕ × ℕ)) (all : List Claim) where
+  all_hold : (claims : List Claim) → list_all (is_holder index all) claims ≡ true → AllByRecursion (λ (c : Claim). holder_in (claim_at index all c.mark) ≡ Some c.holder) claims
+  all_hold [] h = tt
+  all_hold (c ∷ claims) h = (
+    same_holder c.holder (claim_at index all c.mark) (first_so (is_holder index all c) (list_all (is_holder index all) claims) h),
+    all_hold claims (second_so (is_holder index all c) (list_all (is_holder index all) claims) h),
+  )
+
+pub one_holder : (index : List (ℕ × ℕ)) (claims : List Claim) → list_all (is_holder index claims) claims ≡ true → HaveOneHolder claims
+one_holder index claims h = ((λ mark. holder_in (claim_at index claims mark)), all_hold index claims claims h)
 
 -- ---- addresses that a port holds
 
@@ -114,35 +115,35 @@ and_false : (a b : Bool) → b ≡ false → (a && b) ≡ false
 and_false true b h = h
 and_false false b h = refl
 
-module _ (net : Network) (holder : Place → Option Name) where
+module _ (net : Network) (holder : ℕ → Option Name) where
   -- the index tells each port that passes the test, at its switch
   abbrev Tells : ℕ → (SwitchPort → Bool) → Type 0
-  Tells n test = (e : Name × SwitchPort) → Among e net.switch_ports → test e.1 ≡ true → holder (place_on e.1 n) ≡ Some e.1.name
+  Tells n test = (e : Name × SwitchPort) → Among e net.switch_ports → test e.1 ≡ true → holder (mark_on e.1 n) ≡ Some e.1.name
 
-  no_mate : (q : SwitchPort) (n : ℕ) (test : SwitchPort → Bool) → Tells n test → holder (place_on q n) ≡ Some q.name → has_mate net q test ≡ false
+  no_mate : (q : SwitchPort) (n : ℕ) (test : SwitchPort → Bool) → Tells n test → holder (mark_on q n) ≡ Some q.name → has_mate net q test ≡ false
   no_mate q n test tells own = elim (cases_Bool (has_mate net q test)) [
     | inl some ↦
         let e = any_among (λ (e : Name × SwitchPort). is_switch_mate q e.1 && test e.1) net.switch_ports some in
         let mate = first_so (is_switch_mate q e.0.1) (test e.0.1) e.2 in
         let there = (bytes_decides e.0.1.switch q.switch).0 (first_so (same_name e.0.1.switch q.switch) (is_before e.0.1.name q.name) mate) in
         let told = tells e.0 e.1 (second_so (is_switch_mate q e.0.1) (test e.0.1) e.2) in
-        let one : e.0.1.name ≡ q.name = some_one e.0.1.name q.name (sym told ∙ ap (λ (s : Name). holder (record { number = n; switch = s })) there ∙ own) in
+        let one : e.0.1.name ≡ q.name = some_one e.0.1.name q.name (sym told ∙ ap (λ (s : Name). holder (mixed_all n s)) there ∙ own) in
         absurd (not_before e.0.1.name q.name one (second_so (same_name e.0.1.switch q.switch) (is_before e.0.1.name q.name) mate))
     | inr none ↦ none
   ]
 
 -- ---- Ethernet addresses
 
-module _ (net : Network) (holder : Place → Option Name) (all : AllByRecursion (λ (c : Claim). holder c.place ≡ Some c.holder) (mac_claims net)) where
-  mac_told : (e : Name × SwitchPort) → Among e net.switch_ports → (mac : Mac) → Among mac (macs_of net e.1) → holder (place_on e.1 mac.number) ≡ Some e.1.name
+module _ (net : Network) (holder : ℕ → Option Name) (all : AllByRecursion (λ (c : Claim). holder c.mark ≡ Some c.holder) (mac_claims net)) where
+  mac_told : (e : Name × SwitchPort) → Among e net.switch_ports → (mac : Mac) → Among mac (macs_of net e.1) → holder (mark_on e.1 mac.number) ≡ Some e.1.name
   mac_told e there mac has =
-      among_all (λ (c : Claim). holder c.place ≡ Some c.holder) (mac_claim e.1 mac) (mac_claims net) all
+      among_all (λ (c : Claim). holder c.mark ≡ Some c.holder) (mac_claim e.1 mac) (mac_claims net) all
       (among_flat_map (λ (d : Name × SwitchPort). port_macs net d.1) e (mac_claim e.1 mac) net.switch_ports there (among_map (mac_claim e.1) mac (macs_of net e.1) has))
 
   mac_tells : (mac : Mac) → Tells net holder mac.number (has_mac net mac)
   mac_tells mac e there has =
       let m = any_among (same_mac mac) (macs_of net e.1) has in
-      ap (λ (n : ℕ). holder (place_on e.1 n)) ((Decides-eqb mac.number m.0.number).0 m.2) ∙ mac_told e there m.0 m.1
+      ap (λ (n : ℕ). holder (mark_on e.1 n)) ((Decides-eqb mac.number m.0.number).0 m.2) ∙ mac_told e there m.0 m.1
 
   macs_apart : (e : Name × SwitchPort) → Among e net.switch_ports → shared_mac net e.1 ≡ None
   macs_apart e there =
@@ -151,13 +152,13 @@ module _ (net : Network) (holder : Place → Option Name) (all : AllByRecursion 
 
 -- ---- IPv4 addresses
 
-module _ (net : Network) (holder : Place → Option Name) (all : AllByRecursion (λ (c : Claim). holder c.place ≡ Some c.holder) (ip_claims net)) where
+module _ (net : Network) (holder : ℕ → Option Name) (all : AllByRecursion (λ (c : Claim). holder c.mark ≡ Some c.holder) (ip_claims net)) where
   claimed : (q : SwitchPort) (ip : Ip4) → holds_ip net ip q ≡ true → Among (claim_of q ip.0) (ip_claim net q ip)
   claimed q ip holds = subst (λ (b : Bool). Among (claim_of q ip.0) (cond b (claim_of q ip.0 ∷ []) [])) (sym holds) here
 
-  ip_told : (e : Name × SwitchPort) → Among e net.switch_ports → (ip : Ip4) → Among ip (ips_by_kind net e.1 e.1.kind) → holds_ip net ip e.1 ≡ true → holder (place_on e.1 ip.0) ≡ Some e.1.name
+  ip_told : (e : Name × SwitchPort) → Among e net.switch_ports → (ip : Ip4) → Among ip (ips_by_kind net e.1 e.1.kind) → holds_ip net ip e.1 ≡ true → holder (mark_on e.1 ip.0) ≡ Some e.1.name
   ip_told e there ip known holds =
-      among_all (λ (c : Claim). holder c.place ≡ Some c.holder) (claim_of e.1 ip.0) (ip_claims net) all
+      among_all (λ (c : Claim). holder c.mark ≡ Some c.holder) (claim_of e.1 ip.0) (ip_claims net) all
       (among_flat_map (λ (d : Name × SwitchPort). port_ips net d.1) e (claim_of e.1 ip.0) net.switch_ports there
       (among_flat_map (ip_claim net e.1) ip (claim_of e.1 ip.0) (ips_by_kind net e.1 e.1.kind) known (claimed e.1 ip holds)))
 

@@ -1,26 +1,35 @@
--- Claims of ports to addresses on their switches. Where each place has one holder, no two ports of a switch have one address.
-use Rattle.std.specs.Prelude.{◌≡◌, ◌*◌, ◌+◌, ◌%◌, ◌^◌, ℕ, Bool, true, cond, List, [], ◌∷◌, map, flat_map, Option, Some, None}
-use Rattle.std.specs.BTreeMap.{is_at}
+-- Claims of ports to addresses on their switches. Where each mark has one holder, no two ports of a switch have one address.
+use Rattle.std.specs.Prelude.{◌≡◌, ◌*◌, ◌+◌, ◌%◌, ◌^◌, nat_eq, ℕ, Bool, true, false, cond, List, [], ◌∷◌, map, flat_map, slice_get, Option, Some, None}
 use Rattle.std.specs.List.{AllByRecursion}
 use Rattle.std.specs.Map.{lookup}
-use Rattle.std.specs.Ordering.{nat_cmp}
+use Rattle.std.specs.Option.{option_and_then, option_map_or}
 use Rattle.ovn_base.specs.declared.address.Ip4.{Ip4}
 use Rattle.ovn_base.specs.declared.address.Mac.{Mac}
 use Rattle.ovn_base.specs.declared.name.Name.{Name}
+use Rattle.ovn_base.specs.names.SameName.{same_name}
 use Rattle.nb_records.specs.Network.{Network}
-use Rattle.nb_records.specs.Switches.{is_given, macs_of}
+use Rattle.nb_records.specs.Switches.{macs_of}
 use Rattle.nb_records.specs.declared.switch.SwitchPort.{SwitchPort}
 use Rattle.nb_rules.specs.Holders.{holds_ip, ips_by_kind, twice_mac, twice_ip}
 use Rattle.nb_rules.specs.declared.claims.Claim.{Claim}
-use Rattle.nb_rules.specs.declared.claims.Place.{Place}
 
--- an address on a switch, by its number
-abbrev pub place_on : SwitchPort → ℕ → Place
-place_on q number = record { number = number; switch = q.switch }
+-- ---- marks
+
+-- the mark with one more byte
+abbrev pub mixed : ℕ → ℕ → ℕ
+mixed mark byte = (mark * 257 + byte) % 2 ^ 64
+
+abbrev pub mixed_all : ℕ → List ℕ → ℕ
+mixed_all mark [] = mark
+mixed_all mark (byte ∷ bytes) = mixed_all (mixed mark byte) bytes
+
+-- a number for an address on a switch, which few others have: the address, and the bytes of the name of the switch as further digits
+abbrev pub mark_on : SwitchPort → ℕ → ℕ
+mark_on q number = mixed_all number q.switch
 
 -- the port's claim to the address
 abbrev pub claim_of : SwitchPort → ℕ → Claim
-claim_of q number = record { place = place_on q number; holder = q.name }
+claim_of q number = record { mark = mark_on q number; holder = q.name }
 
 -- ---- the claims of a port, and of all ports
 
@@ -48,25 +57,17 @@ ip_claims net = flat_map (λ (e : Name × SwitchPort). port_ips net e.1) net.swi
 
 -- ---- one holder
 
--- the mark with one more byte
-abbrev pub mixed : ℕ → ℕ → ℕ
-mixed mark byte = (mark * 257 + byte) % 2 ^ 64
+-- the claim of the mark to which the index leads
+abbrev pub claim_at : List (ℕ × ℕ) → List Claim → ℕ → Option Claim
+claim_at index claims mark = option_and_then (slice_get claims) (lookup (nat_eq mark) index)
 
-abbrev pub mixed_all : ℕ → List ℕ → ℕ
-mixed_all mark [] = mark
-mixed_all mark (byte ∷ bytes) = mixed_all (mixed mark byte) bytes
+-- it is of the same holder
+abbrev pub is_holder : List (ℕ × ℕ) → List Claim → Claim → Bool
+is_holder index claims c = option_map_or (λ (d : Claim). same_name d.holder c.holder) (claim_at index claims c.mark) false
 
--- a number for the place, which few others have: the address, and the bytes of the name of the switch as further digits
-abbrev pub mark_of : Place → ℕ
-mark_of p = mixed_all p.number p.switch
-
--- the holder at the mark of the claim's place is the claim's
-abbrev pub is_holder : List (ℕ × Name) → Claim → Bool
-is_holder holders c = is_given c.holder (lookup (is_at (nat_cmp (mark_of c.place))) holders)
-
--- each place has one holder
+-- each mark has one holder
 abbrev pub HaveOneHolder : List Claim → Type 0
-HaveOneHolder claims = (holder : Place → Option Name) × AllByRecursion (λ (c : Claim). holder c.place ≡ Some c.holder) claims
+HaveOneHolder claims = (holder : ℕ → Option Name) × AllByRecursion (λ (c : Claim). holder c.mark ≡ Some c.holder) claims
 
 -- no two ports of a switch have one address
 pub record ArePortsApart (net : Network) : Type 0 where

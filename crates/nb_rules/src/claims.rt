@@ -1,6 +1,7 @@
 //! Whether two ports of a switch have one address, by an index of all addresses.
-ghost use Rattle.std.specs.Prelude.{◌≡◌, ◌++◌, ◌∷◌, [], true, map, flat_map, None, IfOk, OnOk};
+ghost use Rattle.std.specs.Prelude.{◌≡◌, ◌++◌, ◌∷◌, [], true, map, flat_map, None, IfOk, OnOk, slice_get};
 ghost use Rattle.std.specs.List.{list_all};
+ghost use Rattle.std.specs.Option.{option_copied};
 ghost use Rattle.nb_records.specs.Routers as routing;
 ghost use Rattle.nb_records.specs.Switches as facts;
 ghost use Rattle.nb_records.specs.Switches.{ips_in_entry};
@@ -19,20 +20,30 @@ use ovn_base::list::List;
 use ovn_base::memory::NoMemory;
 use ovn_base::name::Name;
 use std::alloc::Global;
-use std::collections::BTreeMap;
+use std::collections::HashMap;
 
-/// An address on a switch, by its number.
-#[derive(Clone, Copy, PartialEq, Eq, Debug)]
-pub(crate) struct Place {
-    number: u64,
-    switch: Name,
-}
-
-/// That a port of the switch has the address.
+/// That a port has an address on its switch.
 #[derive(Clone, Copy, PartialEq, Eq, Debug)]
 pub(crate) struct Claim {
-    place: Place,
+    // A number for the address and the switch, which few others have.
+    mark: u64,
     holder: Name,
+}
+
+fn mixed(mark: u64, byte: u8) -> u64
+    ensures { result ≡ spec.mixed mark byte }
+{
+    mark.wrapping_mul(257).wrapping_add(u64::from(byte))
+}
+
+fn mixed_all(number: u64, bytes: &[u8]) -> u64
+    ensures { result ≡ spec.mixed_all number bytes.now }
+{
+    let mut mark = number;
+    'bytes: for byte in bytes {
+        mark = mixed(mark, *byte);
+    }
+    mark
 }
 
 // Adds the port's claim to the address.
@@ -40,10 +51,7 @@ fn push_claim(port: &SwitchPort, number: u64, claims: &mut List<Claim>) -> Resul
     ensures { OnOk result (claims.new ≡ claims.old ++ spec.claim_of port.now number ∷ []) }
 {
     claims.push(Claim {
-        place: Place {
-            number,
-            switch: port.switch,
-        },
+        mark: mixed_all(number, port.switch.text()),
         holder: port.name,
     })
 }
@@ -217,59 +225,46 @@ fn ip_claims(alloc: Global, records: &Records) -> Result<List<Claim>, NoMemory>
 
 // ---- one holder
 
-fn mixed(mark: u64, byte: u8) -> u64
-    ensures { result ≡ spec.mixed mark byte }
-{
-    mark.wrapping_mul(257).wrapping_add(u64::from(byte))
-}
-
-fn mixed_all(number: u64, bytes: &[u8]) -> u64
-    ensures { result ≡ spec.mixed_all number bytes.now }
-{
-    let mut mark = number;
-    'bytes: for byte in bytes {
-        mark = mixed(mark, *byte);
+// Where the last claim of each mark stands.
+fn index_of(alloc: Global, claims: &[Claim]) -> Result<HashMap<u64, usize>, NoMemory> {
+    let mut index = HashMap::with_capacity(alloc, claims.len())?;
+    for place in 0..claims.len() {
+        index.insert(claims[place].mark, place)?;
     }
-    mark
+    Ok(index)
 }
 
-// The mark of the place.
-fn mark_of(place: &Place) -> u64
-    ensures { result ≡ spec.mark_of place.now }
+fn claim_at(claims: &[Claim], place: usize) -> Option<&Claim>
+    ensures { option_copied result ≡ slice_get claims.now place }
 {
-    mixed_all(place.number, place.switch.text())
+    claims.get(place)
 }
 
-// The last holder of each mark.
-fn holders(alloc: Global, claims: &[Claim]) -> Result<BTreeMap<u64, Name>, NoMemory> {
-    let mut holders = BTreeMap::new(alloc);
-    for claim in claims {
-        holders.insert(mark_of(&claim.place), claim.holder)?;
-    }
-    Ok(holders)
-}
-
-fn is_holder(holders: &BTreeMap<u64, Name>, claim: &Claim) -> bool
-    ensures { result ≡ spec.is_holder holders.now.entries claim.now }
+// The claim of that mark to which the index leads is of the same holder.
+fn is_holder(index: &HashMap<u64, usize>, claims: &[Claim], claim: &Claim) -> bool
+    ensures { result ≡ spec.is_holder index.now.entries claims.now claim.now }
 {
-    match holders.get(&mark_of(&claim.place)) {
-        Some(holder) => *holder == claim.holder,
+    match index.get(&claim.mark) {
+        Some(place) => match claim_at(claims, *place) {
+            Some(other) => other.holder == claim.holder,
+            None => false,
+        },
         None => false,
     }
 }
 
-fn all_hold(holders: &BTreeMap<u64, Name>, claims: &[Claim]) -> bool
-    ensures { result ≡ list_all (spec.is_holder holders.now.entries) claims.now }
+fn all_hold(index: &HashMap<u64, usize>, claims: &[Claim]) -> bool
+    ensures { result ≡ list_all (spec.is_holder index.now.entries claims.now) claims.now }
 {
-    claims.iter().all(|claim| is_holder(holders, claim))
+    claims.iter().all(|claim| is_holder(index, claims, claim))
 }
 
-// Each place has one holder. It may answer `false` where it does.
+// Each mark has one holder. It may answer `false` where it does.
 fn have_one_holder(alloc: Global, claims: &[Claim]) -> Result<bool, NoMemory>
     ensures { IfOk result (λ b. b ≡ true → spec.HaveOneHolder claims.now) }
 {
-    let holders = holders(alloc, claims)?;
-    Ok(all_hold(&holders, claims))
+    let index = index_of(alloc, claims)?;
+    Ok(all_hold(&index, claims))
 }
 
 #[tactic(auto, using(crate::proofs::OneHolder::no_mac_twice))]

@@ -1,7 +1,9 @@
 //! Names of records that aren't there.
-ghost use Rattle.std.specs.Prelude.{◌≡◌, [], ◌∷◌, option_map};
+ghost use Rattle.std.specs.Prelude.{◌≡◌, [], ◌∷◌, true, false, option_map};
 ghost use Rattle.std.specs.List.{list_any, flat_map};
+ghost use Rattle.nb_records.specs.declared.kinds.Kind.TheVariants as kind;
 ghost use Rattle.nb_records.specs.declared.record.Record.TheVariants as row;
+ghost use Rattle.nb_rules.specs.First as first;
 ghost use Rattle.nb_rules.specs.First.{first_record};
 ghost use Rattle.nb_rules.specs.References as spec;
 
@@ -12,6 +14,7 @@ use nb_records::balancer::LoadBalancer;
 use nb_records::change::Op;
 use nb_records::kinds::Kind;
 use nb_records::records::Records;
+use nb_records::references::is_given;
 use nb_records::router::{Nat, Route, RouterPort, StaticMac};
 use nb_records::rule::{Acl, PortGroup};
 use nb_records::switch::SwitchPort;
@@ -185,20 +188,6 @@ impl Clause<RouterPort> for Missing<'_> {
     }
 }
 
-impl Clause<SwitchPort> for Missing<'_> {
-    ghost broken = { λ m r. spec.reference_fault m.records.now m.ops.now m.removed (row.SwitchPort r) };
-
-    fn broken(&self, port: &SwitchPort) -> Option<SchemaFault> {
-        if let Some(name) = self.in_name(Kind::Switch, &port.switch) {
-            return self.fault(&port.name, Some(name));
-        }
-        self.fault(
-            &port.name,
-            self.in_given(Kind::RouterPort, &port.router_port),
-        )
-    }
-}
-
 impl Clause<PortGroup> for Missing<'_> {
     ghost broken = { λ m r. spec.reference_fault m.records.now m.ops.now m.removed (row.PortGroup r) };
 
@@ -264,6 +253,37 @@ impl Clause<StaticMac> for Missing<'_> {
     }
 }
 
+// What is wrong with the port, if it names a record that is missing. Its switch may be known not to be.
+fn port_fault(clause: &Missing, port: &SwitchPort, is_known: bool) -> Option<SchemaFault>
+    requires { is_known ≡ true → spec.is_missing clause.now.records.now clause.now.ops.now clause.now.removed (kind.Switch, port.now.switch) ≡ false }
+    ensures { result ≡ spec.reference_fault clause.now.records.now clause.now.ops.now clause.now.removed (row.SwitchPort port.now) }
+{
+    if !is_known {
+        if let Some(name) = clause.in_name(Kind::Switch, &port.switch) {
+            return clause.fault(&port.name, Some(name));
+        }
+    }
+    clause.fault(
+        &port.name,
+        clause.in_given(Kind::RouterPort, &port.router_port),
+    )
+}
+
+// What is wrong with the first switch port that names a record that is missing. Its switch is looked up where the port before it
+// has another.
+fn first_port(clause: &Missing) -> Option<SchemaFault>
+    ensures { result ≡ first.first_of (λ r. spec.reference_fault clause.now.records.now clause.now.ops.now clause.now.removed (row.SwitchPort r)) clause.now.records.now.switch_ports }
+{
+    let mut known: Option<Name> = None;
+    'ports: for (_name, port) in clause.records.switch_ports() {
+        if let Some(fault) = port_fault(clause, port, is_given(&port.switch, &known)) {
+            return Some(fault);
+        }
+        known = Some(port.switch);
+    }
+    None
+}
+
 /// What is wrong with the first record that names one that is missing.
 #[tactic(auto, using(crate::proofs::EachKind::all_references))]
 pub(crate) fn first_missing(clause: &Missing) -> Option<SchemaFault>
@@ -273,7 +293,7 @@ pub(crate) fn first_missing(clause: &Missing) -> Option<SchemaFault>
     if let Some(fault) = first_of(clause, records.router_ports()) {
         return Some(fault);
     }
-    if let Some(fault) = first_of(clause, records.switch_ports()) {
+    if let Some(fault) = first_port(clause) {
         return Some(fault);
     }
     if let Some(fault) = first_of(clause, records.port_groups()) {

@@ -3,4 +3,4 @@ use Rattle.nb_rules.proofs.OneHolder.{one_holder}
 use Rattle.nb_rules.proofs.claims.have_one_holder.Goals as goal
 
 pub returns : goal.returns
-returns c = λ h. one_holder c.in_ok-holders.holders.entries c.args.claims.now (sym c.all_hold.ensures ∙ h)
+returns c = λ h. one_holder c.in_ok-index.index.entries c.args.claims.now (sym c.all_hold.ensures ∙ h)
