@@ -7,3 +7,6 @@ pub mod Fronts
 pub mod Outcomes
 pub mod Emptying
 pub mod Rezoning
+pub mod ZoneNumbers
+pub mod Readiness
+pub mod Passages

@@ -70,9 +70,9 @@ module _ {K V : Type 0} (same : K → K → Bool) where
   set_append [] rest key had = refl
   set_append (s ∷ ss) rest key had = set_append ss rest key (cond (same s.0 key) s.1 had)
 
-module _ {X : Type 0} where
-  -- the same names stand there after a value is written
-  pub written_some : (test other : Name → Bool) (es : List (Name × X)) (new : X) → is_some (lookup other (set_value test es new)) ≡ is_some (lookup other es)
+module _ {K X : Type 0} where
+  -- the same keys stand there after a value is written
+  pub written_some : (test other : K → Bool) (es : List (K × X)) (new : X) → is_some (lookup other (set_value test es new)) ≡ is_some (lookup other es)
   written_some test other [] new = refl
   written_some test other (e ∷ es) new = by (test e.0) (written_some test other es new)
     where
@@ -89,6 +89,7 @@ module _ {X : Type 0} where
           rest true = refl
           rest false = ih
 
+module _ {X : Type 0} where
   -- a name that isn't there is found nowhere
   pub none_named : (es : List (Name × X)) (name : Name) → ¬ Among name (keys_of es) → at_name es name ≡ None
   none_named [] name absent = refl

@@ -93,6 +93,10 @@ HasRoomFor room number (Some held) = zone_at held.zones number ≡ None → room
 abbrev pub HaveRoom : ℕ → List (Name × HeldZones) → List (Name × ℕ) → Type 0
 HaveRoom room held emptied = AllByRecursion (λ e. HasRoomFor room e.1 (at_name held e.0)) emptied
 
+-- what had room for a zone still has it
+abbrev pub KeepsRoom : List (Name × HeldZones) → List (Name × HeldZones) → Type 0
+KeepsRoom old new = (room number : ℕ) (name : Name) → HasRoomFor room number (at_name old name) → HasRoomFor room number (at_name new name)
+
 -- no zone, and room for so many
 pub record IsFresh (room : ℕ) (held : HeldZones) : Type 0 where
   pub none : held.zones ≡ []
@@ -108,14 +112,22 @@ module _ {T : Type 0} (ready : T → Delta Flow → Type 0) where
   abbrev pub AreReady : List (Name × T) → List (Name × Delta Flow) → Type 0
   AreReady held tables = AllByRecursion (λ table. IsReadyFor table.1 (at_name held table.0)) tables
 
-  -- there is room for what the change brings, and the tables are ready for its deltas, of which no two are for one chassis
+  -- the tables are ready for the deltas, there is room for the zones that are emptied, and fresh zones for each chassis that comes
+  pub record AreReadied (change : SimChange T) (held : List (Name × T)) (lists : List (Name × HeldZones)) (coming : List HeldZones) : Type 0 where
+    pub tables : AreReady held change.tables
+    pub zones : HaveRoom (length change.emptied) lists change.emptied
+    pub enough : length change.added ≤ length coming
+    pub fresh : AllByRecursion (IsFresh (length change.emptied)) coming
+
+  -- there is room for what the change brings, and all is ready for its deltas, of which no two are for one chassis, and its zones
   pub record IsPrepared (room : SimRoom T) (change : SimChange T) : Type 0 where
     pub chassis : length change.added ≤ room.chassis
     pub bindings : length change.bound ≤ room.bindings
     pub names : length change.names ≤ room.names
     pub zoned : length change.added ≤ room.zoned
-    pub fresh : length change.added ≤ length room.fresh
-    pub each_fresh : AllByRecursion (IsFresh (length change.emptied)) room.fresh
-    pub zones : HaveRoom (length change.emptied) room.zones change.emptied
-    pub tables : AreReady room.tables change.tables
+    pub readied : AreReadied change room.tables room.zones room.fresh
     pub once : EachOnce (keys_of change.tables)
+
+  -- each change that was prepared is still prepared
+  abbrev pub StaysPrepared : SimRoom T → SimRoom T → Type 0
+  StaysPrepared old new = (change : SimChange T) → IsPrepared old change → IsPrepared new change

@@ -1,5 +1,5 @@
 -- What always holds of what the chassis hold.
-use Rattle.std.specs.Prelude.{◌≡◌, ℕ, List, [], ◌∷◌, Option, Some, None, is_some}
+use Rattle.std.specs.Prelude.{◌≡◌, ℕ, false, List, [], ◌∷◌, Option, Some, None, is_some}
 use Rattle.std.specs.List.{AllByRecursion}
 use Rattle.std.specs.List.Sorted.{IsStrictlySortedBy}
 use Rattle.std.specs.Map.{keys_of, set_value}
@@ -14,12 +14,15 @@ use Rattle.switch_engine.specs.declared.effect.Entry.{Entry}
 use Rattle.switch_engine.specs.declared.effect.Entry.TheVariants.{Vif, Tunnel}
 use Rattle.switch_engine.specs.declared.walk.RunOut.{RunOut}
 use Rattle.switch_engine.specs.declared.walk.Step.{Step}
-use Rattle.switch_engine.specs.Outcome.{Choosing}
+use Rattle.switch_engine.specs.Framed.{CanBeSent}
+use Rattle.switch_engine.specs.Outcome.{Choosing, any_legal, of_program}
 use Rattle.switch_engine.specs.Proper.{IsProper}
 use Rattle.switch_engine.specs.Walk.{IsWalk, start}
-use Rattle.switch_engine.specs.Zones.{ZoneLists}
+use Rattle.switch_engine.specs.Zones.{HeldZones, ZoneLists}
+use Rattle.chassis_sim.specs.Changing.{KeepsRoom}
 use Rattle.chassis_sim.specs.Frames.{IsWaiting}
 use Rattle.chassis_sim.specs.State.{SimState, at_name}
+use Rattle.chassis_sim.specs.Tables.{rooms_held, zones_held}
 
 -- the flows of each chassis are proper
 abbrev pub AreProper : List (Name × List Flow) → Type 0
@@ -60,3 +63,15 @@ abbrev pub Passes : Choosing → Name → Option (List Flow) → Entry → ℕ �
 Passes by chassis None entry now packet before after run = (run.walk ≡ []) × (run.effects ≡ lost_at entry) × (after ≡ before)
 Passes by chassis (Some flows) entry now packet before after run =
     (lists : ZoneLists) × (left : ZoneLists) × (at_name before chassis ≡ Some lists) × (after ≡ with_lists before chassis left) × IsWalkBy by flows entry now packet lists run.walk run.effects left
+
+-- the packet passes with the choices of the program, which are legal; its frames can be sent, and what had room for a zone still has it
+pub record IsPassage (chassis : Name) (flows : Option (List Flow)) (entry : Entry) (now : ℕ) (packet : Packet) (old new : List (Name × HeldZones)) (run : RunOut) : Type 0 where
+  pub any : Passes any_legal chassis flows entry now packet (zones_held old) (zones_held new) run
+  pub own : Passes of_program chassis flows entry now packet (zones_held old) (zones_held new) run
+  pub can : AllByRecursion CanBeSent run.effects
+  pub room : KeepsRoom old new
+
+-- at most the lists of this chassis are others: those of each other chassis stay, and so does for how many more zones there is room
+pub record KeepsOthers (chassis : Name) (old new : List (Name × HeldZones)) : Type 0 where
+  pub lists : (other : Name) → same_name chassis other ≡ false → at_name (zones_held new) other ≡ at_name (zones_held old) other
+  pub rooms : rooms_held new ≡ rooms_held old

@@ -6,7 +6,7 @@ ghost use Rattle.indexmap.specs.IndexMap.{get, spare};
 ghost use Rattle.ovn_base.specs.declared.name.Name.{Name};
 ghost use Rattle.ovn_base.specs.lists.Once.{EachOnce};
 ghost use Rattle.ovn_base.specs.names.SameName.{same_name};
-ghost use Rattle.chassis_sim.specs.Changing.{AllAreDeltas, AreReady, AreReplaced, IsDeltaOfAny, IsReadyFor, given_name, gone, come, without_zone, HasRoomFor, HaveRoom, IsFresh};
+ghost use Rattle.chassis_sim.specs.Changing.{AllAreDeltas, AreReady, AreReadied, AreReplaced, IsDeltaOfAny, IsReadyFor, given_name, gone, come, without_zone, HasRoomFor, KeepsRoom, IsFresh};
 ghost use Rattle.chassis_sim.specs.Settings.{AreSet};
 ghost use Rattle.chassis_sim.specs.State.{at_name, same_pair};
 ghost use Rattle.chassis_sim.specs.Tables.{flows_held, zones_held};
@@ -71,10 +71,7 @@ pub(crate) fn make_ready<T: Lookup>(
     ensures lists { zones_held zones.new.entries ≡ zones_held zones.old.entries }
     ensures room { OnOk result (length change.now.added ≤ spare held.new) }
     ensures zoned { OnOk result (length change.now.added ≤ spare zones.new) }
-    ensures tables { OnOk result (AreReady T.ready held.new.entries change.now.tables) }
-    ensures zones { OnOk result (HaveRoom (length change.now.emptied) zones.new.entries change.now.emptied) }
-    ensures enough { IfOk result (λ fresh. length change.now.added ≤ length fresh) }
-    ensures fresh { IfOk result (λ fresh. AllByRecursion (IsFresh (length change.now.emptied)) fresh) }
+    ensures ready { IfOk result (AreReadied T.ready change.now held.new.entries zones.new.entries) }
 {
     let alloc = *held.allocator();
     held.reserve(change.added.len())?;
@@ -120,7 +117,7 @@ pub(crate) fn remove_each<T: Lookup + Drop>(
 )
     ensures gone { AreSet same_name (map gone names) (flows_held T.flows held.old.entries) (flows_held T.flows held.new.entries) }
     ensures zones { AreSet same_name (map gone names) (zones_held zones.old.entries) (zones_held zones.new.entries) }
-    ensures room { (n z : ℕ) (name : Name) → HasRoomFor n z (at_name zones.old.entries name) → HasRoomFor n z (at_name zones.new.entries name) }
+    ensures room { KeepsRoom zones.old.entries zones.new.entries }
     ensures spare { spare held.old ≤ spare held.new }
     ensures zoned { spare zones.old ≤ spare zones.new }
 {

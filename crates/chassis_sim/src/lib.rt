@@ -6,6 +6,7 @@
 
 pub mod change;
 mod chassis;
+mod copies;
 mod frames;
 pub mod laws;
 mod names;

@@ -1,6 +1,7 @@
 //! What the chassis answer.
-ghost use Rattle.std.specs.Prelude.{◌≡◌, []};
+ghost use Rattle.std.specs.Prelude.{◌≡◌, [], IfOk};
 
+use crate::copies::{copy_effects, copy_walks};
 use ovn_base::list::List;
 use ovn_base::memory::NoMemory;
 use ovn_base::name::Name;
@@ -27,6 +28,16 @@ impl SimOut {
             effects: List::new(alloc),
             walks: List::new(alloc),
         }
+    }
+
+    /// Equal effects and walks in memory of their own.
+    pub fn copy(&self) -> Result<Self, NoMemory>
+        ensures { IfOk result (λ o. o ≡ self.now) }
+    {
+        Ok(SimOut {
+            effects: copy_effects(&self.effects)?,
+            walks: copy_walks(&self.walks)?,
+        })
     }
 }
 

@@ -1,16 +1,15 @@
 //! A packet goes through the tables and the zones of a chassis.
-ghost use Rattle.std.specs.Prelude.{◌≡◌, [], false, IfOk};
+ghost use Rattle.std.specs.Prelude.{◌≡◌, ℕ, [], Some, IfOk, OnOk};
 ghost use Rattle.std.specs.List.{AllByRecursion};
 ghost use Rattle.indexmap.specs.IndexMap.{spare};
 ghost use Rattle.inet_packet.specs.Whole.{IsWhole};
-ghost use Rattle.ovn_base.specs.declared.name.Name.{Name};
-ghost use Rattle.ovn_base.specs.names.SameName.{same_name};
 ghost use Rattle.switch_engine.specs.Framed.{CanBeSent};
 ghost use Rattle.switch_engine.specs.Outcome.{any_legal, of_program};
 ghost use Rattle.switch_engine.specs.Proper.{IsEntry, IsProper};
-ghost use Rattle.chassis_sim.specs.Holding.{AreChassis, IsWalkBy, Passes, lost_at};
+ghost use Rattle.chassis_sim.specs.Changing.{HasRoomFor};
+ghost use Rattle.chassis_sim.specs.Holding.{AreChassis, IsPassage, IsWalkBy, KeepsOthers, lost_at};
 ghost use Rattle.chassis_sim.specs.State.{at_name};
-ghost use Rattle.chassis_sim.specs.Tables.{flows_held, rooms_held, zones_held};
+ghost use Rattle.chassis_sim.specs.Tables.{flows_held, zones_held};
 
 use crate::zones::ZoneMap;
 use flow_table::lookup::Lookup;
@@ -52,6 +51,7 @@ fn through<T: Lookup>(
     ensures any { IfOk result (λ run. IsWalkBy any_legal (T.flows tables.now) entry.now now packet zones.old.zones run.walk run.effects zones.new.zones) }
     ensures own { IfOk result (λ run. IsWalkBy of_program (T.flows tables.now) entry.now now packet zones.old.zones run.walk run.effects zones.new.zones) }
     ensures can { IfOk result (λ run. AllByRecursion CanBeSent run.effects) }
+    ensures more { OnOk result ((room number : ℕ) → HasRoomFor room number (Some zones.old) → HasRoomFor room number (Some zones.new)) }
     ensures room { zones.new.room ≡ zones.old.room }
 {
     let mut out = RunOut::new(alloc);
@@ -71,12 +71,9 @@ pub(crate) fn pass<T: Lookup>(
     requires chassis { AreChassis (flows_held T.flows held.now.entries) (zones_held zones.old.entries) }
     requires entry { IsEntry entry.now }
     requires whole { IsWhole packet }
-    ensures any { IfOk result (λ run. Passes any_legal chassis.now (at_name (flows_held T.flows held.now.entries) chassis.now) entry.now now packet (zones_held zones.old.entries) (zones_held zones.new.entries) run) }
-    ensures own { IfOk result (λ run. Passes of_program chassis.now (at_name (flows_held T.flows held.now.entries) chassis.now) entry.now now packet (zones_held zones.old.entries) (zones_held zones.new.entries) run) }
-    ensures can { IfOk result (λ run. AllByRecursion CanBeSent run.effects) }
+    ensures ok { IfOk result (IsPassage chassis.now (at_name (flows_held T.flows held.now.entries) chassis.now) entry.now now packet zones.old.entries zones.new.entries) }
     ensures chassis { AreChassis (flows_held T.flows held.now.entries) (zones_held zones.new.entries) }
-    ensures others { (other : Name) → same_name chassis.now other ≡ false → at_name (zones_held zones.new.entries) other ≡ at_name (zones_held zones.old.entries) other }
-    ensures room { rooms_held zones.new.entries ≡ rooms_held zones.old.entries }
+    ensures others { KeepsOthers chassis.now zones.old.entries zones.new.entries }
     ensures spare { spare zones.new ≡ spare zones.old }
 {
     let alloc = *held.allocator();

@@ -5,11 +5,11 @@ ghost use Rattle.std.specs.Map.{keys_of};
 ghost use Rattle.ovn_base.specs.lists.Once.{EachOnce};
 ghost use Rattle.inet_packet.specs.Whole.{IsWhole};
 ghost use Rattle.flow_table.specs.declared.flow.Flow.{Flow};
-ghost use Rattle.chassis_sim.specs.Changing.{AllAreDeltas, IsApplied, IsPrepared, IsProperChange};
+ghost use Rattle.chassis_sim.specs.Changing.{AllAreDeltas, IsApplied, IsPrepared, IsProperChange, StaysPrepared};
 ghost use Rattle.chassis_sim.specs.Holding.{IsSimState};
 ghost use Rattle.chassis_sim.specs.Passing.{AnswersInject, AnswersArrive, AnswersLose};
 ghost use Rattle.chassis_sim.specs.State.{nothing_held, at_name, flow_at};
-ghost use Rattle.chassis_sim.specs.Tables.{rooms_held, seen_by};
+ghost use Rattle.chassis_sim.specs.Tables.{rooms_held, seen_by, zones_held};
 ghost use Rattle.switch_engine.specs.Zones.{all_expired};
 
 use crate::change::SimChange;
@@ -102,9 +102,11 @@ impl<T: Lookup + Drop> Sim<T> {
     }
 
     /// What always holds: the flows are proper, just the chassis that are held have zones, and each frame that waits carries
-    /// a whole packet and has a number below the next one. It does nothing.
+    /// a whole packet and has a number below the next one; and the zones that have room are those with the connection lists. It
+    /// does nothing.
     pub fn state_holds(&self)
-        ensures { IsSimState self.now.state }
+        ensures state { IsSimState self.now.state }
+        ensures zones { zones_held self.now.room.zones ≡ self.now.state.zones }
     {
         self.underlay.holds();
     }
@@ -149,17 +151,19 @@ impl<T: Lookup + Drop> Sim<T> {
         name_each(&mut self.names, names);
     }
 
-    /// Ends the connections on all chassis that weren't used for as long as they may be idle at the time. No memory is taken.
+    /// Ends the connections on all chassis that weren't used for as long as they may be idle at the time. A change that was
+    /// prepared stays so. No memory is taken.
     pub fn expire(&mut self, now: u64)
         ensures state { self.new.state ≡ record self.old.state { zones = map (seen_by (all_expired now)) self.old.state.zones } }
         ensures kept { self.new.room ≡ record self.old.room { zones = self.new.room.zones; zoned = self.new.room.zoned } }
+        ensures prepared { StaysPrepared T.ready self.old.room self.new.room }
     {
         expire_each(&mut self.zones, now);
     }
 
     /// Takes a whole packet at the port through the tables and the zones of the chassis to which the port is bound, and adds
     /// what came of it: the effects in names, and the walk. The frames among the effects take the next numbers in order, and
-    /// wait. Where the chassis isn't held the packet meets no flow.
+    /// wait. Where the chassis isn't held the packet meets no flow. A change that was prepared stays so, but for want of memory.
     ///
     /// `NotBound` comes exactly where the port has no binding, and leaves everything as it was. Without memory the zones of
     /// the chassis, the waiting frames and the next number may have changed, and `out` keeps what it held, with a part of
@@ -177,6 +181,7 @@ impl<T: Lookup + Drop> Sim<T> {
         ensures few { self.new.state.next + length out.old.effects ≤ self.old.state.next + length out.new.effects }
         ensures kept { self.new.room ≡ record self.old.room { zones = self.new.room.zones } }
         ensures rooms { rooms_held self.new.room.zones ≡ rooms_held self.old.room.zones }
+        ensures prepared { OnOk result (StaysPrepared T.ready self.old.room self.new.room) }
     {
         let Some(&chassis) = self.bindings.get(port) else {
             return Err(SimFault::NotBound(*port));
@@ -197,7 +202,7 @@ impl<T: Lookup + Drop> Sim<T> {
 
     /// Takes the frame of this number through the tables and the zones of the chassis to which it goes, and adds what came of
     /// it, as [`Sim::inject`] does. Afterwards the frame still waits exactly where `keep` is true. Where the chassis is gone
-    /// the frame is lost, and the walk has no step.
+    /// the frame is lost, and the walk has no step. A change that was prepared stays so, but for want of memory.
     ///
     /// `NoFrame` comes exactly where no frame of this number waits, and leaves everything as it was. Without memory the zones
     /// of the chassis, the waiting frames and the next number may have changed, and `out` keeps what it held, with a part of
@@ -214,6 +219,7 @@ impl<T: Lookup + Drop> Sim<T> {
         ensures few { self.new.state.next + length out.old.effects ≤ self.old.state.next + length out.new.effects }
         ensures kept { self.new.room ≡ record self.old.room { zones = self.new.room.zones } }
         ensures rooms { rooms_held self.new.room.zones ≡ rooms_held self.old.room.zones }
+        ensures prepared { OnOk result (StaysPrepared T.ready self.old.room self.new.room) }
     {
         let Some(arriving) = self.underlay.frame(frame) else {
             return Err(SimFault::NoFrame(frame));

@@ -4,7 +4,7 @@ ghost use Rattle.std.specs.List.{AllByRecursion};
 ghost use Rattle.indexmap.specs.IndexMap.{spare};
 ghost use Rattle.ovn_base.specs.declared.name.Name.{Name};
 ghost use Rattle.switch_engine.specs.Zones.{all_expired};
-ghost use Rattle.chassis_sim.specs.Changing.{AreEmptied, HasRoomFor, HaveRoom, IsFresh};
+ghost use Rattle.chassis_sim.specs.Changing.{AreEmptied, HasRoomFor, HaveRoom, IsFresh, KeepsRoom};
 ghost use Rattle.chassis_sim.specs.State.{at_name};
 ghost use Rattle.chassis_sim.specs.Tables.{seen_by, zones_held};
 
@@ -97,7 +97,9 @@ pub(crate) fn empty_each(zones: &mut ZoneMap, emptied: List<(Name, u16)>)
 
 // Ends the connections of all chassis that weren't used for as long as they may be idle.
 pub(crate) fn expire_each(zones: &mut ZoneMap, now: u64)
-    ensures { zones_held zones.new.entries ≡ map (seen_by (all_expired now)) (zones_held zones.old.entries) }
+    ensures lists { zones_held zones.new.entries ≡ map (seen_by (all_expired now)) (zones_held zones.old.entries) }
+    ensures room { KeepsRoom zones.old.entries zones.new.entries }
+    ensures spare { spare zones.old ≤ spare zones.new }
 {
     zones.retain(move |_, held| {
         held.expire(now);

@@ -9,19 +9,19 @@ use Rattle.chassis_sim.proofs.Rezoning.{rezoned, zoned_still}
 use Rattle.chassis_sim.proofs.sim.Sim.apply.Goals as goal
 
 pub replace_each-requires-clause-ready : goal.replace_each-requires-clause-ready
-replace_each-requires-clause-ready g c = subst (λ (s : SimView g.row.T.Denot). AreReady g.T.Lookup.ready s.room.tables c.args.change.tables) (sym c.self.view_is) c.requires.prepared.tables
+replace_each-requires-clause-ready g c = subst (λ (s : SimView g.row.T.Denot). AreReady g.T.Lookup.ready s.room.tables c.args.change.tables) (sym c.self.view_is) c.requires.prepared.readied.tables
 
 pub add_each-requires-clause-each_fresh : goal.add_each-requires-clause-each_fresh
 add_each-requires-clause-each_fresh g c =
     let n = length c.args.change.emptied in
-    fresh_less 0 n c.self.inside.fresh (omega arith) (subst (λ (s : SimView g.row.T.Denot). AllByRecursion (IsFresh n) s.room.fresh) (sym c.self.view_is) c.requires.prepared.each_fresh)
+    fresh_less 0 n c.self.inside.fresh (omega arith) (subst (λ (s : SimView g.row.T.Denot). AllByRecursion (IsFresh n) s.room.fresh) (sym c.self.view_is) c.requires.prepared.readied.fresh)
 
 pub empty_each-requires : goal.empty_each-requires
 empty_each-requires g c =
     let emptied = c.args.change.emptied in
     let n = length emptied in
-    let fresh = subst (λ (s : SimView g.row.T.Denot). AllByRecursion (IsFresh n) s.room.fresh) (sym c.self.view_is) c.requires.prepared.each_fresh in
-    let old = subst (λ (s : SimView g.row.T.Denot). HaveRoom n s.room.zones emptied) (sym c.self.view_is) c.requires.prepared.zones in
+    let fresh = subst (λ (s : SimView g.row.T.Denot). AllByRecursion (IsFresh n) s.room.fresh) (sym c.self.view_is) c.requires.prepared.readied.fresh in
+    let old = subst (λ (s : SimView g.row.T.Denot). HaveRoom n s.room.zones emptied) (sym c.self.view_is) c.requires.prepared.readied.zones in
     same_rooms n c.self.inside.zones.entries c.add_each.new.zones.entries (λ z other h. c.add_each.ensures.room n z other fresh (c.remove_each.ensures.room n z other h)) emptied old
 
 pub invariant_of-self : goal.invariant_of-self
