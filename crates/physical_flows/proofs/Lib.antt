@@ -1,6 +1,7 @@
 -- Lemmas.
 pub mod BoundZones
 pub mod FlowSearch
+pub mod GroupMembers
 pub mod KeyLaws
 pub mod Macs
 pub mod Members

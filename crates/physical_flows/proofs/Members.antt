@@ -32,7 +32,7 @@ use Rattle.physical_flows.specs.Numbers.{port_number}
 use Rattle.physical_flows.specs.Valid.{IsValid}
 use Rattle.physical_flows.specs.RecordKeys.{HaveKeys}
 use Rattle.physical_flows.specs.Stages.{Basis, zone_of, member_of, members_here, homes_of, has_unknown}
-use Rattle.physical_flows.specs.TableList.{ingress_rows, egress_rows, group_rows, is_record_in, group_among, here_among, bound_among, others_among}
+use Rattle.physical_flows.specs.TableList.{ingress_rows, egress_rows, group_rows, is_record_in, group_among, here_among, bound_among, others_among, rows_among}
 
 -- ---- names in order
 
@@ -85,11 +85,6 @@ both_true false y e = absurd (false≢true e)
 
 true_both : (x y : Bool) → x ≡ true → y ≡ true → (x && y) ≡ true
 true_both x y e f = ap (λ b. b && y) e ∙ f
-
-module _ {X : Type 0} where
-  all_pass : (test : X → Bool) (xs : List X) → ((x : X) → Among x xs → test x ≡ true) → filter test xs ≡ xs
-  all_pass test [] h = refl
-  all_pass test (x ∷ xs) h = ap (λ b. cond b (x ∷ filter test xs) (filter test xs)) (h x here) ∙ ap (λ ys. x ∷ ys) (all_pass test xs (λ y m. h y (there m)))
 
 module _ (b : Basis) (valid : IsValid b.net) (keys : HaveKeys b.net b.keys) (a : Name) where
   -- ---- the ports that have keys of the switch
@@ -199,31 +194,23 @@ module _ (b : Basis) (valid : IsValid b.net) (keys : HaveKeys b.net b.keys) (a :
         ap (λ ms. filter (λ c. not (same_name c b.chassis) && list_any (λ q. is_at b.bindings q c) ms) b.all) members_are
         ∙ (λ i. filter (λ c. not (same_name c b.chassis) && bound_same c (group_among b group ports) i) b.all)
 
-  -- all ports are members of the one group
-  pub flood_are : group_among b Flood ports ≡ ports
-  flood_are = all_pass (λ e. is_record_in Flood (at b.net.switch_ports e.0)) ports (λ e m. ap (λ o. is_record_in Flood o) (record_on e m).1)
-
   pub taken_is : has_unknown b a ≡ nat_lt 0 (length (group_among b Unknown ports))
   taken_is = ap (λ ms. nat_lt 0 (length ms)) (members_are Unknown) ∙ ap (λ n. nat_lt 0 n) (length-map (group_among b Unknown ports) (λ e. e.0))
 
-  module _ (dp : ℕ) (all unknown : List (Name × ℕ)) (flows : List Flow) (is_all : all ≡ ports) (is_unknown : unknown ≡ group_among b Unknown all) where
-    unknown_among_ports : unknown ≡ group_among b Unknown ports
-    unknown_among_ports = is_unknown ∙ ap (λ es. group_among b Unknown es) is_all
-
+  module _ (dp : ℕ) (all : List (Name × ℕ)) (flows : List Flow) (is_all : all ≡ ports) where
     -- the rows that the compiler adds for the switch, on every chassis
-    pub everywhere_are : (flows ++ ingress_rows dp (nat_lt 0 (length unknown))) ++ egress_rows dp ≡ flows ++ (ingress_rows dp (has_unknown b a) ++ egress_rows dp)
-    everywhere_are =
-        ap (λ t. (flows ++ ingress_rows dp t) ++ egress_rows dp) (ap (λ (es : List (Name × ℕ)). nat_lt 0 (length es)) unknown_among_ports ∙ sym taken_is)
+    pub everywhere_are : (unknown : List (Name × ℕ)) → unknown ≡ group_among b Unknown all → (flows ++ ingress_rows dp (nat_lt 0 (length unknown))) ++ egress_rows dp ≡ flows ++ (ingress_rows dp (has_unknown b a) ++ egress_rows dp)
+    everywhere_are unknown is_unknown =
+        let among_ports : unknown ≡ group_among b Unknown ports = is_unknown ∙ ap (λ es. group_among b Unknown es) is_all in
+        ap (λ t. (flows ++ ingress_rows dp t) ++ egress_rows dp) (ap (λ (es : List (Name × ℕ)). nat_lt 0 (length es)) among_ports ∙ sym taken_is)
         ∙ append_assoc flows (ingress_rows dp (has_unknown b a)) (egress_rows dp)
 
     -- and those of its groups
-    pub groups_are : (flows ++ group_rows dp Flood (others_among b (bound_among b all)) (here_among b all)) ++ group_rows dp Unknown (others_among b (bound_among b unknown)) (here_among b unknown)
+    group_is : (group : Group) → rows_among b dp group (group_among b group all) ≡ group_rows dp group (homes_of b a group) (members_here b a group)
+    group_is group = ap (λ es. rows_among b dp group (group_among b group es)) is_all ∙ (λ i. group_rows dp group (sym (homes_are group) i) (sym (here_are group) i))
+
+    pub groups_are : (flows ++ rows_among b dp Flood (group_among b Flood all)) ++ rows_among b dp Unknown (group_among b Unknown all)
         ≡ flows ++ (group_rows dp Flood (homes_of b a Flood) (members_here b a Flood) ++ group_rows dp Unknown (homes_of b a Unknown) (members_here b a Unknown))
     groups_are =
-        let flood : all ≡ group_among b Flood ports = is_all ∙ sym flood_are in
-        let of_flood : group_rows dp Flood (others_among b (bound_among b all)) (here_among b all) ≡ group_rows dp Flood (homes_of b a Flood) (members_here b a Flood) =
-        ap (λ es. group_rows dp Flood (others_among b (bound_among b es)) (here_among b es)) flood ∙ (λ i. group_rows dp Flood (sym (homes_are Flood) i) (sym (here_are Flood) i)) in
-        let of_unknown : group_rows dp Unknown (others_among b (bound_among b unknown)) (here_among b unknown) ≡ group_rows dp Unknown (homes_of b a Unknown) (members_here b a Unknown) =
-        ap (λ es. group_rows dp Unknown (others_among b (bound_among b es)) (here_among b es)) unknown_among_ports ∙ (λ i. group_rows dp Unknown (sym (homes_are Unknown) i) (sym (here_are Unknown) i)) in
-        (λ i. (flows ++ of_flood i) ++ of_unknown i)
+        (λ i. (flows ++ group_is Flood i) ++ group_is Unknown i)
         ∙ append_assoc flows (group_rows dp Flood (homes_of b a Flood) (members_here b a Flood)) (group_rows dp Unknown (homes_of b a Unknown) (members_here b a Unknown))

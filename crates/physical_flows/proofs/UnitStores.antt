@@ -18,7 +18,7 @@ use Rattle.flow_refs.proofs.ForCallers.{held_among, comes_among, goes_among, onc
 use Rattle.flow_table.specs.declared.flow.Flow.{Flow}
 use Rattle.physical_flows.specs.declared.unit.FlowUnit.{FlowUnit}
 use Rattle.physical_flows.specs.Stages.{Basis}
-use Rattle.physical_flows.specs.UnitFlows.{UnitStore, HaveRows, IsRowChange, IsTablePatch, rows_held, same_flow, unit_order}
+use Rattle.physical_flows.specs.UnitFlows.{UnitStore, HaveRows, IsRowChange, IsTablePatch, StayPrepared, rows_held, same_flow, unit_order}
 use Rattle.physical_flows.specs.Units.{rows_everywhere, rows_here, unit_rows, HasRow, ChangeOnly}
 
 -- units with all their rows, by those that they have on every chassis
@@ -139,3 +139,19 @@ module _ (exact : (f g : Flow) → (same_flow f g ≡ true) ↔ (f ≡ g)) where
           leads = leads;
           change = row_change before (unit_rows b) (rows_held new) (flows_after unit_order new.origins patch.changes) patch.delta (still_had before had) leads prepared.delta;
         }
+
+-- ---- what was prepared before
+
+-- each unit has the flows after the changes that it had after them before
+kept_after : (old new : UnitStore) → IsKept same_flow unit_order old.origins new.origins → (changes : List (FlowUnit × List Flow)) (u : FlowUnit)
+    → flows_after unit_order new.origins changes u ≡ flows_after unit_order old.origins changes u
+kept_after old new kept changes u = ap (λ fs. unwrap_or (lookup (is_at (unit_order u)) changes) fs) (kept.flows u)
+
+-- it still leads where it led
+pub still_prepared : (old new : UnitStore) → IsKept same_flow unit_order old.origins new.origins → ((p : Prepared Flow FlowUnit) → IsPreparedFor same_flow unit_order old p → IsPreparedFor same_flow unit_order new p)
+    → StayPrepared old new
+still_prepared old new kept stays before after patch is = record {
+  ready = stays patch is.ready;
+  leads = λ u f. subst (λ fs. Among f fs ↔ Among f (after u)) (sym (kept_after old new kept patch.changes u)) (is.leads u f);
+  change = is.change;
+}

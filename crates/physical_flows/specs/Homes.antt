@@ -1,6 +1,6 @@
 -- Where ports are at home, and the groups of a switch.
-use Rattle.std.specs.Prelude.{Bool, true, false, ◌&&◌, not, List, Option, Some, None, filter}
-use Rattle.std.specs.List.{list_any}
+use Rattle.std.specs.Prelude.{◌≡◌, Bool, false, ◌&&◌, not, List, Option, Some, None, filter}
+use Rattle.std.specs.List.{list_any, AllByRecursion}
 use Rattle.std.specs.Map.{keys_of}
 use Rattle.ovn_base.specs.names.ByName.{at}
 use Rattle.ovn_base.specs.names.SameName.{same_name}
@@ -20,10 +20,10 @@ is_home (Some home) chassis = same_name home chassis
 abbrev pub is_at : List (Name × Name) → Name → Name → Bool
 is_at bindings q chassis = is_home (at bindings q) chassis
 
--- the port is in the group of its switch
+-- the port is in the group of its switch: none is that is disabled
 abbrev pub is_group_member : Group → SwitchPort → Bool
-is_group_member Flood port = true
-is_group_member Unknown port = takes_unknown port.addresses
+is_group_member Flood port = port.enabled
+is_group_member Unknown port = port.enabled && takes_unknown port.addresses
 
 -- the members of a group of the switch, in order of name
 abbrev pub members : Network → Name → Group → List Name
@@ -36,3 +36,7 @@ members_at net bindings switch group chassis = filter (λ q. is_at bindings q ch
 -- the other chassis that have a member, in order of name
 abbrev pub other_homes : Network → List (Name × Name) → List Name → Name → Group → Name → List Name
 other_homes net bindings all switch group chassis = filter (λ c. not (same_name c chassis) && list_any (λ q. is_at bindings q c) (members net switch group)) all
+
+-- each port stands under its own name
+abbrev pub ArePortsNamed : Network → Type 0
+ArePortsNamed net = AllByRecursion (λ e. e.1.name ≡ e.0) net.switch_ports

@@ -94,3 +94,7 @@ is_other_among b homes c = not (same_name c b.chassis) && list_any (λ home. sam
 
 abbrev pub others_among : Basis → List Name → List Name
 others_among b homes = filter (λ c. is_other_among b homes c) b.all
+
+-- the rows of a group that has these members
+abbrev pub rows_among : Basis → ℕ → Group → List (Name × ℕ) → List Flow
+rows_among b dp group members = group_rows dp group (others_among b (bound_among b members)) (here_among b members)

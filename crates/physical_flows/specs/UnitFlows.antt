@@ -42,3 +42,7 @@ pub record IsTablePatch (before after : FlowUnit → List Flow) (held : UnitStor
   pub ready : IsPreparedFor same_flow unit_order held patch
   pub leads : HaveRows after (flows_after unit_order held.origins patch.changes)
   pub change : IsRowChange before after patch.delta
+
+-- what was prepared for the old store may be applied to the new one, and leads from the same rows to the same
+abbrev pub StayPrepared : UnitStore → UnitStore → Type 0
+StayPrepared old new = (before after : FlowUnit → List Flow) (patch : Prepared Flow FlowUnit) → IsTablePatch before after old patch → IsTablePatch before after new patch

@@ -3,10 +3,9 @@ ghost use Rattle.std.specs.Prelude.{◌≡◌, ◌++◌, map, IfOk, OnOk};
 ghost use Rattle.std.specs.List.{list_any};
 ghost use Rattle.ovn_base.specs.names.ByName.{at};
 ghost use Rattle.ovn_base.specs.names.SameName.{same_name};
-ghost use Rattle.net_model.specs.declared.crossing.Group.TheVariants.{Unknown};
-ghost use Rattle.physical_flows.specs.Homes.{is_at};
+ghost use Rattle.physical_flows.specs.Homes.{is_at, is_group_member};
 ghost use Rattle.physical_flows.specs.Stages.{zone_of};
-ghost use Rattle.physical_flows.specs.TableList.{group_rows, bound_rows, is_record_in, group_among, here_among, bound_among, is_other_among, others_among};
+ghost use Rattle.physical_flows.specs.TableList.{rows_among, bound_rows, is_record_in, group_among, here_among, bound_among, is_other_among, others_among};
 ghost use Rattle.physical_flows.specs.Units.{all_units, rows_everywhere, rows_here};
 ghost use Rattle.physical_flows.specs.declared.unit.FlowUnit.TheVariants as unit;
 ghost use Rattle.physical_flows.specs.Compiling.{basis_of};
@@ -23,6 +22,7 @@ use flow_table::exact::exact_flow_clone;
 use flow_table::flow::{Flow, Member};
 use nb_records::addresses::takes_unknown;
 use nb_records::records::Records;
+use nb_records::switch::SwitchPort;
 use net_model::crossing::Group;
 use ovn_base::list::List;
 use ovn_base::memory::NoMemory;
@@ -44,27 +44,28 @@ pub struct Maps<'a> {
 }
 
 impl Maps<'_> {
-    // Whether the port takes packets for addresses that no port has.
-    fn is_unknown(&self, port: &Name) -> bool
-        ensures { result ≡ is_record_in Unknown (at (basis_of self.now).net.switch_ports port.now) }
+    // Whether the port is in the group.
+    fn is_in(&self, group: Group, port: &Name) -> bool
+        ensures { result ≡ is_record_in group (at (basis_of self.now).net.switch_ports port.now) }
     {
         match self.records.switch_port(port) {
-            Some(port) => takes_unknown(port.addresses.as_slice()),
+            Some(port) => is_member(group, port),
             None => false,
         }
     }
 
-    // Those of the ports that take packets for addresses that no port has.
-    fn unknown_among(
+    // Those of the ports that are in the group.
+    fn group_among(
         &self,
         alloc: Global,
+        group: Group,
         ports: &[(Name, u16)],
     ) -> Result<List<(Name, u16)>, NoMemory>
-        ensures { IfOk result (λ members. members ≡ group_among (basis_of self.now) Unknown ports.now) }
+        ensures { IfOk result (λ members. members ≡ group_among (basis_of self.now) group ports.now) }
     {
         let mut members = List::new(alloc);
         'ports: for member in ports {
-            if self.is_unknown(&member.0) {
+            if self.is_in(group, &member.0) {
                 members.push(*member)?;
             }
         }
@@ -128,19 +129,19 @@ impl Maps<'_> {
         *chassis != self.chassis && has_name(homes, chassis)
     }
 
-    // Adds the rows of a group of a switch, which has these members.
+    // Adds the rows of a group of a switch, which has these ports.
     fn push_group(
         &self,
         alloc: Global,
         dp: u32,
         group: Group,
-        members: &[(Name, u16)],
+        ports: &[(Name, u16)],
         flows: &mut List<Flow>,
     ) -> Result<(), NoMemory>
-        ensures { OnOk result (flows.new ≡ flows.old ++ group_rows dp group
-            (others_among (basis_of self.now) (bound_among (basis_of self.now) members.now))
-            (here_among (basis_of self.now) members.now)) }
+        ensures { OnOk result (flows.new ≡ flows.old ++ rows_among (basis_of self.now) dp group (group_among (basis_of self.now) group ports.now)) }
     {
+        let members = self.group_among(alloc, group, ports)?;
+        let members = members.as_slice();
         let homes = self.bound_among(alloc, members)?;
         let others = self.others_among(alloc, homes.as_slice())?;
         let here = self.here_among(alloc, members)?;
@@ -167,7 +168,7 @@ impl Maps<'_> {
         let Some(ports) = self.keys.ports(name) else {
             return Ok(());
         };
-        let unknown = self.unknown_among(alloc, ports.list.as_slice())?;
+        let unknown = self.group_among(alloc, Group::Unknown, ports.list.as_slice())?;
         push_ingress(alloc, datapath, 0 < unknown.len(), flows)?;
         push_egress(alloc, datapath, flows)
     }
@@ -192,10 +193,9 @@ impl Maps<'_> {
         let Some(ports) = self.keys.ports(name) else {
             return Ok(());
         };
-        let all = ports.list.as_slice();
-        let unknown = self.unknown_among(alloc, all)?;
-        self.push_group(alloc, datapath, Group::Flood, all, flows)?;
-        self.push_group(alloc, datapath, Group::Unknown, unknown.as_slice(), flows)
+        let ports = ports.list.as_slice();
+        self.push_group(alloc, datapath, Group::Flood, ports, flows)?;
+        self.push_group(alloc, datapath, Group::Unknown, ports, flows)
     }
 
     // Adds the rows that a port has on every chassis.
@@ -330,6 +330,16 @@ impl Maps<'_> {
             units.push(FlowUnit::Port(*name))?;
         }
         Ok(units)
+    }
+}
+
+// Whether the port is in the group of its switch.
+fn is_member(group: Group, port: &SwitchPort) -> bool
+    ensures { result ≡ is_group_member group port.now }
+{
+    match group {
+        Group::Flood => port.enabled,
+        Group::Unknown => port.enabled && takes_unknown(port.addresses.as_slice()),
     }
 }
 

@@ -2,6 +2,7 @@
 #![tactic(auto)]
 
 pub mod compile;
+pub mod laws;
 mod priorities;
 mod rows;
 pub mod unit;

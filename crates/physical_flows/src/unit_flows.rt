@@ -8,7 +8,7 @@ ghost use Rattle.physical_flows.specs.declared.unit.FlowUnit.{FlowUnit};
 ghost use Rattle.physical_flows.specs.Compiling.{basis_of};
 ghost use Rattle.physical_flows.specs.RecordKeys.{HaveKeys};
 ghost use Rattle.flow_refs.specs.Store.{IsPreparedFor};
-ghost use Rattle.physical_flows.specs.UnitFlows.{HaveRows, IsTablePatch, rows_held, same_flow, unit_order};
+ghost use Rattle.physical_flows.specs.UnitFlows.{HaveRows, IsTablePatch, StayPrepared, rows_held, same_flow, unit_order};
 ghost use Rattle.physical_flows.specs.Units.{ChangeOnly, no_rows, rows_everywhere, unit_rows};
 ghost use Rattle.physical_flows.specs.Valid.{IsValid};
 
@@ -74,7 +74,8 @@ impl UnitFlows {
     }
 
     /// Makes all ready for some units to have their rows on the chassis of the maps. `everywhere` are these units, each with
-    /// those of its rows that are the same on every chassis. What each unit has stays.
+    /// those of its rows that are the same on every chassis. What each unit has stays, and what was prepared before can still be
+    /// applied.
     pub fn prepare(
         &mut self,
         alloc: Global,
@@ -86,6 +87,7 @@ impl UnitFlows {
         requires once { EachOnce (keys_of everywhere.now) }
         requires everywhere { AllByRecursion (λ e. e.1 ≡ rows_everywhere (basis_of maps.now) e.0) everywhere.now }
         ensures kept { rows_held self.new ≡ rows_held self.old }
+        ensures left { StayPrepared self.old self.new }
         ensures prepared { IfOk result (λ patch. (before : FlowUnit → List Flow) → HaveRows before (rows_held self.old)
             → ChangeOnly (keys_of everywhere.now) before (unit_rows (basis_of maps.now)) → IsTablePatch before (unit_rows (basis_of maps.now)) self.new patch) }
     {

@@ -2,10 +2,8 @@
 use Rattle.std.specs.Prelude.{◌≡◌, ◌&&◌, ◌||◌, ℕ, Bool, true, false, not, List, [], ◌∷◌, map, Option, Some, None, option_map, cond, refl}
 use Rattle.std.proofs.Common.{sym, ap, ◌∙◌, subst}
 use Rattle.std.specs.List.{filter, list_any}
-use Rattle.std.specs.Map.{keys_of, values_of}
 use Rattle.inet_packet.specs.declared.packet.Packet.{Packet}
 use Rattle.nb_records.specs.Network.{Network}
-use Rattle.nb_records.specs.Switches.{takes_unknown, enabled_ports}
 use Rattle.nb_records.specs.declared.switch.Switch.{Switch}
 use Rattle.nb_records.specs.declared.switch.PortKind.{PortKind}
 use Rattle.nb_records.specs.declared.switch.SwitchPort.{SwitchPort}
@@ -15,10 +13,8 @@ use Rattle.net_model.specs.Entry.{Scene}
 use Rattle.net_model.specs.Spread.{other_homes, local_members}
 use Rattle.net_model.specs.Targets.{members, is_other}
 use Rattle.net_model.specs.declared.crossing.Group.{Group}
-use Rattle.net_model.specs.declared.crossing.Group.TheVariants.{Flood, Unknown}
 use Rattle.net_model.specs.Trail.{End, leaves, is_lost}
 use Rattle.net_model.specs.Visit.{identity_or, switch_named}
-use Rattle.ovn_base.proofs.ByNameLaws.{among_at}
 use Rattle.ovn_base.specs.declared.address.Birth.{Birth}
 use Rattle.ovn_base.specs.declared.name.Name.{Name}
 use Rattle.ovn_base.specs.lists.Among.{Among, here, there}
@@ -99,55 +95,11 @@ swapped false false = refl
 
 -- ---- the members of a group
 
-abbrev pub is_in : Group → SwitchPort → Bool
-is_in Flood o = true
-is_in Unknown o = takes_unknown o.addresses
-
-record IsListed (e : Name × SwitchPort) : Type 0 where
-  name : e.1.name ≡ e.0
-  enabled : e.1.enabled ≡ true
-
-abbrev local_to : Name → List (Name × SwitchPort) → List SwitchPort
-local_to switch es = filter (λ (q : SwitchPort). same_name q.switch switch) (values_of es)
-
-abbrev enabled_of : List SwitchPort → List SwitchPort
-enabled_of qs = filter (λ (q : SwitchPort). q.enabled) qs
-
-abbrev entries_with : Name → (SwitchPort → Bool) → List (Name × SwitchPort) → List (Name × SwitchPort)
-entries_with switch test es = filter (λ (e : Name × SwitchPort). same_name e.1.switch switch && test e.1) es
-
-in_switch : (switch : Name) (test : SwitchPort → Bool) (es : List (Name × SwitchPort)) → ((e : Name × SwitchPort) → Among e es → IsListed e)
-    → names_of (filter test (enabled_of (local_to switch es))) ≡ keys_of (entries_with switch test es)
-in_switch switch test [] h = refl
-in_switch switch test (e ∷ es) h = by (same_name e.1.switch switch) (local_to switch es) (entries_with switch test es) (in_switch switch test es (λ f m. h f (there m)))
-  where
-    kept : (d : Bool) (qs : List SwitchPort) (fs : List (Name × SwitchPort)) → names_of qs ≡ keys_of fs → names_of (cond d (e.1 ∷ qs) qs) ≡ keys_of (cond d (e ∷ fs) fs)
-    kept true qs fs ih = ap (λ (n : Name). n ∷ names_of qs) (h e here).name ∙ ap (λ (ns : List Name). e.0 ∷ ns) ih
-    kept false qs fs ih = ih
-
-    by : (b : Bool) (qs : List SwitchPort) (fs : List (Name × SwitchPort)) → names_of (filter test (enabled_of qs)) ≡ keys_of fs
-        → names_of (filter test (enabled_of (cond b (e.1 ∷ qs) qs))) ≡ keys_of (cond (b && test e.1) (e ∷ fs) fs)
-    by true qs fs ih = ap (λ (c : Bool). names_of (filter test (cond c (e.1 ∷ enabled_of qs) (enabled_of qs)))) (h e here).enabled ∙ kept (test e.1) (filter test (enabled_of qs)) fs ih
-    by false qs fs ih = ih
-
-all_kept : (qs : List SwitchPort) → filter (λ (q : SwitchPort). true) qs ≡ qs
-all_kept [] = refl
-all_kept (q ∷ qs) = ap (λ (os : List SwitchPort). q ∷ os) (all_kept qs)
-
 -- each port stands under its name
 abbrev pub AreNamed : Network → Type 0
 AreNamed net = (key : Name) (q : SwitchPort) → at net.switch_ports key ≡ Some q → q.name ≡ key
 
 module _ (net : Network) (plain : IsPlain net) (named : AreNamed net) where
-  listed : (e : Name × SwitchPort) → Among e net.switch_ports → IsListed e
-  listed e m =
-      let there_is : at net.switch_ports e.0 ≡ Some e.1 = among_at e.0 e.1 net.switch_ports plain.in_order m in
-      record { name = named e.0 e.1 there_is; enabled = (plain_port e.1 (plain.built.ports e.0 e.1 there_is)).enabled }
-
-  pub members_named : (switch : Name) (g : Group) → names_of (members net switch g) ≡ keys_of (filter (λ (e : Name × SwitchPort). same_name e.1.switch switch && is_in g e.1) net.switch_ports)
-  members_named switch Flood = ap names_of (sym (all_kept (enabled_ports net switch))) ∙ in_switch switch (λ (q : SwitchPort). true) net.switch_ports listed
-  members_named switch Unknown = in_switch switch (λ (q : SwitchPort). takes_unknown q.addresses) net.switch_ports listed
-
   -- a member stands under its own name
   pub found_by_name : (switch : Name) (g : Group) (q : SwitchPort) → Among q (members net switch g) → at net.switch_ports q.name ≡ Some q
   found_by_name switch g q m = let p = of_group net plain switch g q m in subst (λ (n : Name). at net.switch_ports n ≡ Some q) (sym (named p.key q p.there)) p.there

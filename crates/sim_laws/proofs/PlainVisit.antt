@@ -2,7 +2,6 @@
 use Rattle.tunnel_keys.specs.declared.owner.Identity.{Identity}
 use Rattle.std.specs.Prelude.{◌≡◌, ℕ, Bool, true, false, ◌||◌, ◌&&◌, not, cond, List, [], ◌∷◌, ◌++◌, map, filter, Option, Some, None, option_map, refl}
 use Rattle.std.specs.List.{list_any}
-use Rattle.std.specs.Map.{keys_of}
 use Rattle.std.proofs.Common.{sym, ap, ◌∙◌, subst}
 use Rattle.std.proofs.lemmas.Bool.Decides.{Decides-eqb}
 use Rattle.ovn_base.specs.names.ByName.{at}
@@ -38,8 +37,9 @@ use Rattle.sim_laws.proofs.PlainAddresses.{entry_with, known_port, mac_by, mac_o
 use Rattle.sim_laws.proofs.PlainEntries.{ends_of_bad_source, ends_of_sent, ends_of_tagged}
 use Rattle.sim_laws.proofs.PlainNames as names
 use Rattle.sim_laws.proofs.PlainPorts.{members_plain}
+use Rattle.physical_flows.proofs.GroupMembers.{same_members, named_where_found}
 use Rattle.physical_flows.specs.Addresses.{HasMac}
-use Rattle.physical_flows.specs.Homes.{is_at, is_group_member, is_home, members, members_at, other_homes}
+use Rattle.physical_flows.specs.Homes.{is_at, is_home, members, members_at, other_homes}
 use Rattle.physical_flows.specs.Valid.{IsValid}
 use Rattle.sim_laws.specs.Visit.{Goes, HasTarget, SentFrom, Target, group, none, one, arrival, crossing_to, has_birth, is_port, is_switch, misses, reached, sent_home, sent_to}
 
@@ -68,11 +68,7 @@ module _ (net : Network) (valid : IsValid net) where
   listed switch g = targets.members net switch g
 
   members_are : (switch : Name) (g : Group) → names.names_of (listed switch g) ≡ members net switch g
-  members_are switch g = names.members_named net (plain net valid) valid.port_names switch g ∙ ap keys_of (same_filters _ _ net.switch_ports (λ e. ap (λ b. same_name e.1.switch switch && b) (by g e.1)))
-    where
-      by : (g : Group) (q : SwitchPort) → names.is_in g q ≡ is_group_member g q
-      by Flood q = refl
-      by Unknown q = refl
+  members_are switch g = sym (same_members net switch g (named_where_found net valid.ports_sorted valid.port_names))
 
 -- ---- addresses
 

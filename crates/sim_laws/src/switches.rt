@@ -22,7 +22,7 @@ pub fn switch_pipelines()
 
 /// Whatever walk takes on a copy that has its target in a switch does what the network says of the packet that is sent there, up to its
 /// last end. So what becomes of a packet that comes in at a port is its visit, and of one that comes out of a tunnel its arrival; its
-/// whole walk tells just that. No port leads to a router.
+/// whole walk tells just that. No port of the switch leads to a router.
 pub fn switch_passes()
     ensures sends { SendingLaw }
     ensures visits { VisitLaw }

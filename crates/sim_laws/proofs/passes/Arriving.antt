@@ -60,7 +60,7 @@ use Rattle.sim_laws.proofs.passes.Ends.{ends_so}
 use Rattle.sim_laws.proofs.passes.GroupCopies.{IsMember, key_is, those_here, copies_go, group_33}
 use Rattle.sim_laws.proofs.passes.Identities.{vni, in_key, vni_held, in_held, its_there, the_switch, vni_on, its_port, came_stands}
 use Rattle.sim_laws.proofs.passes.Leaving.{leaves_by, dp_within, to_within}
-use Rattle.sim_laws.proofs.passes.LiveNumbers.{hold, port_among, port_live, switch_live, port_of, same_port_key}
+use Rattle.sim_laws.proofs.passes.LiveNumbers.{hold, one_datapath, port_among, port_live, switch_live, port_of, same_port_key}
 use Rattle.sim_laws.proofs.passes.Members.{home_is, on_so, member_is}
 use Rattle.sim_laws.proofs.passes.OnePort.{IsFor, IsHomed, homes_33}
 use Rattle.sim_laws.proofs.passes.RowSteps.{Does, Taken, row_step, no_row, row_fits, as_row, comes_unmatched}
@@ -71,7 +71,7 @@ use Rattle.sim_laws.specs.Naming.{IsNumbered}
 use Rattle.sim_laws.specs.Sound.{HasAimKey}
 use Rattle.sim_laws.specs.WalkLaw.{tunnel_entry_of}
 use Rattle.sim_laws.specs.passes.Arriving.{AreOwned, IsOnSwitch, IsAimOnSwitch, MayArrive, ArrivingLaw}
-use Rattle.sim_laws.specs.passes.Physical.{basis_of, IsWired}
+use Rattle.sim_laws.specs.passes.Physical.{AreVirtual, basis_of, IsWired}
 use Rattle.sim_laws.specs.passes.ToEnd.{Never, EndsAs}
 use Rattle.sim_laws.specs.pipelines.Egress.{EgressLaw}
 use Rattle.sim_laws.specs.pipelines.HeldLists.{HoldLists}
@@ -79,7 +79,7 @@ use Rattle.sim_laws.specs.pipelines.Pieces.{ComesTo}
 use Rattle.sim_laws.specs.pipelines.Standing.{Chassis, net_of, course_of, IsLaidOut}
 use Rattle.sim_laws.specs.pipelines.WalkOn.{Reached, Comes}
 
-module _ (s : Chassis) (laid : IsLaidOut s) (numbers : GivenNumbers) (wired : IsWired s numbers) (owned : AreOwned s) (law : EgressLaw) (n : ℕ) (x : Crossing) (may : MayArrive s x) (entry_is : s.entry ≡ tunnel_entry_of s.keys x)
+module _ (s : Chassis) (laid : IsLaidOut s) (numbers : GivenNumbers) (wired : IsWired s numbers) (owned : AreOwned s) (law : EgressLaw) (n : ℕ) (x : Crossing) (may : MayArrive s x) (virtual : AreVirtual s x.datapath.name) (entry_is : s.entry ≡ tunnel_entry_of s.keys x)
     (lists : Lists) (zones : ZoneLists) (hold_them : HoldLists s.number zones lists) where
   abbrev out_key : ℕ
   out_key = aim_key s.keys x.aim
@@ -198,8 +198,8 @@ module _ (s : Chassis) (laid : IsLaidOut s) (numbers : GivenNumbers) (wired : Is
       abbrev is_reached_one : SwitchPort → Bool
       is_reached_one q = same_identity (port_identity q) id && is_reached s.scene q
 
-      reached_here : (q : SwitchPort) → at (net_of s).switch_ports q.name ≡ Some q → is_reached s.scene q ≡ is_at s.scene.config.bindings q.name s.scene.here
-      reached_here q found = ap (is_on s.scene.here) (home_is s laid numbers wired q found) ∙ on_so s.scene.here (at s.scene.config.bindings q.name)
+      reached_here : (q : SwitchPort) → at (net_of s).switch_ports q.name ≡ Some q → q.switch ≡ x.datapath.name → is_reached s.scene q ≡ is_at s.scene.config.bindings q.name s.scene.here
+      reached_here q found on = ap (is_on s.scene.here) (home_is s q (virtual q.name q found on)) ∙ on_so s.scene.here (at s.scene.config.bindings q.name)
 
       -- so it is where a row fits
       row_reached : (f : Flow) → HomeRow (basis_of s numbers) f → Fitting f → (q : SwitchPort) × (at (net_of s).switch_ports id.name ≡ Some q) × (is_reached_one q ≡ true)
@@ -210,11 +210,12 @@ module _ (s : Chassis) (laid : IsLaidOut s) (numbers : GivenNumbers) (wired : Is
           (aim_on is aim_held.0 aim_held.1 aim_held.2) (sym fits.1 ∙ out_held) ∙ aim_held.2 in
           let named = port_named (net_of s) laid.valid r other theirs.there in
           let own : port_identity other ≡ id = (λ j. record { name = named j; birth = other.birth }) ∙ same in
-          let found = ap (λ a. at (net_of s).switch_ports a) named ∙ theirs.there in (
+          let found = ap (λ a. at (net_of s).switch_ports a) named ∙ theirs.there in
+          let on = one_datapath s laid other.switch x.datapath.name number_of (theirs.on.live, theirs.on.has, theirs.on.number ∙ sym fits.0) on_it in (
             other,
             ap (λ (i : Identity). at (net_of s).switch_ports i.name) (sym same) ∙ theirs.there,
             and_from (same_identity (port_identity other) id) (is_reached s.scene other) (subst (λ (i : Identity). same_identity i id ≡ true) (sym own) (identity_own id))
-                (reached_here other found ∙ is_bound_to s.scene.config.bindings other.name s.scene.here (ap (λ a. at s.scene.config.bindings a) named ∙ bound.bound)),
+                (reached_here other found on ∙ is_bound_to s.scene.config.bindings other.name s.scene.here (ap (λ a. at s.scene.config.bindings a) named ∙ bound.bound)),
           )
       row_reached f (HomeRow.copies a d g came_out theirs e) fitting =
           let fits = fits_group regs x.packet d g came_out (dp_within regs within) (to_within regs within) (subst (λ (h : Flow). CubeFits h.cube regs x.packet) e fitting) in
@@ -238,7 +239,7 @@ module _ (s : Chassis) (laid : IsLaidOut s) (numbers : GivenNumbers) (wired : Is
           let together : held.datapath ≡ x.datapath = aim_on is held m own in
           let switch : x.datapath.name ≡ q.switch = ap (λ (i : Identity). i.name) (sym together) in
           let key : out_key ≡ p.0 = out_is ∙ port_key_is s.keys (hold s laid) held id m own in
-          let bound = bound_to s.scene.config.bindings q.name s.scene.here (sym (reached_here q found) ∙ parts.1) in
+          let bound = bound_to s.scene.config.bindings q.name s.scene.here (sym (reached_here q found (sym switch)) ∙ parts.1) in
           let goes : IsFor s x.in_port q x.packet LOCAL_TABLE lists zones arrived = record {
             in_table = refl;
             packet = refl;
@@ -256,7 +257,7 @@ module _ (s : Chassis) (laid : IsLaidOut s) (numbers : GivenNumbers) (wired : Is
           comes_then s (λ rest t. rest t x.packet) (λ p rest t. leave (passing_on s.scene) s.scene x.in_port q t x.packet) lists (IsHomed s laid numbers wired x.in_port q found x.packet arrived) Never zones (arrived ∷ [])
           (homes_33 s laid numbers wired x.in_port q found x.packet lists zones arrived goes bound)
           (λ after p last next homed.
-          leaves_by s laid numbers wired law (passing_on s.scene) x.in_port q found x.packet after last next homed.at_exit (λ same. absurd (apart (sym homed.from ∙ same ∙ homed.to))))
+          leaves_by s laid numbers wired law (passing_on s.scene) x.in_port q found (virtual q.name q found (sym switch)) x.packet after last next homed.at_exit (λ same. absurd (apart (sym homed.from ∙ same ∙ homed.to))))
 
       by_test : (q : SwitchPort) → at (net_of s).switch_ports id.name ≡ Some q → (b : Bool) → is_reached_one q ≡ b → Arrives (λ t. reach_port s.scene n x (cond b (Some q) None) t)
       by_test q there true h = reaches q there h
@@ -287,7 +288,7 @@ module _ (s : Chassis) (laid : IsLaidOut s) (numbers : GivenNumbers) (wired : Is
       -- a member has the number of the port of entry where it is that port
       entry_is_it : (q : SwitchPort) → at (net_of s).switch_ports q.name ≡ Some q → q.switch ≡ switch_name → same_identity (port_identity q) x.in_port ≡ nat_eq (key q) entered
       entry_is_it q found on =
-          let own = key_is s laid numbers wired law (passing_on s.scene) switch_name x.in_port x.packet q found in
+          let own = key_is s laid numbers wired law (passing_on s.scene) switch_name virtual x.in_port x.packet q found in
           same_tests (same_identity (port_identity q) x.in_port) (nat_eq (key q) entered)
           (λ same.
           let id : port_identity q ≡ x.in_port = identity_exact (port_identity q) x.in_port same in
@@ -300,21 +301,21 @@ module _ (s : Chassis) (laid : IsLaidOut s) (numbers : GivenNumbers) (wired : Is
           (may.in_on is may.in_key.0 may.in_key.1 may.in_key.2) (number ∙ in_held s laid owned x may) ∙ may.in_key.2 in
           subst (λ (i : Identity). same_identity i x.in_port ≡ true) (sym id) (identity_own x.in_port))
 
-      member : (q : SwitchPort) → Among q (members (net_of s) switch_name g) → IsMember s laid numbers wired law (passing_on s.scene) switch_name x.in_port x.packet arrived refl may.whole on_it came_in within keep q
+      member : (q : SwitchPort) → Among q (members (net_of s) switch_name g) → IsMember s laid numbers wired law (passing_on s.scene) switch_name virtual x.in_port x.packet arrived refl may.whole on_it came_in within keep q
       member q m =
-          let e = member_is s laid numbers wired switch_name g q m in
+          let e = member_is s laid switch_name g q m in
           record {
             there_is = e.there;
             on_it = e.on;
-            keeps = λ j. (ap (is_on s.scene.here) (home_is s laid numbers wired q e.there) ∙ on_so s.scene.here (at s.scene.config.bindings q.name)) j && not (entry_is_it q e.there e.on j);
+            keeps = λ j. (ap (is_on s.scene.here) (home_is s q (virtual q.name q e.there e.on)) ∙ on_so s.scene.here (at s.scene.config.bindings q.name)) j && not (entry_is_it q e.there e.on j);
           }
 
       to_group : Arrives (λ t. copy_to_each (leave (passing_on s.scene) s.scene x.in_port) (members_reached s.scene x.in_port (members (net_of s) switch_name g)) t x.packet)
       to_group =
           let Then : Reached = EndsAs s (λ t. copy_to_each (leave (passing_on s.scene) s.scene x.in_port) (members_reached s.scene x.in_port (members (net_of s) switch_name g)) t x.packet) lists in
-          group_33 s laid numbers wired law (passing_on s.scene) switch_name x.in_port x.packet g arrived is_datapath (ap (aim_key s.keys) aim_is) within true refl zones refl Then
-          (subst (λ ms. Comes (course_of s) zones (copies_for arrived ms) Then) (those_here s laid numbers wired law (passing_on s.scene) switch_name x.in_port x.packet g)
-          (copies_go s laid numbers wired law (passing_on s.scene) switch_name x.in_port x.packet arrived refl may.whole on_it came_in within keep (members (net_of s) switch_name g) member lists zones hold_them))
+          group_33 s laid numbers wired law (passing_on s.scene) switch_name virtual x.in_port x.packet g arrived is_datapath (ap (aim_key s.keys) aim_is) within true refl zones refl Then
+          (subst (λ ms. Comes (course_of s) zones (copies_for arrived ms) Then) (those_here s laid numbers wired law (passing_on s.scene) switch_name virtual x.in_port x.packet g)
+          (copies_go s laid numbers wired law (passing_on s.scene) switch_name virtual x.in_port x.packet arrived refl may.whole on_it came_in within keep (members (net_of s) switch_name g) member lists zones hold_them))
 
     by_aim : (aim : Aim) → x.aim ≡ aim → Arrives (λ t. reach s.scene n x aim t)
     by_aim (ToPort id) aim_is = to_port id aim_is (at (net_of s).switch_ports id.name) refl
@@ -357,4 +358,4 @@ module _ (s : Chassis) (laid : IsLaidOut s) (numbers : GivenNumbers) (wired : Is
       (subst (λ (c : Carried). Comes (course_of s) zones (c ∷ []) (EndsAs s (λ t. arrival s.scene n x t) lists)) (sym is.2) (by_switch (is_switch (net_of s) x.datapath) refl))))
 
 pub arrives_so : EgressLaw → ArrivingLaw
-arrives_so law s laid numbers wired owned n x may entry_is lists zones hold_them = arrives s laid numbers wired owned law n x may entry_is lists zones hold_them
+arrives_so law s laid numbers wired owned n x may virtual entry_is lists zones hold_them = arrives s laid numbers wired owned law n x may virtual entry_is lists zones hold_them

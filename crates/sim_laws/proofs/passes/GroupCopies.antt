@@ -58,13 +58,13 @@ use Rattle.sim_laws.proofs.Table33.{no_group, one_group, group_short}
 use Rattle.sim_laws.proofs.passes.Ends.{ends_none, ends_then}
 use Rattle.sim_laws.proofs.passes.Leaving.{dp_within, to_within, leaves_by}
 use Rattle.sim_laws.proofs.passes.LiveNumbers.{hold, one_datapath, one_port, same_port_key, port_low, port_live, switch_key, port_number, datapath_of, port_of, is_datapath}
-use Rattle.sim_laws.proofs.passes.Members.{is_here_where, member_is, others_so}
+use Rattle.sim_laws.proofs.passes.Members.{is_here_where, member_is, members_so, others_so}
 use Rattle.sim_laws.proofs.passes.RowSteps.{Does, Taken, row_step, row_fits, as_row, spread_does, copies_does}
 use Rattle.sim_laws.proofs.pipelines.Pieces.{comes_then}
 use Rattle.sim_laws.proofs.pipelines.WalkOn.{comes_on}
 use Rattle.sim_laws.specs.Effects.{datapath_key, port_key}
 use Rattle.sim_laws.specs.Naming.{IsNumbered}
-use Rattle.sim_laws.specs.passes.Physical.{basis_of, IsWired}
+use Rattle.sim_laws.specs.passes.Physical.{AreVirtual, basis_of, IsWired}
 use Rattle.sim_laws.specs.passes.Sending.{sent_from}
 use Rattle.sim_laws.specs.passes.ToEnd.{Never, EndsAs}
 use Rattle.sim_laws.specs.pipelines.Egress.{EgressLaw}
@@ -95,7 +95,7 @@ aimed_within k z regs h few small = record { within = each }
     each reg.Own = h.within reg.Own
     each reg.Arrived = h.within reg.Arrived
 
-module _ (s : Chassis) (laid : IsLaidOut s) (numbers : GivenNumbers) (wired : IsWired s numbers) (law : EgressLaw) (onward : Onward) (switch : Name) (came : Identity) (p : Packet) where
+module _ (s : Chassis) (laid : IsLaidOut s) (numbers : GivenNumbers) (wired : IsWired s numbers) (law : EgressLaw) (onward : Onward) (switch : Name) (virtual : AreVirtual s switch) (came : Identity) (p : Packet) where
   -- ---- a copy for each member here
 
   -- the key of a port, as rows of groups have it
@@ -143,7 +143,7 @@ module _ (s : Chassis) (laid : IsLaidOut s) (numbers : GivenNumbers) (wired : Is
         let key = key_is q m.there_is in
         let zone = zone_is q bound in
         let few : member.key < 2 ^ 15 = port_low s laid q.switch q.name member.key key in
-        leaves_by s laid numbers wired law onward came q m.there_is p lists zones (copy_for copy member) (record {
+        leaves_by s laid numbers wired law onward came q m.there_is (virtual q.name q m.there_is m.on_it) p lists zones (copy_for copy member) (record {
           in_table = refl;
           packet = packet;
           whole = whole;
@@ -180,7 +180,7 @@ module _ (s : Chassis) (laid : IsLaidOut s) (numbers : GivenNumbers) (wired : Is
 
   -- the members of a group here, by the tables
   pub those_here : (g : Group) → map (λ n. member_of (basis_of s numbers) n) (filter bound_here (map (λ (q : SwitchPort). q.name) (members (net_of s) switch g))) ≡ members_here (basis_of s numbers) switch g
-  those_here g = ap (λ (ns : List Name). map (λ n. member_of (basis_of s numbers) n) (filter bound_here ns)) (sym (wired.groups switch g))
+  those_here g = ap (λ (ns : List Name). map (λ n. member_of (basis_of s numbers) n) (filter bound_here ns)) (sym (members_so s laid switch g))
 
   module _ (g : Group) (copy : Carried) (on : IsDatapath (basis_of s numbers) switch copy.regs.dp) (to : copy.regs.out_port ≡ group_key g) (within : HasRegistersInRange copy.regs) where
     -- a group's number is not a port's
@@ -223,7 +223,7 @@ module _ (s : Chassis) (laid : IsLaidOut s) (numbers : GivenNumbers) (wired : Is
 
 -- ---- table 32
 
-module _ (s : Chassis) (laid : IsLaidOut s) (numbers : GivenNumbers) (wired : IsWired s numbers) (law : EgressLaw) (onward : Onward) (i : SwitchPort) (i_there : at (net_of s).switch_ports i.name ≡ Some i) (g : Group) (p : Packet) where
+module _ (s : Chassis) (laid : IsLaidOut s) (numbers : GivenNumbers) (wired : IsWired s numbers) (law : EgressLaw) (onward : Onward) (i : SwitchPort) (i_there : at (net_of s).switch_ports i.name ≡ Some i) (virtual : AreVirtual s i.switch) (g : Group) (p : Packet) where
   abbrev others : List Name
   others = other_homes s.scene.config s.scene.here (members (net_of s) i.switch g)
 
@@ -289,12 +289,12 @@ module _ (s : Chassis) (laid : IsLaidOut s) (numbers : GivenNumbers) (wired : Is
 
     out_32 : (f : Flow) → Taken s REMOTE_TABLE (RemoteRow (basis_of s numbers)) wired.remote copy f → RemoteRow (basis_of s numbers) f → Does s f.ops zones copy Framed
     out_32 f t (RemoteRow.remote r other d k home theirs bound apart e) =
-        absurd (not_port s laid numbers wired law onward i.switch (port_identity i) p g copy on_it to within r other d k theirs
+        absurd (not_port s laid numbers wired law onward i.switch virtual (port_identity i) p g copy on_it to within r other d k theirs
         (row_fits s REMOTE_TABLE (RemoteRow (basis_of s numbers)) wired.remote copy f (remote_row d k home) t e))
     out_32 f t (RemoteRow.spread a d also theirs e) =
         let row = spread_row d also (homes_of (basis_of s numbers) a also) in
-        let same = its_group s laid numbers wired law onward i.switch (port_identity i) p g copy on_it to within a d also false theirs (row_fits s REMOTE_TABLE (RemoteRow (basis_of s numbers)) wired.remote copy f row t e) in
-        let are : homes_of (basis_of s numbers) a also ≡ others = (λ j. homes_of (basis_of s numbers) (sym same.0 j) (sym same.1 j)) ∙ others_so s laid numbers wired i.switch g in
+        let same = its_group s laid numbers wired law onward i.switch virtual (port_identity i) p g copy on_it to within a d also false theirs (row_fits s REMOTE_TABLE (RemoteRow (basis_of s numbers)) wired.remote copy f row t e) in
+        let are : homes_of (basis_of s numbers) a also ≡ others = (λ j. homes_of (basis_of s numbers) (sym same.0 j) (sym same.1 j)) ∙ others_so s laid numbers i.switch virtual g in
         as_row s REMOTE_TABLE (RemoteRow (basis_of s numbers)) wired.remote zones copy Framed f row e
         (spread_does s zones copy Framed (homes_of (basis_of s numbers) a also) (framed_so (homes_of (basis_of s numbers) a also) are))
     out_32 f t (RemoteRow.stay e) =
@@ -319,7 +319,7 @@ module _ (s : Chassis) (laid : IsLaidOut s) (numbers : GivenNumbers) (wired : Is
     -- a member has the key of the port of entry where it is that port
     entry_is : (q : SwitchPort) → at (net_of s).switch_ports q.name ≡ Some q → q.switch ≡ i.switch → nat_eq (key q) copy.regs.in_port ≡ same_name q.name i.name
     entry_is q there' on_switch' =
-        let own = key_is s laid numbers wired law onward i.switch (port_identity i) p q there' in
+        let own = key_is s laid numbers wired law onward i.switch virtual (port_identity i) p q there' in
         same_tests (nat_eq (key q) copy.regs.in_port) (same_name q.name i.name)
         (λ equal.
         (bytes_decides q.name i.name).1 (one_port s laid i.switch q.name i.name copy.regs.in_port
@@ -334,21 +334,21 @@ module _ (s : Chassis) (laid : IsLaidOut s) (numbers : GivenNumbers) (wired : Is
     and_turned false true = refl
     and_turned false false = refl
 
-    member : (q : SwitchPort) → Among q (members (net_of s) i.switch g) → IsMember s laid numbers wired law onward i.switch (port_identity i) p next packet whole on came_in within keep q
+    member : (q : SwitchPort) → Among q (members (net_of s) i.switch g) → IsMember s laid numbers wired law onward i.switch virtual (port_identity i) p next packet whole on came_in within keep q
     member q m =
-        let e = member_is s laid numbers wired i.switch g q m in
+        let e = member_is s laid i.switch g q m in
         record {
           there_is = e.there;
           on_it = e.on;
-          keeps = (λ j. not (sym (entry_is q e.there e.on) j) && is_here_where s laid numbers wired q e.there j) ∙ and_turned (not (nat_eq (key q) copy.regs.in_port)) (is_at s.scene.config.bindings q.name s.scene.here);
+          keeps = (λ j. not (sym (entry_is q e.there e.on) j) && is_here_where s q (virtual q.name q e.there e.on) j) ∙ and_turned (not (nat_eq (key q) copy.regs.in_port)) (is_at s.scene.config.bindings q.name s.scene.here);
         }
 
     copies_here : Comes (course_of s) zones (next ∷ []) (EndsAs s (λ t. copy_to_each (leave onward s.scene (port_identity i)) (local_members s.scene i (members (net_of s) i.switch g)) t p) lists)
     copies_here =
         let Then = EndsAs s (λ t. copy_to_each (leave onward s.scene (port_identity i)) (local_members s.scene i (members (net_of s) i.switch g)) t p) lists in
-        group_33 s laid numbers wired law onward i.switch (port_identity i) p g next on_it to within false word zones refl Then
-        (subst (λ ms. Comes (course_of s) zones (copies_for next ms) Then) (those_here s laid numbers wired law onward i.switch (port_identity i) p g)
-        (copies_go s laid numbers wired law onward i.switch (port_identity i) p next packet whole on came_in within keep (members (net_of s) i.switch g) member lists zones hold'))
+        group_33 s laid numbers wired law onward i.switch virtual (port_identity i) p g next on_it to within false word zones refl Then
+        (subst (λ ms. Comes (course_of s) zones (copies_for next ms) Then) (those_here s laid numbers wired law onward i.switch virtual (port_identity i) p g)
+        (copies_go s laid numbers wired law onward i.switch virtual (port_identity i) p next packet whole on came_in within keep (members (net_of s) i.switch g) member lists zones hold'))
 
     -- first the other chassis, and then the members here
     pub spreads : Comes (course_of s) zones (copy ∷ []) (EndsAs s (λ t. spread onward s.scene (sent_from s i) g (members (net_of s) i.switch g) t p) lists)

@@ -1,5 +1,5 @@
 -- From table 34 on: a copy for a port at home here leaves by it, but doesn't go back to the port of entry, unless it may.
-use Rattle.std.specs.Prelude.{◌≡◌, ◌≤◌, ◌<◌, ◌*◌, ◌^◌, ℕ, [], ◌∷◌, Some, bit_and, refl}
+use Rattle.std.specs.Prelude.{◌≡◌, ◌≤◌, ◌<◌, ◌*◌, ◌^◌, ℕ, true, [], ◌∷◌, Some, bit_and, refl}
 use Rattle.std.specs.Int.{bit_at}
 use Rattle.std.proofs.Common.{sym, ap, ◌∙◌, subst, arith}
 use Rattle.std.proofs.lemmas.Nat.Bits.{and_pow}
@@ -14,6 +14,7 @@ use Rattle.inet_packet.specs.declared.regs.Regs.{Regs}
 use Rattle.logical_flows.specs.Stages.{stage_table}
 use Rattle.logical_flows.specs.declared.stage.Pipeline.TheVariants.{Egress}
 use Rattle.logical_flows.specs.declared.stage.Stage.TheVariants.{SwitchTrackOut}
+use Rattle.nb_records.specs.Switches.{is_virtual}
 use Rattle.nb_records.specs.declared.switch.PortKind.TheVariants as port_kind
 use Rattle.nb_records.specs.declared.switch.SwitchPort.{SwitchPort}
 use Rattle.net_model.specs.Entry.{Onward}
@@ -74,9 +75,9 @@ from_within regs within = let h : regs.in_port ≤ 0xffff = within.within reg.In
 pub loopback_is : (regs : Regs) → bit_and regs.flags.0 1 ≡ reg_number reg.Loopback regs
 loopback_is regs = let e : bit_and regs.flags.0 (2 ^ 0) ≡ bit_at regs.flags.0 0 * 2 ^ 0 = and_pow regs.flags.0 0 in omega (arith, e)
 
-module _ (s : Chassis) (laid : IsLaidOut s) (numbers : GivenNumbers) (wired : IsWired s numbers) (law : EgressLaw) (onward : Onward) (came : Identity) (o : SwitchPort) (there : at (net_of s).switch_ports o.name ≡ Some o) where
-  virtual : o.kind ≡ port_kind.Virtual
-  virtual = virtual_is o.kind (wired.virtual o.name o there)
+module _ (s : Chassis) (laid : IsLaidOut s) (numbers : GivenNumbers) (wired : IsWired s numbers) (law : EgressLaw) (onward : Onward) (came : Identity) (o : SwitchPort) (there : at (net_of s).switch_ports o.name ≡ Some o) (virtual : is_virtual o ≡ true) where
+  kind : o.kind ≡ port_kind.Virtual
+  kind = virtual_is o.kind virtual
 
   -- ---- table 64
 
@@ -97,7 +98,7 @@ module _ (s : Chassis) (laid : IsLaidOut s) (numbers : GivenNumbers) (wired : Is
     gives_out =
         ends_so s (λ t. give_out onward (net_of s) o o.kind t q) lists lists (effect.Out o.name copy.packet ∷ []) (leaves o.name q ∷ []) zones
         (subst (λ (r : Packet). IsNumbered s.keys (leaves o.name q) (effect.Out o.name r)) (sym h.packet) IsNumbered.out, tt) h.hold
-        (λ choices ends. ap (λ k. give_out onward (net_of s) o k (trail_with lists choices ends) q) virtual)
+        (λ choices ends. ap (λ k. give_out onward (net_of s) o k (trail_with lists choices ends) q) kind)
 
     out_64 : (f : Flow) → Taken s OUTPUT_TABLE (OutputRow (basis_of s numbers)) wired.output copy f → OutputRow (basis_of s numbers) f → Does s f.ops zones copy Out
     out_64 f t (OutputRow.output r other d k theirs e) =

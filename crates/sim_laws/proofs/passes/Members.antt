@@ -4,7 +4,7 @@ use Rattle.std.specs.List.{list_any}
 use Rattle.std.proofs.Common.{sym, ap, ◌∙◌}
 use Rattle.std.proofs.lemmas.Bool.{false≢true}
 use Rattle.conn_zones.specs.Zoning.{GivenNumbers}
-use Rattle.nb_records.specs.Switches.{is_virtual_kind, takes_unknown, enabled_ports}
+use Rattle.nb_records.specs.Switches.{is_virtual, is_virtual_kind, takes_unknown, enabled_ports}
 use Rattle.nb_records.specs.declared.switch.PortKind.{PortKind}
 use Rattle.nb_records.specs.declared.switch.PortKind.TheVariants as port_kind
 use Rattle.nb_records.specs.declared.switch.SwitchPort.{SwitchPort}
@@ -18,11 +18,12 @@ use Rattle.ovn_base.specs.declared.name.Name.{Name}
 use Rattle.ovn_base.specs.lists.Among.{Among, here, there}
 use Rattle.ovn_base.specs.names.ByName.{at}
 use Rattle.ovn_base.specs.names.SameName.{same_name}
+use Rattle.physical_flows.proofs.GroupMembers.{same_members}
 use Rattle.physical_flows.specs.Homes as homes
 use Rattle.physical_flows.specs.Homes.{is_home, is_at}
 use Rattle.physical_flows.specs.Stages.{homes_of}
 use Rattle.row_laws.proofs.records.SwitchPorts.{IsEnabled, enabled_is}
-use Rattle.sim_laws.specs.passes.Physical.{basis_of, IsWired}
+use Rattle.sim_laws.specs.passes.Physical.{AreVirtual, basis_of}
 use Rattle.sim_laws.specs.pipelines.Standing.{Chassis, net_of, IsLaidOut}
 
 pub virtual_is : (k : PortKind) → is_virtual_kind k ≡ true → k ≡ port_kind.Virtual
@@ -37,20 +38,15 @@ here_so : (chassis : Name) (o : Option Name) → is_here chassis (home_if on o) 
 here_so chassis None = refl
 here_so chassis (Some home) = refl
 
-module _ (s : Chassis) (laid : IsLaidOut s) (numbers : GivenNumbers) (wired : IsWired s numbers) where
+module _ (s : Chassis) where
   -- a virtual port is at home where it is bound
-  pub home_is : (o : SwitchPort) → at (net_of s).switch_ports o.name ≡ Some o → home_of s.scene.config o ≡ home_if on (at s.scene.config.bindings o.name)
-  home_is o found = ap (home_by_kind s.scene.config o) (virtual_is o.kind (wired.virtual o.name o found))
+  pub home_is : (o : SwitchPort) → is_virtual o ≡ true → home_of s.scene.config o ≡ home_if on (at s.scene.config.bindings o.name)
+  home_is o virtual = ap (home_by_kind s.scene.config o) (virtual_is o.kind virtual)
 
-  pub is_here_where : (o : SwitchPort) → at (net_of s).switch_ports o.name ≡ Some o → is_here s.scene.here (home_of s.scene.config o) ≡ is_at s.scene.config.bindings o.name s.scene.here
-  is_here_where o found = ap (is_here s.scene.here) (home_is o found) ∙ here_so s.scene.here (at s.scene.config.bindings o.name)
+  pub is_here_where : (o : SwitchPort) → is_virtual o ≡ true → is_here s.scene.here (home_of s.scene.config o) ≡ is_at s.scene.config.bindings o.name s.scene.here
+  is_here_where o virtual = ap (is_here s.scene.here) (home_is o virtual) ∙ here_so s.scene.here (at s.scene.config.bindings o.name)
 
-  -- a member is an enabled port of the switch
-  pub member_is : (a : Name) (g : Group) (q : SwitchPort) → Among q (members (net_of s) a g) → IsEnabled (net_of s) laid.valid a q
-  member_is a Flood q m = enabled_is (net_of s) laid.valid a q m
-  member_is a Unknown q m = enabled_is (net_of s) laid.valid a q (filter_among (λ (p : SwitchPort). takes_unknown p.addresses) q (enabled_ports (net_of s) a) m).0
-
-  any_so : (chassis : Name) (qs : List SwitchPort) → ((q : SwitchPort) → Among q qs → at (net_of s).switch_ports q.name ≡ Some q)
+  any_so : (chassis : Name) (qs : List SwitchPort) → ((q : SwitchPort) → Among q qs → is_virtual q ≡ true)
       → list_any (λ n. is_at s.scene.config.bindings n chassis) (map (λ (q : SwitchPort). q.name) qs) ≡ list_any (λ q. is_on chassis (home_of s.scene.config q)) qs
   any_so chassis [] each = refl
   any_so chassis (q ∷ qs) each =
@@ -59,12 +55,23 @@ module _ (s : Chassis) (laid : IsLaidOut s) (numbers : GivenNumbers) (wired : Is
       let later = any_so chassis qs (λ r m. each r (there m)) in
       λ j. first j || later j
 
-  -- the other chassis that have a member
-  pub others_so : (a : Name) (g : Group) → homes_of (basis_of s numbers) a g ≡ other_homes s.scene.config s.scene.here (members (net_of s) a g)
-  others_so a g =
-      let each = any_in a g in
+module _ (s : Chassis) (laid : IsLaidOut s) where
+  -- a member is an enabled port of the switch
+  pub member_is : (a : Name) (g : Group) (q : SwitchPort) → Among q (members (net_of s) a g) → IsEnabled (net_of s) laid.valid a q
+  member_is a Flood q m = enabled_is (net_of s) laid.valid a q m
+  member_is a Unknown q m = enabled_is (net_of s) laid.valid a q (filter_among (λ (p : SwitchPort). takes_unknown p.addresses) q (enabled_ports (net_of s) a) m).0
+
+  -- the members by the tables are those of the network
+  pub members_so : (a : Name) (g : Group) → homes.members (net_of s) a g ≡ map (λ (q : SwitchPort). q.name) (members (net_of s) a g)
+  members_so a g = same_members (net_of s) a g laid.valid.named.switch_ports
+
+  -- so are the other chassis that have a member
+  pub others_so : (numbers : GivenNumbers) (a : Name) → AreVirtual s a → (g : Group) → homes_of (basis_of s numbers) a g ≡ other_homes s.scene.config s.scene.here (members (net_of s) a g)
+  others_so numbers a virtual g =
+      let each = any_in in
       λ j. filter (λ c. not (same_name c s.scene.here) && each c j) s.scene.config.chassis
     where
-      any_in : (a : Name) (g : Group) (c : Name) → list_any (λ n. is_at s.scene.config.bindings n c) (homes.members (net_of s) a g) ≡ list_any (λ q. is_on c (home_of s.scene.config q)) (members (net_of s) a g)
-      any_in a g c =
-          ap (list_any (λ n. is_at s.scene.config.bindings n c)) (wired.groups a g) ∙ any_so c (members (net_of s) a g) (λ q m. (member_is a g q m).there)
+      any_in : (c : Name) → list_any (λ n. is_at s.scene.config.bindings n c) (homes.members (net_of s) a g) ≡ list_any (λ q. is_on c (home_of s.scene.config q)) (members (net_of s) a g)
+      any_in c =
+          ap (list_any (λ n. is_at s.scene.config.bindings n c)) (members_so a g)
+          ∙ any_so s c (members (net_of s) a g) (λ q m. let e = member_is a g q m in virtual q.name q e.there e.on)

@@ -44,7 +44,7 @@ use Rattle.sim_laws.proofs.passes.Members.{home_is}
 use Rattle.sim_laws.proofs.passes.OnePort.{IsFor, IsHomed, IsStaying, homes_33, unbound_33, stays_32, crosses_32}
 use Rattle.sim_laws.proofs.pipelines.Pieces.{comes_then}
 use Rattle.sim_laws.proofs.pipelines.TargetKeys.{IsFoundTarget, found_so}
-use Rattle.sim_laws.specs.passes.Physical.{IsWired}
+use Rattle.sim_laws.specs.passes.Physical.{AreVirtual, IsWired}
 use Rattle.sim_laws.specs.passes.Sending.{sent_from, IsSent, SendingLaw}
 use Rattle.sim_laws.specs.passes.ToEnd.{Never, EndsAs}
 use Rattle.sim_laws.specs.pipelines.Egress.{EgressLaw}
@@ -78,7 +78,7 @@ target_one s i p = by (asked_ip p)
     by None = found
     by (Some ip) = by_answer ip (first_answer (mac_of_ip ip) (filter (λ q. is_virtual q && is_other i q) (enabled_ports (net_of s) i.switch)))
 
-module _ (s : Chassis) (laid : IsLaidOut s) (numbers : GivenNumbers) (wired : IsWired s numbers) (law : EgressLaw) (onward : Onward) (i : SwitchPort) (i_there : at (net_of s).switch_ports i.name ≡ Some i) where
+module _ (s : Chassis) (laid : IsLaidOut s) (numbers : GivenNumbers) (wired : IsWired s numbers) (law : EgressLaw) (onward : Onward) (i : SwitchPort) (i_there : at (net_of s).switch_ports i.name ≡ Some i) (virtual : AreVirtual s i.switch) where
   abbrev from : SentFrom
   from = sent_from s i
 
@@ -113,13 +113,13 @@ module _ (s : Chassis) (laid : IsLaidOut s) (numbers : GivenNumbers) (wired : Is
     goes_out bound may =
         here bound (λ t. leave onward s.scene (port_identity i) o t p)
         (λ after last next homed.
-        leaves_by s laid numbers wired law onward (port_identity i) o there p after last next homed.at_exit (λ same. homed.loopback ∙ may (sym homed.from ∙ same ∙ homed.to)))
+        leaves_by s laid numbers wired law onward (port_identity i) o there (virtual o.name o there on_it) p after last next homed.at_exit (λ same. homed.loopback ∙ may (sym homed.from ∙ same ∙ homed.to)))
 
     turned : at s.scene.config.bindings o.name ≡ Some s.scene.here → copy.regs.in_port ≡ copy.regs.out_port → reg_number reg.Loopback copy.regs ≡ 0 → Goes (λ t. drop_for cause.Loopback (spot_of o) t)
     turned bound same off =
         here bound (λ t. drop_for cause.Loopback (spot_of o) t)
         (λ after last next homed.
-        turns_back s laid numbers wired law onward (port_identity i) o there p after last next homed.at_exit (homed.from ∙ same ∙ sym homed.to) (homed.loopback ∙ off))
+        turns_back s laid numbers wired law onward (port_identity i) o there (virtual o.name o there on_it) p after last next homed.at_exit (homed.from ∙ same ∙ sym homed.to) (homed.loopback ∙ off))
 
     nowhere_so : at s.scene.config.bindings o.name ≡ None → Goes (λ t. drop_for cause.Unbound (spot_of o) t)
     nowhere_so none =
@@ -157,7 +157,7 @@ module _ (s : Chassis) (laid : IsLaidOut s) (numbers : GivenNumbers) (wired : Is
     sends_one : reg_number reg.Loopback copy.regs ≡ 0 → Goes (λ t. send_home (home_of s.scene.config o) onward s.scene from o t p)
     sends_one off =
         ends_same s (λ t. send_home (home_if on (at s.scene.config.bindings o.name)) onward s.scene from o t p) (λ t. send_home (home_of s.scene.config o) onward s.scene from o t p) lists
-        (λ choices ends. ap (λ k. send_home k onward s.scene from o (trail_with lists choices ends) p) (sym (home_is s laid numbers wired o there))) zones (copy ∷ [])
+        (λ choices ends. ap (λ k. send_home k onward s.scene from o (trail_with lists choices ends) p) (sym (home_is s o (virtual o.name o there on_it)))) zones (copy ∷ [])
         (by_home (at s.scene.config.bindings o.name) refl off)
 
   -- ---- to any target
@@ -191,11 +191,11 @@ module _ (s : Chassis) (laid : IsLaidOut s) (numbers : GivenNumbers) (wired : Is
           hold = h.hold;
         }) h.came h.loopback
     sends (to_group Flood) one h =
-        spreads s laid numbers wired law onward i i_there Flood p lists zones copy h.in_table h.packet (subst IsWhole h.packet h.whole) h.on h.came h.to h.arrived h.within h.hold
+        spreads s laid numbers wired law onward i i_there virtual Flood p lists zones copy h.in_table h.packet (subst IsWhole h.packet h.whole) h.on h.came h.to h.arrived h.within h.hold
     sends (to_group Unknown) one h =
-        spreads s laid numbers wired law onward i i_there Unknown p lists zones copy h.in_table h.packet (subst IsWhole h.packet h.whole) h.on h.came h.to h.arrived h.within h.hold
+        spreads s laid numbers wired law onward i i_there virtual Unknown p lists zones copy h.in_table h.packet (subst IsWhole h.packet h.whole) h.on h.came h.to h.arrived h.within h.hold
     sends to_nobody one h = absurd h.to
 
 pub sends_on : EgressLaw → SendingLaw
-sends_on law s laid numbers wired onward i i_there home target p is lists zones copy h =
-    sends s laid numbers wired law onward i i_there home p lists zones copy target (subst (IsOneOf (enabled_ports (net_of s) i.switch)) (sym is) (target_one s i p)) h
+sends_on law s laid numbers wired onward i i_there home virtual target p is lists zones copy h =
+    sends s laid numbers wired law onward i i_there virtual home p lists zones copy target (subst (IsOneOf (enabled_ports (net_of s) i.switch)) (sym is) (target_one s i p)) h

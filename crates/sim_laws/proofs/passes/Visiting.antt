@@ -37,7 +37,7 @@ use Rattle.sim_laws.proofs.passes.LiveNumbers.{datapath_low, port_low, switch_li
 use Rattle.sim_laws.proofs.passes.RowSteps.{Does, Taken, row_step, row_fits, as_row}
 use Rattle.sim_laws.proofs.pipelines.Copies.{goes_so}
 use Rattle.sim_laws.proofs.pipelines.Pieces.{comes_then}
-use Rattle.sim_laws.specs.passes.Physical.{basis_of, IsWired}
+use Rattle.sim_laws.specs.passes.Physical.{AreVirtual, basis_of, IsWired}
 use Rattle.sim_laws.specs.passes.Sending.{sent_from, SendingLaw}
 use Rattle.sim_laws.specs.passes.ToEnd.{Never, EndsAs}
 use Rattle.sim_laws.specs.passes.Visiting.{VisitLaw}
@@ -49,7 +49,7 @@ use Rattle.sim_laws.specs.pipelines.Standing.{Chassis, net_of, course_of, IsLaid
 use Rattle.sim_laws.specs.pipelines.WalkOn.{Reached, Comes}
 
 module _ (s : Chassis) (laid : IsLaidOut s) (numbers : GivenNumbers) (wired : IsWired s numbers) (first_law : FirstTableLaw) (in_law : IngressLaw) (sending : SendingLaw) (i : SwitchPort) (i_there : at (net_of s).switch_ports i.name ≡ Some i)
-    (home : at s.scene.config.bindings i.name ≡ Some s.scene.here) where
+    (home : at s.scene.config.bindings i.name ≡ Some s.scene.here) (virtual : AreVirtual s i.switch) where
   -- ---- through the switch
 
   -- a packet without a target is dropped in both
@@ -69,7 +69,7 @@ module _ (s : Chassis) (laid : IsLaidOut s) (numbers : GivenNumbers) (wired : Is
         (comes_then s (way_in s i p) (λ x rest t. send_to x.0 onward s.scene (sent_from s i) t x.1) lists (GoesTo s i copy) Never zones (copy ∷ [])
         (in_law s laid i p lists zones copy (first_law s laid i i_there p whole lists zones hold copy in_table packet first))
         (λ after x last next goes.
-        sending s laid numbers wired onward i i_there home x.0 x.1 goes.target after last next (record {
+        sending s laid numbers wired onward i i_there home virtual x.0 x.1 goes.target after last next (record {
           in_table = goes.in_table;
           packet = goes.packet;
           whole = goes.whole;
@@ -180,4 +180,4 @@ module _ (s : Chassis) (laid : IsLaidOut s) (numbers : GivenNumbers) (wired : Is
         (λ after q last next first. passes (passing_on s.scene) p whole after last first.hold_them next first.in_table first.packet first.regs first.off first.inside)
 
 pub visits_so : FirstTableLaw → IngressLaw → SendingLaw → VisitLaw
-visits_so first_law in_law sending s laid numbers wired i i_there home entry p whole lists zones hold = visits s laid numbers wired first_law in_law sending i i_there home p whole lists zones hold
+visits_so first_law in_law sending s laid numbers wired i i_there home virtual entry p whole lists zones hold = visits s laid numbers wired first_law in_law sending i i_there home virtual p whole lists zones hold

@@ -19,7 +19,7 @@ use Rattle.tunnel_keys.specs.declared.owner.Identity.{Identity}
 use Rattle.tunnel_keys.specs.declared.owner.PortKey.{PortKey}
 use Rattle.sim_laws.specs.Sound.{HasAimKey}
 use Rattle.sim_laws.specs.WalkLaw.{tunnel_entry_of}
-use Rattle.sim_laws.specs.passes.Physical.{IsWired}
+use Rattle.sim_laws.specs.passes.Physical.{IsWired, AreVirtual}
 use Rattle.sim_laws.specs.passes.ToEnd.{EndsAs}
 use Rattle.sim_laws.specs.pipelines.HeldLists.{HoldLists}
 use Rattle.sim_laws.specs.pipelines.Standing.{Chassis, net_of, course_of, IsLaidOut}
@@ -48,11 +48,11 @@ pub record MayArrive (s : Chassis) (x : Crossing) : Type 0 where
   pub no_return : x.aim ≢ ToPort x.in_port
 
 -- Whatever walk the packet of a crossing takes from its frame, it does what the network says of its arrival. It is lost where its switch is
--- gone, or where its port is gone or at home elsewhere. Nobody has a live key of a port on a switch but
--- the ports of the records.
+-- gone, or where its port is gone or at home elsewhere. Nobody has a live key of a port on a switch but the ports of the records, and no
+-- port of the datapath leads to a router.
 abbrev pub ArrivingLaw : Type 0
 ArrivingLaw =
     (s : Chassis) → IsLaidOut s → (numbers : GivenNumbers) → IsWired s numbers → AreOwned s
-    → (n : ℕ) (x : Crossing) → MayArrive s x → s.entry ≡ tunnel_entry_of s.keys x
+    → (n : ℕ) (x : Crossing) → MayArrive s x → AreVirtual s x.datapath.name → s.entry ≡ tunnel_entry_of s.keys x
     → (lists : Lists) (zones : ZoneLists) → HoldLists s.number zones lists
     → Comes (course_of s) zones (start (tunnel_entry_of s.keys x) x.packet ∷ []) (EndsAs s (λ t. arrival s.scene n x t) lists)

@@ -1,19 +1,16 @@
 -- The tables of a chassis before a switch's pipelines, between them and behind them.
-use Rattle.std.specs.Prelude.{◌≡◌, ◌≤◌, ◌↔◌, ℕ, true, map, Some, IsSome}
+use Rattle.std.specs.Prelude.{◌≡◌, ◌≤◌, ◌↔◌, ℕ, true, Some, IsSome}
 use Rattle.conn_zones.specs.Zoning.{GivenNumbers, number_on}
 use Rattle.conn_zones.specs.declared.numbers.TheConstants.{MAX_ZONE}
 use Rattle.conn_zones.specs.declared.numbers.ZoneUse.TheVariants.{Port}
 use Rattle.flow_table.specs.declared.flow.Flow.{Flow}
 use Rattle.nb_records.specs.Switches.{is_virtual}
 use Rattle.nb_records.specs.declared.switch.SwitchPort.{SwitchPort}
-use Rattle.net_model.specs.Targets.{members}
 use Rattle.net_model.specs.Trail.{of_port}
-use Rattle.net_model.specs.declared.crossing.Group.{Group}
 use Rattle.ovn_base.specs.declared.name.Name.{Name}
 use Rattle.ovn_base.specs.declared.stages.TheConstants.{ENTRY_TABLE, REMOTE_TABLE, LOCAL_TABLE, LOOPBACK_TABLE, OUTPUT_TABLE}
 use Rattle.ovn_base.specs.lists.Among.{Among}
 use Rattle.ovn_base.specs.names.ByName.{at}
-use Rattle.physical_flows.specs.Homes as homes
 use Rattle.physical_flows.specs.Stages.{Basis, EntryRow, RemoteRow, HomeRow, ReturnRow, OutputRow}
 use Rattle.sim_laws.specs.pipelines.Standing.{Chassis, net_of}
 
@@ -25,8 +22,7 @@ basis_of s numbers = record { chassis = s.scene.here; all = s.scene.config.chass
 abbrev pub HoldsAt : Chassis → ℕ → (Flow → Type 0) → Type 0
 HoldsAt s table Row = (f : Flow) → f.table ≡ table → Among f s.flows ↔ Row f
 
--- These tables hold their rows, and zones have the numbers that were given. No port leads to a router, and groups have the ports that they have in
--- the network: all but those that are disabled.
+-- These tables hold their rows, and zones have the numbers that were given.
 pub record IsWired (s : Chassis) (numbers : GivenNumbers) : Type 0 where
   pub entry : HoldsAt s ENTRY_TABLE (EntryRow (basis_of s numbers))
   pub remote : HoldsAt s REMOTE_TABLE (RemoteRow (basis_of s numbers))
@@ -37,5 +33,7 @@ pub record IsWired (s : Chassis) (numbers : GivenNumbers) : Type 0 where
   -- a port that is bound to the chassis has a zone here
   pub zoned : (q : Name) → at s.scene.config.bindings q ≡ Some s.scene.here → IsSome (s.number (of_port q))
   pub in_range : (q : Name) (z : ℕ) → s.number (of_port q) ≡ Some z → z ≤ MAX_ZONE
-  pub virtual : (q : Name) (port : SwitchPort) → at (net_of s).switch_ports q ≡ Some port → is_virtual port ≡ true
-  pub groups : (switch : Name) (group : Group) → homes.members (net_of s) switch group ≡ map (λ (q : SwitchPort). q.name) (members (net_of s) switch group)
+
+-- no port of the switch leads to a router
+abbrev pub AreVirtual : Chassis → Name → Type 0
+AreVirtual s switch = (q : Name) (port : SwitchPort) → at (net_of s).switch_ports q ≡ Some port → port.switch ≡ switch → is_virtual port ≡ true

@@ -16,7 +16,7 @@ use Rattle.ovn_base.specs.names.ByName.{at}
 use Rattle.row_laws.specs.Numbers.{IsDatapathKey, IsPortKey}
 use Rattle.switch_engine.specs.Zones.{ZoneLists}
 use Rattle.switch_engine.specs.declared.carried.Carried.{Carried}
-use Rattle.sim_laws.specs.passes.Physical.{IsWired}
+use Rattle.sim_laws.specs.passes.Physical.{IsWired, AreVirtual}
 use Rattle.sim_laws.specs.passes.ToEnd.{EndsAs}
 use Rattle.sim_laws.specs.pipelines.HeldLists.{HoldLists}
 use Rattle.sim_laws.specs.pipelines.Ingress.{sent_as, IsNumberOf, loopback_for}
@@ -42,10 +42,10 @@ pub record IsSent (s : Chassis) (i : SwitchPort) (target : Target) (p : Packet) 
   pub hold : HoldLists s.number zones lists
 
 -- Whatever walk takes on a copy that is sent from a port at home here does with it what the network says, up to the last end: it leaves by its
--- port, crosses to other chassis, or is dropped.
+-- port, crosses to other chassis, or is dropped. No port of its switch leads to a router.
 abbrev pub SendingLaw : Type 0
 SendingLaw =
     (s : Chassis) → IsLaidOut s → (numbers : GivenNumbers) → IsWired s numbers → (onward : Onward)
-    → (i : SwitchPort) → at (net_of s).switch_ports i.name ≡ Some i → at s.scene.config.bindings i.name ≡ Some s.scene.here
+    → (i : SwitchPort) → at (net_of s).switch_ports i.name ≡ Some i → at s.scene.config.bindings i.name ≡ Some s.scene.here → AreVirtual s i.switch
     → (target : Target) (p : Packet) → target ≡ target_of (net_of s) i p → (lists : Lists) (zones : ZoneLists) (copy : Carried)
     → IsSent s i target p lists zones copy → Comes (course_of s) zones (copy ∷ []) (EndsAs s (λ t. send_to target onward s.scene (sent_from s i) t p) lists)

@@ -8,7 +8,7 @@ use Rattle.net_model.specs.declared.crossing.Group.TheVariants.{Flood, Unknown}
 use Rattle.physical_flows.specs.Compiling.{basis_of}
 use Rattle.physical_flows.specs.Numbers.{datapath_number}
 use Rattle.physical_flows.specs.Stages.{Basis}
-use Rattle.physical_flows.specs.TableList.{group_rows, group_among, here_among, bound_among, others_among}
+use Rattle.physical_flows.specs.TableList.{rows_among, group_among}
 use Rattle.physical_flows.specs.Units.{switch_here}
 use Rattle.physical_flows.proofs.Members.{groups_are}
 use Rattle.physical_flows.proofs.SwitchLists.{found_record, listed_ports}
@@ -19,18 +19,14 @@ returns c =
     let b : Basis = basis_of c.args.self.now in
     let a : Name = c.args.name.now in
     let dp : ℕ = c.in-Some.datapath in
-    let all : List (Name × ℕ) = c.as_slice-all.result.now in
-    let unknown : List (Name × ℕ) = c.in_ok-unknown.unknown in
+    let all : List (Name × ℕ) = c.as_slice-ports.result.now in
     let switch = found_record c.switch.result (at b.net.switches a) c.switch.ensures (c.is_none.ensures ∙ ap (λ none. not none) c.if-is_none.false) in
     let number : Some dp ≡ datapath_number b.keys a = c.in-Some.ensures in
-    let ports : all ≡ ports_on b.keys.ports a = c.as_slice-all.ensures ∙ listed_ports b.keys a dp c.in-Some-ports.ports.now number c.in-Some-ports.ensures in
-    let members : unknown ≡ group_among b Unknown all = c.in_ok-unknown.ensures in
-    let flood : c.push_group.new.flows ≡ c.args.flows.now ++ group_rows dp Flood (others_among b (bound_among b all)) (here_among b all) = c.in_ok-push_group.ensures in
-    let slice : c.as_slice.result.now ≡ unknown = c.as_slice.ensures in
-    let rows : c.push_group.new.flows ++ group_rows dp Unknown (others_among b (bound_among b c.as_slice.result.now)) (here_among b c.as_slice.result.now)
-    ≡ c.args.flows.now ++ switch_here b a (at b.net.switches a) (datapath_number b.keys a) =
-    (λ i. flood i ++ group_rows dp Unknown (others_among b (bound_among b (slice i))) (here_among b (slice i)))
-    ∙ groups_are b c.requires.valid c.requires.keys a dp all unknown c.args.flows.now ports members
+    let ports : all ≡ ports_on b.keys.ports a = c.as_slice-ports.ensures ∙ listed_ports b.keys a dp c.in-Some-ports.ports.now number c.in-Some-ports.ensures in
+    let flood : c.push_group.new.flows ≡ c.args.flows.now ++ rows_among b dp Flood (group_among b Flood all) = c.in_ok-push_group.ensures in
+    let rows : c.push_group.new.flows ++ rows_among b dp Unknown (group_among b Unknown all) ≡ c.args.flows.now ++ switch_here b a (at b.net.switches a) (datapath_number b.keys a) =
+    ap (λ fs. fs ++ rows_among b dp Unknown (group_among b Unknown all)) flood
+    ∙ groups_are b c.requires.valid c.requires.keys a dp all c.args.flows.now ports
     ∙ ap (λ (o : Option Switch). c.args.flows.now ++ switch_here b a o (Some dp)) (sym switch.1)
     ∙ ap (λ (o : Option ℕ). c.args.flows.now ++ switch_here b a (at b.net.switches a) o) number in
     on_ok_weaker c.push_group-2.result (λ e. e ∙ rows) c.push_group-2.ensures

@@ -1,13 +1,13 @@
 use Rattle.std.proofs.Common.{sym, subst, List, drop}
 use Rattle.std.proofs.lemmas.List.{drop_all}
 use Rattle.flow_refs.specs.Origins.{IsEachOnce}
-use Rattle.flow_refs.specs.Store.{IsKept}
+use Rattle.flow_refs.specs.Store.{Prepared, IsKept, IsPreparedFor}
 use Rattle.flow_table.specs.declared.flow.Flow.{Flow}
 use Rattle.physical_flows.specs.Compiling.{basis_of}
 use Rattle.physical_flows.specs.Stages.{Basis}
 use Rattle.physical_flows.specs.UnitFlows.{UnitStore, same_flow, unit_order}
 use Rattle.physical_flows.specs.declared.unit.FlowUnit.{FlowUnit}
-use Rattle.physical_flows.proofs.UnitStores.{all_given, given_once, is_patch}
+use Rattle.physical_flows.proofs.UnitStores.{all_given, given_once, is_patch, still_prepared}
 use Rattle.physical_flows.proofs.unit_flows.UnitFlows.prepare.Goals as goal
 
 pub prepare-requires-clause-once : goal.prepare-requires-clause-once
@@ -25,3 +25,9 @@ returns-clause-prepared c =
     let e = c.in_ok-patch.ensures in
     let kept : IsKept same_flow unit_order c.args.self.now.origins c.prepare.new.self.origins = subst (λ (s : UnitStore). IsKept same_flow unit_order s.origins c.prepare.new.self.origins) c.self.view_is e.kept in
     is_patch c.exact_flow.ensures c.exact_unit.ensures.order b es c.units.changes c.args.self.now c.prepare.new.self c.in_ok-patch.patch c.requires.everywhere all e.prepared e.same kept
+
+pub returns-clause-left : goal.returns-clause-left
+returns-clause-left c =
+    let new : UnitStore = c.prepare.new.self in
+    still_prepared c.args.self.now new (subst (λ (s : UnitStore). IsKept same_flow unit_order s.origins new.origins) c.self.view_is c.prepare.ensures.kept)
+    (subst (λ (s : UnitStore). (p : Prepared Flow FlowUnit) → IsPreparedFor same_flow unit_order s p → IsPreparedFor same_flow unit_order new p) c.self.view_is c.prepare.ensures.stays)
