@@ -8,3 +8,4 @@ pub mod StageActions
 pub mod StageLaws
 pub mod Passages
 pub mod Ways
+pub mod routers

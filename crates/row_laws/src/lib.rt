@@ -1,5 +1,6 @@
 //! Laws of rows and stages, over definitions alone: which row is taken is told in names, and it does what the network says.
 #![tactic(auto)]
 
+pub mod routers;
 pub mod rows;
 pub mod stages;

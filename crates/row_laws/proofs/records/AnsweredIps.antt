@@ -52,14 +52,14 @@ order_from : (xs : List Ip4) (x : Ip4) → Among x (ips_in_order xs) → Among x
 order_from [] x m = m
 order_from (y ∷ ys) x m = elim ((inserted (ips_in_order ys) y x).0 m) [ inl n ↦ there (order_from ys x n) | inr e ↦ among_same x y ys e ]
 
-order_to : (xs : List Ip4) (x : Ip4) → Among x xs → Among x (ips_in_order xs)
+pub order_to : (xs : List Ip4) (x : Ip4) → Among x xs → Among x (ips_in_order xs)
 order_to [] x m = m
 order_to (y ∷ ys) x m = (inserted (ips_in_order ys) y x).1 (elim (among_cases x y ys m) [ inl e ↦ inr e | inr n ↦ inl (order_to ys x n) ])
 
 -- ---- the addresses are those that the port answers
 
 module _ (net : Network) (ip : Ip4) where
-  answered_from : (p : RouterPort) → Among ip (answered_ips net p) → answers net p ip ≡ true
+  pub answered_from : (p : RouterPort) → Among ip (answered_ips net p) → answers net p ip ≡ true
   answered_from p m = elim (among_append ip (own_ips p) (near_ips net p) (order_from (own_ips p ++ near_ips net p) ip m)) [
     | inl n ↦
         let x = map_among (λ (n : Cidr). n.addr) ip p.networks n in
@@ -69,7 +69,7 @@ module _ (net : Network) (ip : Ip4) where
         or_right (has_own_ip ip p) _ (and_from (list_any (same_ip ip) (served_ips net p.router)) (is_near p ip) (among_any (same_ip ip) ip (served_ips net p.router) f.0 (own_ip ip)) f.1)
   ]
 
-  answered_to : (p : RouterPort) → answers net p ip ≡ true → Among ip (answered_ips net p)
+  pub answered_to : (p : RouterPort) → answers net p ip ≡ true → Among ip (answered_ips net p)
   answered_to p h = order_to (own_ips p ++ near_ips net p) ip (elim (or_cases (has_own_ip ip p) (list_any (same_ip ip) (served_ips net p.router) && list_any (λ n. contains n ip) p.networks) h) [
     | inl own ↦
         let n = any_among (λ (n : Cidr). same_ip ip n.addr) p.networks own in

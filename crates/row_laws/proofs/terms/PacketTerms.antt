@@ -48,7 +48,7 @@ module _ (who : Roster) (s : Sight) (range : HasFieldsInRange s.packet) where
 
   -- ---- what is asked for before a field is read
 
-  needs_ip4 : has_needs f.Ip4Src no_regs p ≡ carries_ip4 p
+  pub needs_ip4 : has_needs f.Ip4Src no_regs p ≡ carries_ip4 p
   needs_ip4 = and-true _ ∙ whole 16 (field.ether_type p.body) 0x800 (small who s range f.EthType refl 16 refl) (omega arith)
 
   needs_arp : has_needs f.ArpOp no_regs p ≡ carries_arp p

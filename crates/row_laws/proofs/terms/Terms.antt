@@ -46,7 +46,7 @@ pub swapped : (n k : ℕ) → (n == k) ≡ (k == n)
 swapped n k = same_tests (n == k) (k == n) (λ h. eq-eqb k n (sym (eqb-true n k h))) (λ h. eq-eqb n k (sym (eqb-true k n h)))
 
 -- it has the bits of a prefix exactly where the prefix has it
-in_prefix : (n a len : ℕ) → n < 2 ^ 32 → a < 2 ^ 32 → len ≤ 32
+pub in_prefix : (n a len : ℕ) → n < 2 ^ 32 → a < 2 ^ 32 → len ≤ 32
     → fits (under (bit_and a (prefix_mask len)) (prefix_mask len)) n ≡ (n / 2 ^ (32 - len) == a / 2 ^ (32 - len))
 in_prefix n a len small also short =
     let k : ℕ = 32 - len in

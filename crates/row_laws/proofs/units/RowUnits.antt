@@ -232,7 +232,7 @@ module _ (net : Network) (valid : IsValid net) (d : Name) (sw : Switch) (is_swit
 -- ---- rows of units are rows of the table
 
 module _ (net : Network) (s : Stage) (r : LFlow) where
-  rows_among : (u : UnitId) → Among r (rows_in s net u) → Among r (rows_of net u)
+  pub rows_among : (u : UnitId) → Among r (rows_in s net u) → Among r (rows_of net u)
   rows_among u m = among_flat_map (λ t. rows_in t net u) s r all_stages (in_all s) m
 
   pub a_port_row : (d q : Name) (port : SwitchPort) → at net.switch_ports q ≡ Some port → port.switch ≡ d → Among r (switch_port_rows s net port) → IsRowIn net (stage_table s) d r

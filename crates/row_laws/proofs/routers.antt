@@ -1,0 +1,12 @@
+-- The stages of a router.
+pub mod RouterUnits
+pub mod TakenAtRouter
+pub mod OwnIps
+pub mod InputTerms
+pub mod Reached
+pub mod AdmitAtRouter
+pub mod OwnAtRouter
+pub mod InputAtRouter
+pub mod NeighbourAtRouter
+pub mod PlainAtRouter
+pub mod EachAtRouter

@@ -1,0 +1,4 @@
+-- The stages of a router.
+pub mod RouterCopies
+pub mod RouterActions
+pub mod RouterLaws
