@@ -1,4 +1,5 @@
 -- Lemmas.
+pub mod journey_laws
 pub mod passes
 pub mod pipelines
 pub mod ArrivalWalk

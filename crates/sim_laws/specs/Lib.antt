@@ -1,4 +1,5 @@
 -- Definitions that contracts cite.
+pub mod journeys
 pub mod passes
 pub mod pipelines
 pub mod Consistent

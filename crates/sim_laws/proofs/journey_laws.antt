@@ -1,0 +1,24 @@
+-- Lemmas on journeys of the simulated chassis.
+pub mod Premises
+pub mod Ready
+pub mod Ways
+pub mod SwitchWays
+pub mod SendingWays
+pub mod SentCrossings
+pub mod WholePackets
+pub mod VisitWays
+pub mod Telling
+pub mod Rezoning
+pub mod Walked
+pub mod Entering
+pub mod ReadFrames
+pub mod ArrivingFrames
+pub mod Losing
+pub mod Moving
+pub mod Draining
+pub mod RetiredRows
+pub mod Finishing
+pub mod First
+pub mod Filling
+pub mod Expiring
+pub mod Ticking

@@ -1,0 +1,153 @@
+-- What the laws of passes ask of a chassis, soundness gives.
+use Rattle.std.specs.Prelude.{◌≡◌, ◌++◌, ℕ, true, List, map, Option, None, Some, option_map, refl}
+use Rattle.std.proofs.Common.{sym, ap, ◌∙◌, subst, inl, inr}
+use Rattle.std.proofs.Math.Dec.{eqb as nat_eq}
+use Rattle.std.proofs.lemmas.Bool.Decides.{Decides-eqb}
+use Rattle.conn_zones.specs.Zoning.{Zoned, KnownHomes, GivenNumbers, home_for, number_on}
+use Rattle.conn_zones.specs.declared.numbers.ZoneUse.{ZoneUse}
+use Rattle.conn_zones.specs.declared.numbers.ZoneUse.TheVariants as zone
+use Rattle.flow_table.specs.declared.flow.Flow.{Flow}
+use Rattle.match_cubes.specs.declared.sets.Sets.{Sets}
+use Rattle.nb_records.specs.Network.{Network}
+use Rattle.nb_records.specs.declared.router.Router.{Router}
+use Rattle.nb_records.specs.declared.router.RouterPort.{RouterPort}
+use Rattle.nb_records.specs.declared.switch.Switch.{Switch}
+use Rattle.nb_records.specs.declared.switch.SwitchPort.{SwitchPort}
+use Rattle.nb_rules.specs.Valid.{IsValid}
+use Rattle.net_model.specs.Arrival as model
+use Rattle.net_model.specs.Arrival.{is_that_switch}
+use Rattle.net_model.specs.Config.{switch_identity}
+use Rattle.net_model.specs.Owners.{owners_of, switch_owner, router_owner, router_port_owner, switch_port_owner}
+use Rattle.net_model.specs.State.{State}
+use Rattle.net_model.specs.Trail.{ListOwner, of_port, dnat_of, snat_of}
+use Rattle.net_model.specs.declared.crossing.Aim.{Aim}
+use Rattle.net_model.specs.declared.crossing.Aim.TheVariants.{ToPort, ToGroup}
+use Rattle.net_model.specs.declared.crossing.Crossing.{Crossing}
+use Rattle.ovn_base.proofs.AmongLaws.{among_append, among_none, map_among}
+use Rattle.ovn_base.proofs.ByNameLaws.{among_at}
+use Rattle.ovn_base.specs.declared.name.Name.{Name}
+use Rattle.ovn_base.specs.lists.Among.{Among}
+use Rattle.ovn_base.specs.names.ByName.{at}
+use Rattle.physical_flows.specs.RecordKeys.{HaveKeys}
+use Rattle.switch_engine.specs.Outcome.{Choosing}
+use Rattle.switch_engine.specs.declared.effect.Entry.{Entry}
+use Rattle.tunnel_keys.specs.Edits.{IsLive}
+use Rattle.tunnel_keys.specs.Keys.{Keys}
+use Rattle.tunnel_keys.specs.Same.{identity_exact}
+use Rattle.tunnel_keys.specs.declared.owner.Identity.{Identity}
+use Rattle.tunnel_keys.specs.declared.owner.KeyOwner.{KeyOwner}
+use Rattle.sim_laws.specs.Sound.{MayWait, IsOnLive, IsAimOnLive}
+use Rattle.sim_laws.specs.Visit as old
+use Rattle.sim_laws.specs.Visit.{has_birth}
+use Rattle.sim_laws.specs.journeys.InState.{use_of, zones_on, chassis_at}
+use Rattle.sim_laws.specs.journeys.Premises.{SoundOnLaw, AmidstLaw}
+use Rattle.sim_laws.specs.journeys.UnderWay.{HasNoRouter}
+use Rattle.sim_laws.specs.passes.Arriving.{IsOnSwitch, IsAimOnSwitch, MayArrive}
+use Rattle.sim_laws.specs.pipelines.HeldLists.{AreApart}
+use Rattle.sim_laws.specs.pipelines.Standing.{Chassis}
+
+-- ---- who has a live key
+
+module _ (net : Network) (keys : Keys) (valid : IsValid net) (have : HaveKeys net keys) where
+  switch_live : (e : Name × Switch) → Among e net.switches → IsLive keys (switch_owner e)
+  switch_live e m =
+      let k = have.datapath_has e.0 e.1 (among_at e.0 e.1 net.switches valid.in_order.switches m) in
+      (k.0.key, k.1 ∙ (λ i. Some (record { birth = k.2 i; key = k.0.key })))
+
+  port_live : (e : Name × SwitchPort) → Among e net.switch_ports → IsLive keys (switch_port_owner e)
+  port_live e m =
+      let k = have.port_has e.0 e.1 (among_at e.0 e.1 net.switch_ports valid.in_order.switch_ports m) in
+      (k.0.key, k.1 ∙ (λ i. Some (record { birth = k.2 i; datapath = k.3 i; key = k.0.key })))
+
+  pub owners_live : HasNoRouter net → (owner : KeyOwner) → Among owner (owners_of net) → IsLive keys owner
+  owners_live none owner m = elim (among_append owner (map switch_owner net.switches ++ map router_owner net.routers ++ map router_port_owner net.router_ports) (map switch_port_owner net.switch_ports) m) [
+    | inl first ↦ others first
+    | inr port ↦ let e = map_among switch_port_owner owner net.switch_ports port in subst (IsLive keys) (sym e.2) (port_live e.0 e.1)
+  ]
+    where
+      datapaths : Among owner (map switch_owner net.switches ++ map router_owner net.routers) → IsLive keys owner
+      datapaths first = elim (among_append owner (map switch_owner net.switches) (map router_owner net.routers) first) [
+        | inl switch ↦ let e = map_among switch_owner owner net.switches switch in subst (IsLive keys) (sym e.2) (switch_live e.0 e.1)
+        | inr router ↦ absurd (among_none owner (subst (λ (rs : List (Name × Router)). Among owner (map router_owner rs)) none.routers router))
+      ]
+
+      others : Among owner (map switch_owner net.switches ++ map router_owner net.routers ++ map router_port_owner net.router_ports) → IsLive keys owner
+      others first = elim (among_append owner (map switch_owner net.switches ++ map router_owner net.routers) (map router_port_owner net.router_ports) first) [
+        | inl datapath ↦ datapaths datapath
+        | inr port ↦ absurd (among_none owner (subst (λ (ps : List (Name × RouterPort)). Among owner (map router_port_owner ps)) none.router_ports port))
+      ]
+
+-- ---- zones
+
+-- whose zone it is
+abbrev owner_of : ZoneUse → ListOwner
+owner_of (zone.Port q) = of_port q
+owner_of (zone.Dnat r) = dnat_of r
+owner_of (zone.Snat r) = snat_of r
+
+owner_is : (owner : ListOwner) → owner_of (use_of owner) ≡ owner
+owner_is (of_port q) = refl
+owner_is (dnat_of r) = refl
+owner_is (snat_of r) = refl
+
+pub zones_apart : (zones : Zoned) (chassis : Name) → ((one other : ZoneUse) (n : ℕ) → number_on zones.numbers chassis one ≡ Some n → number_on zones.numbers chassis other ≡ Some n → one ≡ other) → AreApart (zones_on zones.numbers chassis)
+zones_apart zones chassis apart one other z is also = sym (owner_is one) ∙ ap owner_of (apart (use_of one) (use_of other) z is also) ∙ owner_is other
+
+-- ---- crossings that wait may arrive
+
+-- the switch of that identity has the birth
+pub born_so : (net : Network) (id : Identity) → model.is_switch net id ≡ true → old.is_switch net id ≡ true
+born_so net id h = by (at net.switches id.name) h
+  where
+    by : (o : Option Switch) → is_that_switch id o ≡ true → has_birth (option_map (λ (w : Switch). w.birth) o) id.birth ≡ true
+    by None h = h
+    by (Some w) h =
+        let same = identity_exact (switch_identity w) id h in
+        subst (λ (x : Identity). nat_eq w.birth.0 x.birth.0 ≡ true) same ((Decides-eqb w.birth.0 w.birth.0).1 refl)
+
+module _ (m : State) (numbers : GivenNumbers) (sets : Sets) (by : Choosing) (flows : List Flow) (entry : Entry) (chassis : Name) where
+  abbrev s : Chassis
+  s = chassis_at m numbers sets by flows entry chassis
+
+  on_switch : (datapath port : Identity) → IsOnLive m datapath port → IsOnSwitch s datapath port
+  on_switch datapath port live is = live (born_so m.config.net datapath is)
+
+  aim_on_switch : (datapath : Identity) (aim : Aim) → IsAimOnLive m datapath aim → IsAimOnSwitch s datapath aim
+  aim_on_switch datapath (ToPort id) live = on_switch datapath id live
+  aim_on_switch datapath (ToGroup g) live = tt
+
+  pub may_arrive : (x : Crossing) → MayWait m x → MayArrive s x
+  may_arrive x w = record {
+    whole = w.whole;
+    datapath_key = w.datapath_key;
+    in_key = w.in_key;
+    aim_key = w.aim_key;
+    in_on = on_switch x.datapath x.in_port w.in_live;
+    aim_on = aim_on_switch x.datapath x.aim w.aim_live;
+    no_return = w.no_return;
+  }
+
+-- ---- the laws
+
+pub sound_on : SoundOnLaw
+sound_on m zones more u sets by flows entry chassis = record {
+  live = owners_live m.config.net m.keys u.valid u.keys u.no_router;
+  owned = λ q k has on. u.keys.port_of q k has;
+  apart = zones_apart zones chassis (u.bound.zoned.apart chassis);
+  number = λ q. refl;
+  zoned = λ q home. (u.bound.zoned.at_home chassis (zone.Port q)).0 (ap (λ (h : KnownHomes). home_for h (zone.Port q)) u.bound.homes ∙ home);
+  in_range = λ q z is. (u.bound.zoned.in_range chassis (zone.Port q) z is).1;
+  arrive = λ n x waits. may_arrive m zones.numbers sets by flows entry chassis x (u.crossings.may n x waits);
+}
+
+pub amidst_under_way : AmidstLaw
+amidst_under_way m zones more a = record {
+  valid = a.valid;
+  no_router = record { routers = ap (λ (n : Network). n.routers) a.built.others; router_ports = ap (λ (n : Network). n.router_ports) a.built.others };
+  keys = a.keys;
+  bound = a.bound;
+  born = a.born;
+  crossings = a.crossings;
+  few = a.few;
+  few_sent = a.few_sent;
+}

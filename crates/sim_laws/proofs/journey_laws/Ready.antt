@@ -1,0 +1,28 @@
+-- Each chassis that is held has what the laws of passes ask.
+use Rattle.sim_laws.proofs.journey_laws.Premises.{sound_on}
+use Rattle.sim_laws.specs.journeys.Premises.{ReadyLaw}
+
+pub is_ready : ReadyLaw
+is_ready m zones more sets s u h chassis flows held by entry =
+    let sound = sound_on m zones more u sets by flows entry chassis in
+    let tables = h.tables chassis flows held in
+    record {
+      laid = record {
+        valid = u.valid;
+        live = sound.live;
+        tables = tables.stages;
+        members = h.members;
+        apart = sound.apart;
+      };
+      wired = record {
+        entry = tables.entry;
+        remote = tables.remote;
+        home = tables.home;
+        back = tables.back;
+        output = tables.output;
+        number = sound.number;
+        zoned = sound.zoned;
+        in_range = sound.in_range;
+      };
+      owned = sound.owned;
+    }

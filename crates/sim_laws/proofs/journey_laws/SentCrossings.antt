@@ -1,0 +1,173 @@
+-- The crossings of a packet that is sent in a switch may wait.
+use Rattle.std.specs.Prelude.{◌≡◌, ◌≢◌, ◌&&◌, ℕ, true, false, Option, Some, None, option_map, refl}
+use Rattle.std.specs.List.{filter}
+use Rattle.std.proofs.Common.{sym, ap, ◌∙◌, subst}
+use Rattle.std.proofs.lemmas.Bool.{false≢true}
+use Rattle.std.proofs.lemmas.Option.{same_Some}
+use Rattle.inet_packet.specs.Whole.{IsWhole}
+use Rattle.inet_packet.specs.declared.packet.Packet.{Packet}
+use Rattle.nb_records.specs.Network.{Network}
+use Rattle.nb_records.specs.Switches.{enabled_ports, is_virtual, mac_of_ip, first_answer, takes_unknown}
+use Rattle.nb_records.specs.declared.switch.Switch.{Switch}
+use Rattle.nb_records.specs.declared.switch.SwitchPort.{SwitchPort}
+use Rattle.nb_rules.specs.Valid.{IsValid}
+use Rattle.net_model.specs.Config.{port_identity}
+use Rattle.net_model.specs.Headers.{asked_ip}
+use Rattle.net_model.specs.Journey.{scene_at}
+use Rattle.net_model.specs.Spread.{SentFrom, crossing_to}
+use Rattle.net_model.specs.State.{State}
+use Rattle.net_model.specs.Targets.{Target, answer_from, to_one, to_group, to_nobody, members, answer_target, is_other, target_of}
+use Rattle.net_model.specs.Trail.{given_or}
+use Rattle.net_model.specs.Visit.{identity_or, switch_named}
+use Rattle.net_model.specs.declared.crossing.Aim.{Aim}
+use Rattle.net_model.specs.declared.crossing.Aim.TheVariants.{ToPort, ToGroup}
+use Rattle.net_model.specs.declared.crossing.Crossing.{Crossing}
+use Rattle.net_model.specs.declared.crossing.Group.{Group}
+use Rattle.net_model.specs.declared.crossing.Group.TheVariants.{Flood, Unknown}
+use Rattle.ovn_base.proofs.AmongLaws.{among_all, filter_among}
+use Rattle.ovn_base.proofs.ByNameLaws.{at_among}
+use Rattle.ovn_base.specs.declared.address.Ip4.{Ip4}
+use Rattle.ovn_base.specs.declared.address.Mac.{Mac}
+use Rattle.ovn_base.specs.declared.name.Name.{Name}
+use Rattle.ovn_base.specs.lists.Among.{Among}
+use Rattle.ovn_base.specs.names.ByName.{at}
+use Rattle.ovn_base.specs.names.SameName.{same_name, bytes_decides}
+use Rattle.physical_flows.proofs.KeyLaws.{datapath_held}
+use Rattle.physical_flows.specs.RecordKeys.{HaveKeys}
+use Rattle.row_laws.proofs.records.SwitchPorts.{IsEnabled, enabled_is}
+use Rattle.row_laws.proofs.records.ValidPorts.{on_switch}
+use Rattle.row_laws.specs.StageActions.{found_target}
+use Rattle.tunnel_keys.specs.Keys.{held_datapath, held_datapaths}
+use Rattle.tunnel_keys.specs.declared.owner.HeldDatapath.{HeldDatapath}
+use Rattle.tunnel_keys.specs.declared.owner.Identity.{Identity}
+use Rattle.sim_laws.proofs.Crossings.{HasKeyOn, key_on, on_live}
+use Rattle.sim_laws.proofs.journey_laws.SendingWays.{Suits}
+use Rattle.sim_laws.proofs.pipelines.TargetKeys.{IsFoundTarget, found_so}
+use Rattle.sim_laws.specs.Effects.{spelled}
+use Rattle.sim_laws.specs.SentFrames.{IsSentFrom}
+use Rattle.sim_laws.specs.Sound.{HasAimKey, IsAimOnLive}
+use Rattle.net_model.specs.Entry.{Onward}
+
+-- ---- targets
+
+module _ (net : Network) (i : SwitchPort) where
+  -- one port is an enabled port of the switch
+  abbrev pub IsOneOf : Target → Type 0
+  IsOneOf (to_one q) = Among q (enabled_ports net i.switch)
+  IsOneOf _ = Unit {0}
+
+  found_one : (t : Target) → IsFoundTarget net i.switch t → IsOneOf t
+  found_one (answer_from mac ip) h = tt
+  found_one (to_one q) h = h
+  found_one (to_group g) h = tt
+  found_one to_nobody h = tt
+
+  pub target_one : (p : Packet) → IsOneOf (target_of net i p)
+  target_one p = by (asked_ip p)
+    where
+      found : IsOneOf (found_target net i.switch p)
+      found = found_one (found_target net i.switch p) (found_so net i.switch p)
+
+      by_answer : (ip : Ip4) (o : Option Mac) → IsOneOf (given_or (option_map (λ mac. answer_from mac ip) o) (found_target net i.switch p))
+      by_answer ip None = found
+      by_answer ip (Some mac) = tt
+
+      by : (o : Option Ip4) → IsOneOf (given_or (answer_target net i o) (found_target net i.switch p))
+      by None = found
+      by (Some ip) = by_answer ip (first_answer (mac_of_ip ip) (filter (λ q. is_virtual q && is_other i q) (enabled_ports net i.switch)))
+
+-- a member of a group is an enabled port of the switch
+pub member_enabled : (net : Network) (valid : IsValid net) (a : Name) (g : Group) (q : SwitchPort) → Among q (members net a g) → IsEnabled net valid a q
+member_enabled net valid a Flood q m = enabled_is net valid a q m
+member_enabled net valid a Unknown q m = enabled_is net valid a q (filter_among (λ (p : SwitchPort). takes_unknown p.addresses) q (enabled_ports net a) m).0
+
+-- ---- crossings
+
+module _ (m : State) (valid : IsValid m.config.net) (have : HaveKeys m.config.net m.keys) (i : SwitchPort) (i_there : at m.config.net.switch_ports i.name ≡ Some i) where
+  abbrev net : Network
+  net = m.config.net
+
+  abbrev pub from : SentFrom
+  from = record { switch = switch_named net i.switch; port = i }
+
+  its_switch : (w : Switch) × (at net.switches i.switch ≡ Some w)
+  its_switch = on_switch net valid i.name i i_there
+
+  switch_is : record { name = i.switch; birth = its_switch.0.birth } ≡ from.switch
+  switch_is =
+      let w = its_switch in
+      let named : w.0.name ≡ i.switch = among_all (λ (e : Name × Switch). e.1.name ≡ e.0) (i.switch, w.0) net.switches valid.named.switches (at_among net.switches i.switch w.0 w.1) in
+      (λ j. record { name = sym named j; birth = w.0.birth }) ∙ ap (identity_or i.switch) (sym w.1)
+
+  -- a port of the switch has a key of it
+  port_key_on : (q : SwitchPort) → at net.switch_ports q.name ≡ Some q → q.switch ≡ i.switch → HasKeyOn m have from.switch (port_identity q)
+  port_key_on q there on =
+      subst (λ (d : Identity). HasKeyOn m have d (port_identity q)) switch_is (key_on m have q.name i.switch q its_switch.0 there on its_switch.1)
+
+  datapath_has : (h : HeldDatapath) × Among h (held_datapaths m.keys) × (h.owner ≡ from.switch)
+  datapath_has =
+      let w = its_switch in
+      let k = have.datapath_has i.switch w.0 w.1 in
+      (held_datapath (i.switch, k.0), datapath_held net m.keys have i.switch k.0 k.1, (λ j. record { name = i.switch; birth = k.2 j }) ∙ switch_is)
+
+  -- the crossing is one of a packet from the port
+  abbrev pub IsOwn : Crossing → Type 0
+  IsOwn x = IsSentFrom m i.name x.home (spelled m.keys x) x
+
+  sent : (aim : Aim) (home : Name) (p : Packet) → IsWhole p → HasAimKey m.keys aim → IsAimOnLive m from.switch aim → aim ≢ ToPort (port_identity i) → IsOwn (crossing_to from aim home p)
+  sent aim home p whole key live other =
+      let own = port_key_on i i_there refl in
+      record {
+        port = i;
+        there = i_there;
+        switch = its_switch.0;
+        on = its_switch.1;
+        datapath = sym switch_is;
+        in_port = refl;
+        may = record {
+          whole = whole;
+          datapath_key = datapath_has;
+          in_key = (own.held, own.among, own.owner);
+          aim_key = key;
+          in_live = on_live m have from.switch (port_identity i) own;
+          aim_live = live;
+          no_return = other;
+        };
+        home = refl;
+        spelled_so = refl;
+      }
+
+  -- it is sent from where it is bound
+  module _ (chassis : Name) (home : at m.config.bindings i.name ≡ Some chassis) (p : Packet) (whole : IsWhole p) where
+    abbrev aim_name : Aim → Option Name
+    aim_name (ToPort id) = Some id.name
+    aim_name (ToGroup g) = None
+
+    pub to_port : (o : SwitchPort) → IsEnabled net valid i.switch o → (to : Name) → at m.config.bindings o.name ≡ Some to → same_name to chassis ≡ false → IsOwn (crossing_to from (ToPort (port_identity o)) to p)
+    to_port o e to bound apart =
+        let k = port_key_on o e.there e.on in
+        sent (ToPort (port_identity o)) to p whole (k.held, k.among, k.owner) (on_live m have from.switch (port_identity o) k)
+        (λ same.
+        let name : o.name ≡ i.name = same_Some o.name i.name (ap aim_name same) in
+        let one : to ≡ chassis = same_Some to chassis (sym bound ∙ ap (λ a. at m.config.bindings a) name ∙ home) in
+        false≢true (sym apart ∙ (bytes_decides to chassis).1 one))
+
+    pub to_members : (g : Group) (to : Name) → IsOwn (crossing_to from (ToGroup g) to p)
+    to_members g to = sent (ToGroup g) to p whole tt tt (λ same. no_group g same)
+      where
+        no_group : (g : Group) → ToGroup g ≡ ToPort (port_identity i) → ⊥
+        no_group g e = cc e
+
+  -- ---- the target suits
+
+  module _ (virtual : (q : SwitchPort) → at net.switch_ports q.name ≡ Some q → q.switch ≡ i.switch → is_virtual q ≡ true) (n : ℕ) (onward : Onward) (chassis : Name) (home : at m.config.bindings i.name ≡ Some chassis) (p : Packet) (P : Crossing → Type 0)
+      (to_one_of : (o : SwitchPort) → IsEnabled net valid i.switch o → (to : Name) → at m.config.bindings o.name ≡ Some to → same_name to chassis ≡ false → P (crossing_to from (ToPort (port_identity o)) to p))
+      (to_all_of : (g : Group) (to : Name) → P (crossing_to from (ToGroup g) to p)) where
+    suits : (t : Target) → IsOneOf net i t → Suits (scene_at m chassis) n onward from p P t
+    suits (answer_from mac ip) one = (virtual i i_there refl, home)
+    suits (to_one o) one = let e = enabled_is net valid i.switch o one in (virtual o e.there e.on, to_one_of o e)
+    suits (to_group g) one = (λ q among. let e = member_enabled net valid i.switch g q among in virtual q e.there e.on, to_all_of g)
+    suits to_nobody one = tt
+
+    pub target_suits : Suits (scene_at m chassis) n onward from p P (target_of net i p)
+    target_suits = suits (target_of net i p) (target_one net i p)

@@ -1,0 +1,105 @@
+-- What becomes of a packet that comes in at a port leaves crossings that may wait; one that arrives leaves none.
+use Rattle.std.specs.Prelude.{◌≡◌, ◌&&◌, not, ℕ, Bool, true, false, cond, [], Option, Some, None, refl}
+use Rattle.std.proofs.Common.{sym, ap, ◌∙◌}
+use Rattle.std.proofs.lemmas.Bool.{and_parts}
+use Rattle.inet_packet.specs.declared.packet.Packet.{Packet}
+use Rattle.nb_records.specs.Switches.{is_virtual}
+use Rattle.nb_records.specs.declared.switch.SwitchPort.{SwitchPort}
+use Rattle.nb_rules.specs.Valid.{IsValid}
+use Rattle.net_model.specs.Arrival.{is_switch, is_reached, port_reached, members_reached, reach_port, reach, reach_if, arrival}
+use Rattle.net_model.specs.Config.{home_by_kind, is_on, port_identity}
+use Rattle.net_model.specs.Entry.{Scene, enter}
+use Rattle.net_model.specs.Journey.{scene_at}
+use Rattle.net_model.specs.State.{State}
+use Rattle.net_model.specs.Targets.{members, target_of}
+use Rattle.net_model.specs.Trail.{Trail, Point, goes, stops, finally, is_lost, tell}
+use Rattle.net_model.specs.Visit.{send_on, passing_on, visit}
+use Rattle.net_model.specs.declared.crossing.Aim.{Aim}
+use Rattle.net_model.specs.declared.crossing.Aim.TheVariants.{ToPort, ToGroup}
+use Rattle.net_model.specs.declared.crossing.Crossing.{Crossing}
+use Rattle.ovn_base.proofs.AmongLaws.{filter_among}
+use Rattle.ovn_base.specs.declared.name.Name.{Name}
+use Rattle.ovn_base.specs.lists.Among.{Among}
+use Rattle.ovn_base.specs.names.ByName.{at}
+use Rattle.physical_flows.specs.RecordKeys.{HaveKeys}
+use Rattle.tunnel_keys.specs.Same.{same_identity}
+use Rattle.tunnel_keys.specs.declared.owner.Identity.{Identity}
+use Rattle.sim_laws.proofs.Groups.{bound_to}
+use Rattle.sim_laws.proofs.journey_laws.SendingWays.{OnWay, Sends, quiet, copies_on, target_sends}
+use Rattle.sim_laws.proofs.journey_laws.SentCrossings.{from, IsOwn, to_port, to_members, target_suits}
+use Rattle.sim_laws.proofs.journey_laws.SwitchWays.{enter_on, leave_on}
+use Rattle.sim_laws.proofs.journey_laws.Ways.{PointOn, both, told}
+use Rattle.sim_laws.proofs.journey_laws.WholePackets.{PointWhole}
+use Rattle.sim_laws.proofs.passes.Members.{virtual_is, on_so}
+
+module _ (m : State) (valid : IsValid m.config.net) (have : HaveKeys m.config.net m.keys) (i : SwitchPort) (i_there : at m.config.net.switch_ports i.name ≡ Some i)
+    (virtual : (q : SwitchPort) → at m.config.net.switch_ports q.name ≡ Some q → q.switch ≡ i.switch → is_virtual q ≡ true) (chassis : Name) (home : at m.config.bindings i.name ≡ Some chassis) where
+  abbrev s : Scene
+  s = scene_at m chassis
+
+  abbrev pub Own : Crossing → Type 0
+  Own x = IsOwn m valid have i i_there x
+
+  sent_on : (a : Point) (t : Trail) → PointOn m.config chassis 0 t a → PointWhole a → (finally a (send_on (passing_on s) s i)).legal ≡ true → Sends s 0 Own t (finally a (send_on (passing_on s) s i))
+  sent_on (goes u q) t way whole legal =
+      let free = target_suits m valid have i i_there virtual 0 (passing_on s) chassis home q (λ x. Unit {0}) (λ o e to bound apart. tt) (λ g to. tt) in
+      let first = target_sends s 0 (passing_on s) (from m valid have i i_there) q (λ x. Unit {0}) (target_of m.config.net i q) free u in
+      let is_whole = whole (first.way.legal legal) in
+      let suits = target_suits m valid have i i_there virtual 0 (passing_on s) chassis home q Own (to_port m valid have i i_there chassis home q is_whole) (to_members m valid have i i_there chassis home q is_whole) in
+      let rest = target_sends s 0 (passing_on s) (from m valid have i i_there) q Own (target_of m.config.net i q) suits u in
+      record {
+        crossings = rest.crossings;
+        way = both m.config chassis 0 [] rest.crossings t u (send_on (passing_on s) s i u q) way rest.way;
+        own = rest.own;
+        few = rest.few;
+      }
+  sent_on (stops u) t way whole legal = quiet s 0 Own t u way
+
+  -- a visit
+  pub visit_sends : (t : Trail) (p : Packet) → PointWhole (enter s i t p) → (visit s i t p).legal ≡ true → Sends s 0 Own t (visit s i t p)
+  visit_sends t p whole legal = sent_on (enter s i t p) t (enter_on s 0 i home t p) whole legal
+
+-- ---- arrivals
+
+module _ (s : Scene) (n : ℕ) (x : Crossing) where
+  -- the port is one to which it goes
+  abbrev pub IsAimed : Aim → SwitchPort → Type 0
+  IsAimed (ToPort id) q = (at s.config.net.switch_ports id.name ≡ Some q) × (same_identity (port_identity q) id ≡ true)
+  IsAimed (ToGroup g) q = Among q (members s.config.net x.datapath.name g)
+
+  -- a virtual port that is reached is bound here
+  reached_here : (q : SwitchPort) → is_virtual q ≡ true → is_reached s q ≡ true → at s.config.bindings q.name ≡ Some s.here
+  reached_here q virtual h =
+      bound_to s.config.bindings q.name s.here
+      (sym (ap (λ k. is_on s.here (home_by_kind s.config q k)) (virtual_is q.kind virtual) ∙ on_so s.here (at s.config.bindings q.name)) ∙ h)
+
+  lost_on : (t : Trail) → OnWay s n [] t (tell (is_lost n) t)
+  lost_on t = told s.config s.here n (is_lost n) t refl
+
+  port_on : (id : Identity) → ((q : SwitchPort) → IsAimed (ToPort id) q → is_virtual q ≡ true) → (o : Option SwitchPort) → at s.config.net.switch_ports id.name ≡ o → (t : Trail) → OnWay s n [] t (reach_port s n x (port_reached s id o) t)
+  port_on id virtual None e t = lost_on t
+  port_on id virtual (Some q) e t = by (same_identity (port_identity q) id && is_reached s q) refl
+    where
+      by : (b : Bool) → (same_identity (port_identity q) id && is_reached s q) ≡ b → OnWay s n [] t (reach_port s n x (cond b (Some q) None) t)
+      by true h =
+          let parts = and_parts (same_identity (port_identity q) id) (is_reached s q) h in
+          let is = virtual q (e, parts.0) in
+          leave_on s n (passing_on s) x.in_port q is (reached_here q is parts.1) t x.packet
+      by false h = lost_on t
+
+  aim_on : (aim : Aim) → ((q : SwitchPort) → IsAimed aim q → is_virtual q ≡ true) → (t : Trail) → OnWay s n [] t (reach s n x aim t)
+  aim_on (ToPort id) virtual t = port_on id virtual (at s.config.net.switch_ports id.name) refl t
+  aim_on (ToGroup g) virtual t =
+      let qs = members s.config.net x.datapath.name g in
+      let test : SwitchPort → Bool = λ q. is_reached s q && not (same_identity (port_identity q) x.in_port) in
+      let member : (q : SwitchPort) → Among q (members_reached s x.in_port qs) → is_virtual q ≡ true = λ q among. virtual q (filter_among test q qs among).0 in
+      copies_on s n (passing_on s) x.in_port (members_reached s x.in_port qs) member
+      (λ q among. reached_here q (member q among) (and_parts (is_reached s q) (not (same_identity (port_identity q) x.in_port)) (filter_among test q qs among).1).0) t x.packet
+
+  -- an arrival
+  pub arrival_on : (is_switch s.config.net x.datapath ≡ true → (q : SwitchPort) → IsAimed x.aim q → is_virtual q ≡ true) → (t : Trail) → OnWay s n [] t (arrival s n x t)
+  arrival_on virtual t = by (is_switch s.config.net x.datapath) refl
+    where
+      by : (b : Bool) → is_switch s.config.net x.datapath ≡ b → OnWay s n [] t (reach_if b s n x t)
+      by true is = aim_on x.aim (virtual is) t
+      by false is = lost_on t

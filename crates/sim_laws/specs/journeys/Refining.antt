@@ -1,0 +1,71 @@
+-- What the simulated chassis do with packets is what the network does with them.
+use Rattle.std.specs.Prelude.{◌≡◌, ◌++◌, ◌+◌, ℕ, Bool, List, [], Some}
+use Rattle.std.specs.BTreeMap.{is_at}
+use Rattle.std.specs.Map.{remove_entry}
+use Rattle.std.specs.Ordering.{nat_cmp}
+use Rattle.chassis_sim.specs.Passing.{IsInjected, IsArrived}
+use Rattle.chassis_sim.specs.State.{SimState, numbered, without}
+use Rattle.chassis_sim.specs.declared.out.SimOut.{SimOut}
+use Rattle.conn_zones.specs.Zoning.{Zoned}
+use Rattle.inet_packet.specs.Whole.{IsWhole}
+use Rattle.inet_packet.specs.declared.packet.Packet.{Packet}
+use Rattle.match_cubes.specs.declared.sets.Sets.{Sets}
+use Rattle.net_model.specs.Journey.{Traffic, enter_one, arrive_one, lose_one}
+use Rattle.net_model.specs.State.{State}
+use Rattle.net_model.specs.Trail.{End, crossings_in}
+use Rattle.net_model.specs.declared.crossing.Crossing.{Crossing}
+use Rattle.ovn_base.specs.lists.Among.{Among}
+use Rattle.ovn_base.specs.declared.name.Name.{Name}
+use Rattle.ovn_base.specs.names.ByName.{at}
+use Rattle.nb_records.specs.declared.switch.SwitchPort.{SwitchPort}
+use Rattle.switch_engine.specs.Outcome.{Choosing}
+use Rattle.sim_laws.specs.Effects.{effects_of, spelled}
+use Rattle.sim_laws.specs.SentFrames.{IsSentFrom}
+use Rattle.sim_laws.specs.journeys.Holding.{HoldsNetwork}
+use Rattle.sim_laws.specs.journeys.Moves.{MovesFor}
+use Rattle.sim_laws.specs.journeys.Premises.{HasVirtualPorts}
+use Rattle.sim_laws.specs.journeys.UnderWay.{IsUnderWay}
+
+-- The effects that came are those of the ends to which packets went. What the event asks of packets takes them there, and the chassis hold the
+-- state that it leaves, which is sound.
+pub record IsJourney (m : State) (zones : Zoned) (sets : Sets) (more : ℕ) (traffic : Traffic) (before after : SimOut) (new : SimState) : Type 0 where
+  pub ends : List End
+  pub effects : after.effects ≡ before.effects ++ effects_of m.keys m.next ends
+  pub left : State
+  pub moves : MovesFor traffic m ends left
+  pub sound : IsUnderWay left zones more
+  pub held : HoldsNetwork left zones.numbers sets new
+
+-- A packet entered at the port, and was sent to at most 64 chassis: each crossing is one of the packet from there, which its frame spells.
+pub record IsEntry (m : State) (zones : Zoned) (sets : Sets) (more : ℕ) (port : Name) (packet : Packet) (before after : SimOut) (new : SimState) : Type 0 where
+  pub journey : IsJourney m zones sets (more + 64) (enter_one port packet) before after new
+  pub sent : (x : Crossing) → Among x (crossings_in journey.ends) → IsSentFrom m port x.home (spelled m.keys x) x
+
+-- A packet that goes in at a port enters the network. No port of its switch leads to a router.
+abbrev pub EntryJourneyLaw : Type 0
+EntryJourneyLaw =
+    (m : State) (zones : Zoned) (sets : Sets) (more : ℕ) (s new : SimState) (by : Choosing) (port : Name) (packet : Packet) (before after : SimOut)
+    → IsUnderWay m zones more → HoldsNetwork m zones.numbers sets s
+    → ((i : SwitchPort) → at m.config.net.switch_ports port ≡ Some i → HasVirtualPorts m.config.net i.switch)
+    → IsWhole packet → IsInjected by s port m.clock packet before after new
+    → IsEntry m zones sets more port packet before after new
+
+-- A frame that arrives is its crossing, that arrives, and waits on where it is kept; no frame is sent for it. No port of its switch leads to a router.
+abbrev pub ArrivalJourneyLaw : Type 0
+ArrivalJourneyLaw =
+    (m : State) (zones : Zoned) (sets : Sets) (more : ℕ) (s new : SimState) (by : Choosing) (n : ℕ) (keep : Bool) (before after : SimOut)
+    → IsUnderWay m zones more → HoldsNetwork m zones.numbers sets s
+    → ((x : Crossing) → numbered m.waiting n ≡ Some x → HasVirtualPorts m.config.net x.datapath.name)
+    → IsArrived by s n keep m.clock before after new
+    → IsJourney m zones sets more (arrive_one n keep) before after new
+
+-- the state without the crossing of the number
+abbrev pub without_crossing : State → ℕ → State
+without_crossing m n = record m { waiting = remove_entry (is_at (nat_cmp n)) m.waiting }
+
+-- A frame that is lost is its crossing, that waits no more.
+abbrev pub LossJourneyLaw : Type 0
+LossJourneyLaw =
+    (m : State) (zones : Zoned) (sets : Sets) (more : ℕ) (s : SimState) (n : ℕ)
+    → IsUnderWay m zones more → HoldsNetwork m zones.numbers sets s
+    → MovesFor (lose_one n) m [] (without_crossing m n) × IsUnderWay (without_crossing m n) zones more × HoldsNetwork (without_crossing m n) zones.numbers sets (without s n)

@@ -1,0 +1,26 @@
+-- When a state is sound in the midst of an event.
+use Rattle.std.specs.Prelude.{◌≡◌, ◌≤◌, ◌+◌, ◌*◌, ◌^◌, ℕ, []}
+use Rattle.conn_zones.specs.Zoning.{Zoned}
+use Rattle.nb_records.specs.Network.{Network}
+use Rattle.nb_rules.specs.Valid.{IsValid}
+use Rattle.net_model.specs.State.{State, event_count}
+use Rattle.physical_flows.specs.Bindings.{AreBound}
+use Rattle.physical_flows.specs.RecordKeys.{HaveKeys}
+use Rattle.sim_laws.specs.Sound.{AreBorn, AreCrossings}
+
+-- there is no router and no router port: those have no keys yet
+pub record HasNoRouter (net : Network) : Type 0 where
+  pub routers : net.routers ≡ []
+  pub router_ports : net.router_ports ≡ []
+
+-- The state in the midst of an event: as between events, but so many more frames may have been sent, and keys that nobody needs any more may
+-- still be retired.
+pub record IsUnderWay (m : State) (zones : Zoned) (more : ℕ) : Type 0 where
+  pub valid : IsValid m.config.net
+  pub no_router : HasNoRouter m.config.net
+  pub keys : HaveKeys m.config.net m.keys
+  pub bound : AreBound m.config zones
+  pub born : AreBorn m
+  pub crossings : AreCrossings m
+  pub few : event_count m ≤ 2 ^ 42
+  pub few_sent : m.next ≤ 1 + 2 ^ 64 * event_count m + more

@@ -1,0 +1,59 @@
+//! What the simulated chassis do with packets is what the network does, over rows and connection lists. Each function does nothing: call it, and
+//! its clauses are facts of the call.
+ghost use Rattle.sim_laws.specs.journeys.AtRest.{BeginsLaw, FinishesLaw};
+ghost use Rattle.sim_laws.specs.journeys.Events.{AllArriveLaw, DrainLaw, EnterAndDrainLaw, GoesThroughLaw, TravelLaw};
+ghost use Rattle.sim_laws.specs.journeys.Filling.{FillingLaw};
+ghost use Rattle.sim_laws.specs.journeys.First.{FirstLaw};
+ghost use Rattle.sim_laws.specs.journeys.Premises.{AmidstLaw, ReadyLaw, SoundOnLaw};
+ghost use Rattle.sim_laws.specs.journeys.Refining.{ArrivalJourneyLaw, EntryJourneyLaw, LossJourneyLaw};
+ghost use Rattle.sim_laws.specs.journeys.Ticking.{TickLaw};
+
+use crate::switches::switch_passes;
+use row_laws::rows::rows_can_be_lowered;
+
+/// A sound state of the network gives what the laws of passes ask of keys, zones and crossings, on each of its chassis; and each chassis that is
+/// held has all that they ask.
+pub fn premises_of_sound()
+    ensures amidst { AmidstLaw }
+    ensures sound { SoundOnLaw }
+    ensures ready { ReadyLaw }
+{}
+
+/// What the simulated chassis do with a packet, and with a frame that arrives, is a journey of the network, with the effects and the choices of
+/// which its ends tell; they hold the state that it leaves. So they do with a packet and all frames that wait, one after another.
+pub fn journeys_refine()
+    ensures enters { EntryJourneyLaw }
+    ensures arrives { ArrivalJourneyLaw }
+    ensures loses { LossJourneyLaw }
+    ensures all_arrive { AllArriveLaw }
+    ensures goes_through { GoesThroughLaw }
+{
+    switch_passes();
+}
+
+/// Moves of packets in a state are the network's travels, and come one after another.
+pub fn moves_travel()
+    ensures travels { TravelLaw }
+    ensures drains { DrainLaw }
+    ensures enters_and_drains { EnterAndDrainLaw }
+{}
+
+/// The state in which nothing is there is sound, and the simulated chassis hold it that hold nothing. An event begins in a sound state, and leaves one: it
+/// is counted, and where nothing waits no key is retired. The chassis hold that state too.
+pub fn events_end()
+    ensures first { FirstLaw }
+    ensures begins { BeginsLaw }
+    ensures finishes { FinishesLaw }
+{}
+
+/// Flows that are exactly the lowered rows of the network and those of the tables around the pipelines are those of a chassis.
+pub fn tables_filled()
+    ensures { FillingLaw }
+{
+    rows_can_be_lowered();
+}
+
+/// The clock goes on in the network as on the simulated chassis: idle connections go in both.
+pub fn clock_ticks()
+    ensures { TickLaw }
+{}
