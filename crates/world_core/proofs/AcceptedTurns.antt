@@ -2,6 +2,7 @@
 use Rattle.std.specs.Prelude.{◌≡◌, ◌↔◌, ◌++◌, ◌+◌, ◌<◌, ◌^◌, ℕ, List, [], length, map, true, refl}
 use Rattle.std.specs.Map.{keys_of}
 use Rattle.std.proofs.Common.{sym, ap, subst, ◌∙◌}
+use Rattle.std.proofs.lemmas.List.{length-map}
 use Rattle.chassis_sim.specs.Changing.{AllAreDeltas, IsApplied, IsProperChange}
 use Rattle.chassis_sim.specs.State as sim
 use Rattle.chassis_sim.specs.declared.change.SimChange.{SimChange}
@@ -24,6 +25,7 @@ use Rattle.world_core.specs.Outcome.{IsAccepted}
 use Rattle.world_core.specs.Setup.{IsTurnOfTables, SetupView}
 use Rattle.world_core.specs.Turning.{IsTurn, IsTurned, is_turn}
 use Rattle.world_core.specs.Untracked.{untracked}
+use Rattle.world_core.specs.Waiting.{crossing_of, crossings_of, frame_under}
 use Rattle.world_core.specs.WorldView.{IsSound, WorldView}
 use Rattle.world_core.specs.declared.setup.Turn.{Turn}
 use Rattle.world_core.specs.declared.world.World.TheInside.{Inside}
@@ -140,16 +142,20 @@ module _ (w : Inside) (now : WorldView) (view : seen_of w ≡ now) (event : Even
   pub proper_change : IsProperChange flows_of turn.sim
   proper_change = may_apply before event turns sound_before refl turn.effects turn.sim ground_then turned_then prepared.tables
 
+  -- so many frames wait as have names
+  as_many : length before.state.waiting ≡ length w.crossings.entries
+  as_many = length-map w.crossings.entries (λ e. (e.0, crossing_of e.1 (frame_under w.sim.state.waiting e.0)))
+
   -- what the ground is then, where frames wait, and where none does
   module _ (kept applied : GroundView) (kept_is : kept ≡ w.setup.ground) (applied_is : applied ≡ changed turn.patch.change kept) where
     applied_then : applied ≡ ground_then
     applied_then = applied_is ∙ ap (λ g. changed turn.patch.change g) kept_is
 
-    pub ground_waits : ¬ (length before.state.waiting ≡ 0) → applied ≡ record ground_then { keys = settled_where_none_waits before.state.waiting ground_then.keys }
-    ground_waits some = applied_then ∙ ap (λ (keys : Keys). record ground_then { keys = keys }) (kept_on before.state.waiting ground_then.keys some)
+    pub ground_waits : ¬ (length w.crossings.entries ≡ 0) → applied ≡ record ground_then { keys = settled_where_none_waits before.state.waiting ground_then.keys }
+    ground_waits some = applied_then ∙ ap (λ (keys : Keys). record ground_then { keys = keys }) (kept_on before.state.waiting ground_then.keys (λ none. some (sym as_many ∙ none)))
 
-    pub ground_settles : (done : GroundView) → done ≡ record applied { keys = settled applied.keys } → length before.state.waiting ≡ 0 → done ≡ record ground_then { keys = settled_where_none_waits before.state.waiting ground_then.keys }
-    ground_settles done is none = is ∙ ap (λ (g : GroundView). record g { keys = settled g.keys }) applied_then ∙ ap (λ (keys : Keys). record ground_then { keys = keys }) (given_up before.state.waiting ground_then.keys none)
+    pub ground_settles : (done : GroundView) → done ≡ record applied { keys = settled applied.keys } → length w.crossings.entries ≡ 0 → done ≡ record ground_then { keys = settled_where_none_waits before.state.waiting ground_then.keys }
+    ground_settles done is none = is ∙ ap (λ (g : GroundView). record g { keys = settled g.keys }) applied_then ∙ ap (λ (keys : Keys). record ground_then { keys = keys }) (given_up before.state.waiting ground_then.keys (as_many ∙ none))
 
   -- the turn is applied
   module _ (between s : sim.SimState) (kept : between ≡ w.sim.state) (applied : IsApplied flows_of between turn.sim s) (exact : (f g : Flow) → (same_flow f g ≡ true) ↔ (f ≡ g))
@@ -159,7 +165,7 @@ module _ (w : Inside) (now : WorldView) (view : seen_of w ≡ now) (event : Even
 
     abbrev end_world : WorldView
     end_world = record {
-      state = record before.state { config = ground.config; keys = ground.keys; lists = untracked ground.config; next = s.next; accepted = before.state.accepted + 1 };
+      state = record before.state { config = ground.config; keys = ground.keys; lists = untracked ground.config; waiting = crossings_of w.crossings.entries s.waiting; next = s.next; accepted = before.state.accepted + 1 };
       zones = ground.zones;
       sim = s;
       walks = walks;
@@ -167,7 +173,9 @@ module _ (w : Inside) (now : WorldView) (view : seen_of w ≡ now) (event : Even
     }
 
     is_end : end_world ≡ then' before event turns sound_before refl turn.effects turn.sim ground_then turned_then prepared.tables s made exact
-    is_end = ended before event turns sound_before refl turn.effects turn.sim ground_then turned_then prepared.tables s made exact ground walks ground_is none
+    is_end =
+        (λ i. record end_world { state = record end_world.state { waiting = crossings_of w.crossings.entries (made.waiting i) } })
+        ∙ ended before event turns sound_before refl turn.effects turn.sim ground_then turned_then prepared.tables s made exact ground walks ground_is none
 
     pub sound_end : IsSound end_world
     sound_end = subst (λ v. IsSound v) (sym is_end) (sound_then before event turns sound_before refl turn.effects turn.sim ground_then turned_then prepared.tables s made exact)
@@ -180,7 +188,7 @@ module _ (w : Inside) (now : WorldView) (view : seen_of w ≡ now) (event : Even
 -- the world as it is kept, with this ground and these chassis
 abbrev pub seen_with : Inside → GroundView → sim.SimState → WorldView
 seen_with w ground s = record {
-  state = record (seen_of w).state { config = ground.config; keys = ground.keys; lists = untracked ground.config; next = s.next };
+  state = record (seen_of w).state { config = ground.config; keys = ground.keys; lists = untracked ground.config; waiting = crossings_of w.crossings.entries s.waiting; next = s.next };
   zones = ground.zones;
   sim = s;
   walks = w.walks;

@@ -1,5 +1,5 @@
 -- The crossings of the frames that were sent are kept, one after another.
-use Rattle.std.specs.Prelude.{◌≡◌, ◌<◌, ℕ, Bool, true, false, cond, List, [], ◌∷◌, ◌++◌, map, refl}
+use Rattle.std.specs.Prelude.{◌≡◌, ◌<◌, ℕ, Bool, true, false, cond, List, [], ◌∷◌, ◌++◌, Some, map, unwrap_or, refl}
 use Rattle.std.proofs.Common.{sym, ap, ◌∙◌, subst, append_assoc, append-nil, ltb-true}
 use Rattle.std.specs.List.{AllByRecursion}
 use Rattle.std.specs.List.Sorted.{IsStrictlySortedBy}
@@ -11,8 +11,9 @@ use Rattle.std.specs.Prelude.{nat_lt}
 use Rattle.std.proofs.Math.Dec.{eqb as nat_eq}
 use Rattle.ovn_base.specs.lists.Among.{Among, here, there}
 use Rattle.ovn_base.specs.declared.name.Name.{Name}
-use Rattle.ovn_base.proofs.AmongLaws.{among_none, split_among}
+use Rattle.ovn_base.proofs.AmongLaws.{among_map, among_none, split_among}
 use Rattle.chassis_sim.specs.InNames.{frames_sent, sent_by}
+use Rattle.chassis_sim.specs.State.{numbered}
 use Rattle.chassis_sim.specs.declared.underlay.WaitingFrame.{WaitingFrame}
 use Rattle.switch_engine.specs.declared.effect.NetEffect.{NetEffect}
 use Rattle.switch_engine.specs.declared.effect.NetEffect.TheVariants as net
@@ -20,7 +21,10 @@ use Rattle.net_model.specs.declared.crossing.Crossing.{Crossing}
 use Rattle.sim_laws.specs.Effects.{spelled}
 use Rattle.world_core.specs.Packets.{CanBeKept}
 use Rattle.sim_laws.specs.SentFrames.{IsSentFrom}
+use Rattle.world_core.specs.Waiting.{AreWaiting, crossing_of, frame_under, names_of}
 use Rattle.world_core.specs.WorldView.{WorldView}
+use Rattle.world_core.specs.declared.crossing_names.CrossingNames.{CrossingNames}
+use Rattle.world_core.proofs.WaitingNames.{crossing_back}
 use Rattle.sim_laws.specs.Held.{frame_of_crossing}
 use Rattle.net_model.specs.State.{State}
 use Rattle.sim_laws.proofs.Refinements.{may_still}
@@ -122,6 +126,18 @@ next_sent old p effects n to bytes left ws done now k h is =
     let f = k.sent.from n h.crossing (subst (λ l. Among (n, h.crossing) l) (sym h.all) (split_among (n, h.crossing) done h.behind)) in
     let g : IsSentFrom old.state p to bytes h.crossing = subst (λ d. IsSentFrom old.state p d bytes h.crossing) h.home (subst (λ bs. IsSentFrom old.state p h.crossing.home bs h.crossing) h.bytes_are f) in
     subst (λ (w : WorldView). IsSentFrom w.state p to bytes h.crossing) (sym is) (sent_still old.state (old.state.waiting ++ done) p to bytes h.crossing g)
+
+-- its names and its frame, which waits, give it back
+pub next_back : (old : WorldView) (p : Name) (effects : List NetEffect) (n : ℕ) (to : Name) (bytes : List ℕ) (left : List NetEffect) (ws done : List (ℕ × Crossing)) (now : WorldView) → CanBeKept old.state p effects ws → AreWaiting old.sim (frames_sent effects)
+    → (h : IsNext old.state ws done n to bytes left) → now ≡ record old { state = record old.state { waiting = old.state.waiting ++ done } } → (names : CrossingNames) → names ≡ names_of h.crossing → crossing_of names (frame_under now.sim.waiting n) ≡ h.crossing
+next_back old p effects n to bytes left ws done now k waits h is names are =
+    let x = h.crossing in
+    let keys = old.state.keys in
+    let frame = (frame_of_crossing keys (n, x)).1 in
+    let among : Among (n, x) ws = subst (λ l. Among (n, x) l) (sym h.all) (split_among (n, x) done h.behind) in
+    let found : numbered old.sim.waiting n ≡ Some frame = waits n frame (subst (λ l. Among (n, frame) l) (sym k.sent.frames) (among_map (frame_of_crossing keys) (n, x) ws among)) in
+    let there' : frame_under now.sim.waiting n ≡ frame = ap (λ (v : WorldView). frame_under v.sim.waiting n) is ∙ ap (λ o. unwrap_or o (record { to = []; bytes = [] })) found in
+    (λ i. crossing_of (are i) (there' i)) ∙ crossing_back keys x frame (k.sent.from n x among).may.whole refl refl
 
 -- and it is put behind the others
 pub keeping_goes_on : (old : WorldView) (p : Name) (effects : List NetEffect) (n : ℕ) (to : Name) (bytes : List ℕ) (left : List NetEffect) (ws done : List (ℕ × Crossing)) (now next : WorldView) (x : Crossing) → CanBeKept old.state p effects ws

@@ -1,16 +1,14 @@
 -- How the waiting frames arrive, one after another.
-use Rattle.std.specs.Prelude.{◌≡◌, ◌⊎◌, ◌-◌, ◌<◌, ℕ, zero, suc, true, false, cond, List, [], ◌∷◌, ◌++◌, map, Some, IsSome, length, slice_get, refl}
+use Rattle.std.specs.Prelude.{◌≡◌, ◌⊎◌, ◌-◌, ◌<◌, ℕ, zero, suc, false, cond, List, [], ◌∷◌, ◌++◌, map, Some, IsSome, length, slice_get, refl}
 use Rattle.std.proofs.Common.{sym, ap, ◌∙◌, subst, arith, inl, inr, append_assoc, append-nil}
-use Rattle.std.proofs.lemmas.Cmp.{nat_cmp_total, tied_itself}
 use Rattle.std.proofs.lemmas.Option.{same_Some, none-some}
-use Rattle.std.specs.BTreeMap.{is_at}
-use Rattle.std.specs.Ordering.{is_eq, nat_cmp}
 use Rattle.chassis_sim.specs.State as sim
 use Rattle.chassis_sim.specs.State.{numbered}
 use Rattle.chassis_sim.specs.declared.out.SimOut.{SimOut}
 use Rattle.conn_zones.specs.Zoning.{Zoned}
 use Rattle.switch_engine.specs.declared.effect.NetEffect.{NetEffect}
 use Rattle.net_model.specs.declared.crossing.Crossing.{Crossing}
+use Rattle.world_core.proofs.WaitingNames.{own_number}
 use Rattle.world_core.specs.Packets.{AreGone, HasArrived, most_sent}
 use Rattle.sim_laws.specs.Passing.{AreDrained}
 use Rattle.sim_laws.specs.Refinement.{IsAmidst}
@@ -37,9 +35,6 @@ drain_begins old before a h = record { own = []; all = sym (append-nil before.ef
 pub first_is : {X : Type 0} (xs : List X) (x : X) → slice_get xs 0 ≡ Some x → (behind : List X) × (xs ≡ x ∷ behind)
 first_is [] x e = absurd (none-some x e)
 first_is (y ∷ ys) x e = (ys, ap (λ z. z ∷ ys) (same_Some y x e))
-
-own_number : (n : ℕ) → is_at (nat_cmp n) n ≡ true
-own_number n = ap is_eq (tied_itself nat_cmp_total n)
 
 pub own_waits : (n : ℕ) (x : Crossing) (behind : List (ℕ × Crossing)) → numbered ((n, x) ∷ behind) n ≡ Some x
 own_waits n x behind = ap (λ b. cond b (Some x) (numbered behind n)) (own_number n)

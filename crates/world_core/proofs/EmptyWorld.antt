@@ -11,14 +11,15 @@ use Rattle.conn_zones.specs.declared.numbers.ZoneUse.TheVariants.{Port, Dnat, Sn
 use Rattle.chassis_sim.specs.State as sim
 use Rattle.chassis_sim.specs.State.{at_name, nothing_held}
 use Rattle.switch_engine.specs.declared.walk.Walk.{Walk}
-use Rattle.net_model.specs.declared.crossing.Crossing.{Crossing}
 use Rattle.tunnel_keys.specs.Keys.{Keys, IsKeys, no_keys}
 use Rattle.sim_laws.specs.Consistent.{IsConsistent}
 use Rattle.world_core.specs.Ground.{GroundView, ground_of}
 use Rattle.world_core.specs.StepParts.{new_world}
 use Rattle.world_core.specs.Zones.{no_zones}
 use Rattle.tunnel_keys.proofs.Invariant.{none_hold}
+use Rattle.world_core.specs.Waiting.{crossings_of}
 use Rattle.world_core.specs.WorldView.{IsSound}
+use Rattle.world_core.specs.declared.crossing_names.CrossingNames.{CrossingNames}
 use Rattle.sim_laws.specs.Held.{AreHeld}
 use Rattle.nb_rules.proofs.Validity.{unbroken}
 use Rattle.nb_rules.specs.Valid.{IsValid}
@@ -144,12 +145,12 @@ pub are_no_zones : (zones : Zoned) → zones.homes ≡ no_zones.homes → zones.
 are_no_zones zones homes numbers = λ i. record { homes = homes i; numbers = numbers i }
 
 -- and so is one that is made of empty parts
-pub starts_sound : (g : GroundView) (s : sim.SimState) (crossings : List (ℕ × Crossing)) (walks : List Walk) → g ≡ ground_of empty no_zones → s ≡ nothing_held → crossings ≡ [] → walks ≡ []
+pub starts_sound : (g : GroundView) (s : sim.SimState) (names : List (ℕ × CrossingNames)) (walks : List Walk) → g ≡ ground_of empty no_zones → s ≡ nothing_held → names ≡ [] → walks ≡ []
     → IsSound (record {
-      state = record { config = g.config; keys = g.keys; lists = untracked g.config; waiting = crossings; next = s.next; clock = 0; accepted = 0; refused = 0 };
+      state = record { config = g.config; keys = g.keys; lists = untracked g.config; waiting = crossings_of names s.waiting; next = s.next; clock = 0; accepted = 0; refused = 0 };
       zones = g.zones;
       sim = s;
       walks = walks;
       whole = true;
     })
-starts_sound g s crossings walks e f h i = rw (e, f, h, i) new_sound
+starts_sound g s names walks e f h i = rw (e, f, h, i) new_sound

@@ -20,7 +20,6 @@ use Rattle.inet_packet.proofs.DecodeLaws.{IsBytes, IsHead, is_bad, not_bad, type
 use Rattle.inet_packet.proofs.Ip4.{whole_is_ip4}
 use Rattle.world_core.specs.FrameReading.{IsGood, IsOfLength, IsOfPacket}
 use Rattle.world_core.specs.Frames.{carries_arp, is_arp_bytes, is_bad_ip4, is_ip4_bytes, is_too_big, is_too_short}
-use Rattle.world_core.specs.Packets.{IsFaultless}
 use Rattle.world_core.proofs.HeaderParts.{AtLeast, HasNumber, ip4_body, one, one_of, two_of}
 
 -- ---- the bytes behind the type
@@ -172,14 +171,6 @@ bad_ip4_tests frame fits long short = by (head_from frame fits (ltb-false (lengt
               not_bad frame h.dst h.src h.ether_type h.rest least most h.is_head
               (subst (λ (n : ℕ). HasBody n h.rest) (sym ip4) (ip4_body h.rest h.fits (subst IsIp4Bytes behind ((ip4_tests (drop 14 frame)).0 yes)))) bad))),
         )
-
--- a frame in which the tests find nothing
-pub faultless : (frame : List ℕ) → IsBytes frame → is_too_short frame ≡ false → is_too_big frame ≡ false → is_bad_ip4 frame ≡ false → IsFaultless frame
-faultless frame fits long short good = record {
-  long = ltb-false (length frame) MIN_FRAME long;
-  short = ltb-false MAX_FRAME (length frame) short;
-  good = iff_false (bad_ip4_tests frame fits long short) good;
-}
 
 -- the length of a frame, by its tests
 pub of_length : (frame : List ℕ) → ¬ (length frame < MIN_FRAME) → ¬ (MAX_FRAME < length frame) → IsOfLength frame

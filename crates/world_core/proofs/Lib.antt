@@ -48,3 +48,5 @@ pub mod StayingOwners
 pub mod StayingRecords
 pub mod TouchedRecords
 pub mod FrameTargets
+pub mod FramePackets
+pub mod WaitingNames

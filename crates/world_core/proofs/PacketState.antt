@@ -24,7 +24,10 @@ use Rattle.world_core.specs.Packets.{CanBeKept, HasArrived, HasEntered, HasPasse
 use Rattle.sim_laws.specs.SentFrames.{IsSentFrom}
 use Rattle.sim_laws.specs.Passing.{GoesIn, clock}
 use Rattle.sim_laws.specs.Refinement.{IsAmidst, IsRefined}
+use Rattle.world_core.specs.Waiting.{crossings_of}
 use Rattle.world_core.specs.WorldView.{WorldView}
+use Rattle.world_core.specs.declared.crossing_names.CrossingNames.{CrossingNames}
+use Rattle.world_core.proofs.WaitingNames.{all_names, seen_held}
 use Rattle.sim_laws.specs.Held.{AreHeld}
 use Rattle.net_model.specs.State.{State}
 use Rattle.sim_laws.specs.PacketSteps.{Arrives, Enters}
@@ -83,6 +86,14 @@ arrived_passed old n keep before after s waiting a h arrives kept =
     kept_state keep old.state n waiting (numbered_from (with_kept keep old.state n).next (crossings_in ends)) (none_numbered (with_kept keep old.state n).next (crossings_in ends) none) s.next (length (crossings_in ends)) kept next zero'
     ∙ sym own.state
     )
+
+-- the crossings that are left then are those of the names that are left
+pub arrived_seen : (old : WorldView) (n : ℕ) (keep : Bool) (before after : SimOut) (s : sim.SimState) (names : List (ℕ × CrossingNames)) → IsAmidst old.state old.zones most_sent → AreHeld old.state old.zones.numbers old.sim
+    → passing.IsArrived any_legal old.sim n keep clock before after s → names ≡ all_names (with_kept keep old.state n).waiting → crossings_of names s.waiting ≡ (with_kept keep old.state n).waiting
+arrived_seen old n keep before after s names a h arrives are =
+    let left = (with_kept keep old.state n).waiting in
+    let p = arrived_passed old n keep before after s left a h arrives refl in
+    seen_held (crossing_with old.state left s.next) old.zones.numbers s names p.amidst.crossings p.held are
 
 -- ---- a packet that goes in
 

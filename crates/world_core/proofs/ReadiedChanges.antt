@@ -55,7 +55,7 @@ use Rattle.tunnel_keys.specs.declared.fault.KeyFault.TheVariants as key
 use Rattle.world_core.specs.Built.{is_built_edit}
 use Rattle.world_core.specs.KeyCauses.{datapath_keys, key_lack, port_keys}
 use Rattle.world_core.proofs.KeyLacks.{IsLack}
-use Rattle.world_core.proofs.RefusedTurns.{bind_allowed, bind_no_chassis, bind_no_port, chassis_allowed, chassis_full, chassis_there, edit_faulty, edit_lacks, edit_unbuilt}
+use Rattle.world_core.proofs.RefusedTurns.{bind_allowed, bind_no_chassis, chassis_allowed, chassis_full, edit_faulty, edit_lacks}
 use Rattle.world_core.proofs.EditedStates.{after, edit_fits, edit_lack, edit_turned, fits, have, next_built, same_beside, sound}
 use Rattle.world_core.proofs.SetupTurns.{units_once}
 use Rattle.world_core.proofs.PortHomes.{can_come}
@@ -151,9 +151,6 @@ module _ (g : GroundView) (n : ℕ) (ops : List Op) (m : State) (may : MayTurn g
   go_same : (plan : EditPlan) → StandsFor g.config.net (accepted g.config.net ops n) plan → owners_only_in m.config.net (next_net m ops) ≡ plan.removed
   go_same plan stands = (λ i. owners_only_in (may.ground i).config.net (sym edit_leaves i)) ∙ sym stands.removed
 
-  pub edit_unbuilt_here : is_built_edit ops ≡ false → refusal m (event_of.Edit ops) ≡ Some why.NotBuilt
-  edit_unbuilt_here built = edit_unbuilt m ops built
-
   pub edit_tells : (fault : StepFault) → is_built_edit ops ≡ true → Tells fault (option_map (λ f. why.Schema f) (fault_of g.config.net ops n)) → Tells fault (refusal m (event_of.Edit ops))
   edit_tells (Refused cause) built told = by (fault_of g.config.net ops n) refl told
     where
@@ -211,9 +208,6 @@ module _ (g : GroundView) (n : ℕ) (c : Name) (m : State) (may : MayTurn g n (e
   pub chassis_may_come : is_chassis h.config c ≡ false → nat_le 64 (length h.config.chassis) ≡ false → refusal m (event_of.AddChassis c) ≡ None
   chassis_may_come new few = chassis_allowed m c (ap (λ (x : Config). is_chassis x c) config_same ∙ new) (ap (λ (x : Config). nat_le 64 (length x.chassis)) config_same ∙ few)
 
-  pub chassis_is_there : is_chassis h.config c ≡ true → refusal m (event_of.AddChassis c) ≡ Some (why.DuplicateName c)
-  chassis_is_there there = chassis_there m c (ap (λ (x : Config). is_chassis x c) config_same ∙ there)
-
   pub chassis_too_many : is_chassis h.config c ≡ false → nat_le 64 (length h.config.chassis) ≡ true → refusal m (event_of.AddChassis c) ≡ Some why.LimitChassis
   chassis_too_many new full = chassis_full m c (ap (λ (x : Config). is_chassis x c) config_same ∙ new) (ap (λ (x : Config). nat_le 64 (length x.chassis)) config_same ∙ full)
 
@@ -269,9 +263,6 @@ module _ (g : GroundView) (n : ℕ) (p c : Name) (m : State) (may : MayTurn g n 
 
   pub port_may_be_bound : is_virtual_port (at h.config.net.switch_ports p) ≡ true → is_chassis h.config c ≡ true → refusal m (event_of.Bind p c) ≡ None
   port_may_be_bound port there = bind_allowed m p c (ap (λ (x : Config). is_virtual_port (at x.net.switch_ports p)) bound_config ∙ port) (ap (λ (x : Config). is_chassis x c) bound_config ∙ there)
-
-  pub port_is_absent : is_virtual_port (at h.config.net.switch_ports p) ≡ false → refusal m (event_of.Bind p c) ≡ Some (why.NoSuch p)
-  port_is_absent port = bind_no_port m p c (ap (λ (x : Config). is_virtual_port (at x.net.switch_ports p)) bound_config ∙ port)
 
   pub chassis_is_absent : is_virtual_port (at h.config.net.switch_ports p) ≡ true → is_chassis h.config c ≡ false → refusal m (event_of.Bind p c) ≡ Some (why.NoSuch c)
   chassis_is_absent port there = bind_no_chassis m p c (ap (λ (x : Config). is_virtual_port (at x.net.switch_ports p)) bound_config ∙ port) (ap (λ (x : Config). is_chassis x c) bound_config ∙ there)

@@ -6,7 +6,6 @@ use Rattle.chassis_sim.specs.State as sim
 use Rattle.edit_reader.specs.declared.event.Event.{Event}
 use Rattle.event_lines.specs.declared.refusal.Refusal.{Refusal}
 use Rattle.event_lines.specs.Text.{StartsWith}
-use Rattle.switch_engine.specs.declared.walk.Walk.{Walk}
 use Rattle.tunnel_keys.proofs.Births.{born_later}
 use Rattle.world_core.specs.Outcome.{IsAccepted, IsRefused}
 use Rattle.world_core.specs.StepParts.{IsTaken}
@@ -96,10 +95,6 @@ refused_marked old mid event why before after was done taken = (
   },
   record { whole = refl; consistent = taken.consistent; held = taken.held },
 )
-
--- once it is done, the world is sound
-pub sound_again : (w : WorldView) (walks : List Walk) → IsTaken w → IsSound (record w { walks = walks; whole = true })
-sound_again w walks taken = record { whole = refl; consistent = taken.consistent; held = taken.held }
 
 -- after want of memory the world isn't sound
 pub half_done : (w : WorldView) → ¬ IsSound (record w { whole = false })

@@ -1,5 +1,6 @@
 -- How a world is kept: its view, and what holds of it between events.
 use Rattle.world_core.specs.Untracked.{untracked}
+use Rattle.world_core.specs.Waiting.{crossings_of}
 use Rattle.std.specs.Prelude.{◌≡◌, true}
 use Rattle.world_core.specs.declared.world.World.TheInside.{Inside}
 use Rattle.world_core.specs.WorldView.{WorldView, IsSound}
@@ -11,7 +12,7 @@ seen_of w = record {
     config = w.setup.ground.config;
     keys = w.setup.ground.keys;
     lists = untracked w.setup.ground.config;
-    waiting = w.crossings.entries;
+    waiting = crossings_of w.crossings.entries w.sim.state.waiting;
     next = w.sim.state.next;
     clock = 0;
     accepted = w.accepted;

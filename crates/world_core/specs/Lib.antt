@@ -22,3 +22,5 @@ pub mod Turning
 pub mod Untracked
 pub mod WorldView
 pub mod Zones
+pub mod FramePackets
+pub mod Waiting

@@ -1,9 +1,8 @@
 -- What packets that go through the chassis of a world leave.
 use Rattle.inet_packet.specs.Frame.{frame_of}
-use Rattle.inet_packet.specs.Reading.{IsBadIp4}
 use Rattle.inet_packet.specs.Whole.{IsWhole}
 use Rattle.inet_packet.specs.declared.packet.Packet as inet
-use Rattle.std.specs.Prelude.{◌≡◌, ◌++◌, ℕ, Bool, List, [], ◌∷◌, cond, map, Option, Some, None, ◌≤◌, length}
+use Rattle.std.specs.Prelude.{◌≡◌, ◌++◌, ℕ, Bool, List, [], ◌∷◌, cond, map, Option, Some, None}
 use Rattle.std.proofs.Math.Dec.{eqb as nat_eq}
 use Rattle.std.specs.List.Sorted.{IsStrictlySortedBy}
 use Rattle.std.specs.Map.{keys_of}
@@ -11,7 +10,7 @@ use Rattle.std.specs.Ordering.{nat_cmp}
 use Rattle.ovn_base.specs.lists.Among.{Among}
 use Rattle.ovn_base.specs.names.ByName.{at}
 use Rattle.ovn_base.specs.declared.name.Name.{Name}
-use Rattle.ovn_base.specs.declared.limits.TheConstants.{MAX_CHASSIS, MIN_FRAME, MAX_FRAME}
+use Rattle.ovn_base.specs.declared.limits.TheConstants.{MAX_CHASSIS}
 use Rattle.switch_engine.specs.Outcome.{any_legal}
 use Rattle.chassis_sim.specs.InNames.{frames_sent}
 use Rattle.chassis_sim.specs.Passing as sim
@@ -32,12 +31,6 @@ use Rattle.net_model.specs.declared.crossing.Aim.{Aim}
 use Rattle.net_model.specs.declared.crossing.Aim.TheVariants.{ToPort, ToGroup}
 use Rattle.net_model.specs.declared.crossing.Crossing.{Crossing}
 use Rattle.sim_laws.specs.SentFrames.{IsSentFrom}
-
--- no fault is found in the frame
-pub record IsFaultless (frame : List ℕ) : Type 0 where
-  pub long : MIN_FRAME ≤ length frame
-  pub short : length frame ≤ MAX_FRAME
-  pub good : ¬ IsBadIp4 frame
 
 -- the whole packet of a frame
 pub record IsPacketOf (packet : inet.Packet) (frame : List ℕ) : Type 0 where

@@ -2,6 +2,7 @@
 #![tactic(auto)]
 
 mod built;
+mod crossing_names;
 mod edited;
 mod frames;
 mod ground;

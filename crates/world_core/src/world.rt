@@ -15,6 +15,7 @@ ghost use Rattle.world_core.specs.Turning.{Tells, is_turn};
 ghost use Rattle.world_core.specs.WorldView.{IsSound};
 ghost use Rattle.net_model.specs.State.{event_count, finished};
 
+use crate::crossing_names::CrossingNames;
 use crate::held::Held;
 use crate::setup::Setup;
 use crate::world::texts::{write_accepted, write_refused};
@@ -23,7 +24,6 @@ use edit_reader::event::Event;
 use event_lines::refusal::{Refusal, StepFault};
 use flow_table::exact::exact_flow;
 use flow_table::flow::Flow;
-use net_model::crossing::Crossing;
 use ovn_base::list::List;
 use ovn_base::memory::NoMemory;
 use ovn_base::name::Name;
@@ -43,8 +43,8 @@ mod texts;
 pub struct World {
     setup: Setup,
     sim: Sim<Held>,
-    // What each frame that waits is on its way for.
-    crossings: BTreeMap<u128, Crossing>,
+    // Whom the crossing of each frame that waits names, by the frame's number. The rest of it the frame tells.
+    crossings: BTreeMap<u128, CrossingNames>,
     walks: List<Walk>,
     accepted: u64,
     refused: u64,

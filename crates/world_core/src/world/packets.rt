@@ -2,7 +2,9 @@
 ghost use Rattle.std.specs.Prelude.{◌≡◌, ◌≤◌, ◌<◌, ◌+◌, ◌*◌, ◌^◌, ◌++◌, ℕ, List, false, IfOk, OnOk, IsSome, Some};
 ghost use Rattle.std.specs.BTreeMap.{insert_entry};
 ghost use Rattle.std.specs.Ordering.{nat_cmp};
+ghost use Rattle.ovn_base.specs.declared.name.Name.{Name};
 ghost use Rattle.ovn_base.specs.names.ByName.{at};
+ghost use Rattle.chassis_sim.specs.InNames.{frames_sent};
 ghost use Rattle.chassis_sim.specs.Passing.{arrived};
 ghost use Rattle.chassis_sim.specs.State.{numbered};
 ghost use Rattle.inet_packet.specs.Frame.{frame_of};
@@ -11,42 +13,26 @@ ghost use Rattle.sim_laws.specs.PacketSteps.{most_arrivals};
 ghost use Rattle.sim_laws.specs.PlainJourneys.{with_kept};
 ghost use Rattle.sim_laws.specs.Refinement.{IsAmidst};
 ghost use Rattle.sim_laws.specs.Held.{AreHeld};
+ghost use Rattle.sim_laws.specs.Sound.{AreCrossings};
 ghost use Rattle.net_model.specs.State.{event_count};
-ghost use Rattle.world_core.specs.Packets.{AreGone, CanBeKept, HasArrived, HasEntered, IsNumberOf, most_sent, port_of_key, IsFaultless};
+ghost use Rattle.world_core.specs.Packets.{AreGone, CanBeKept, HasArrived, HasEntered, IsNumberOf, most_sent, port_of_key};
+ghost use Rattle.world_core.specs.Waiting.{AreWaiting, crossing_of, frame_under, names_of};
 ghost use Rattle.sim_laws.specs.SentFrames.{IsSentFrom};
 ghost use Rattle.physical_flows.specs.RecordKeys.{HaveKeys};
 ghost use Rattle.net_model.specs.declared.crossing.Aim.{Aim};
 ghost use Rattle.net_model.specs.declared.crossing.Crossing.{Crossing};
 
+use crate::crossing_names::CrossingNames;
 use crate::world::World;
 use chassis_sim::out::{SimFault, SimOut};
 use geneve_frames::read;
-use inet_packet::decode::decode;
-use inet_packet::frame::FrameFault;
 use inet_packet::packet::Packet;
-use net_model::crossing::{Aim, Crossing, Group};
+use net_model::crossing::{Aim, Group};
 use ovn_base::limits::{FLOOD_KEY, MAX_ARRIVALS, UNKNOWN_KEY};
-use ovn_base::list::List;
 use ovn_base::memory::NoMemory;
 use ovn_base::name::Name;
-use std::alloc::Global;
 use switch_engine::effect::NetEffect;
 use tunnel_keys::owner::Identity;
-
-// The packet of a frame in which there is no fault.
-fn packet_of(alloc: Global, frame: &[u8]) -> Result<Packet, NoMemory>
-    requires { IsFaultless frame.now }
-    ensures frame { IfOk result (λ packet. frame_of packet ≡ frame.now) }
-    ensures whole { IfOk result IsWhole }
-{
-    match decode(alloc, frame) {
-        Ok(packet) => Ok(packet),
-        Err(FrameFault::Memory) => Err(NoMemory),
-        Err(FrameFault::TooShort) => unreachable!(),
-        Err(FrameFault::TooBig) => unreachable!(),
-        Err(FrameFault::BadIp4) => unreachable!(),
-    }
-}
 
 // The first of the ports that has the key.
 fn port_of_key(ports: &[(Name, u16)], key: u16) -> Option<Name>
@@ -87,17 +73,11 @@ impl World {
         }))
     }
 
-    // The crossing of a frame that was sent for a packet from the port.
-    fn crossing(
-        &self,
-        alloc: Global,
-        port: &Name,
-        to: &Name,
-        bytes: &[u8],
-    ) -> Result<Crossing, NoMemory>
+    // Whom the crossing of a frame names that was sent for a packet from the port.
+    fn crossing(&self, port: &Name, bytes: &[u8]) -> CrossingNames
         requires keys { HaveKeys self.now.state.config.net self.now.state.keys }
-        requires sent { (x : Crossing) × IsSentFrom self.now.state port.now to.now bytes.now x }
-        ensures { IfOk result (λ found. (x : Crossing) → IsSentFrom self.now.state port.now to.now bytes.now x → found ≡ x) }
+        requires sent { (to : Name) × (x : Crossing) × IsSentFrom self.now.state port.now to bytes.now x }
+        ensures { (to : Name) (x : Crossing) → IsSentFrom self.now.state port.now to bytes.now x → result ≡ names_of x }
     {
         let Some(own) = self.setup.records().switch_port(port) else {
             unreachable!()
@@ -111,7 +91,7 @@ impl World {
         let Some(aim) = self.aim(&own.switch, view.out_key) else {
             unreachable!()
         };
-        Ok(Crossing {
+        CrossingNames {
             datapath: Identity {
                 name: own.switch,
                 birth: switch.birth,
@@ -121,43 +101,47 @@ impl World {
                 birth: own.birth,
             },
             aim,
-            home: *to,
-            packet: packet_of(alloc, view.inner)?,
-        })
+        }
     }
 
-    // Keeps a crossing under the number of its frame.
-    fn keep(&mut self, frame: u128, crossing: Crossing) -> Result<(), NoMemory>
+    // Keeps whom a crossing names under the number of its frame, which waits.
+    fn keep(
+        &mut self,
+        frame: u128,
+        datapath: Identity,
+        in_port: Identity,
+        aim: Aim,
+    ) -> Result<(), NoMemory>
         requires taken { self.old.whole ≡ false }
-        ensures { OnOk result (self.new ≡ record self.old { state = record self.old.state { waiting = insert_entry nat_cmp self.old.state.waiting frame crossing } }) }
+        ensures { OnOk result (self.new ≡ record self.old {
+          state = record self.old.state {
+            waiting = insert_entry nat_cmp self.old.state.waiting frame
+                (crossing_of (record { datapath = datapath; in_port = in_port; aim = aim }) (frame_under self.old.sim.waiting frame));
+          };
+        }) }
     {
-        self.crossings.insert(frame, crossing)?;
+        let names = CrossingNames {
+            datapath,
+            in_port,
+            aim,
+        };
+        self.crossings.insert(frame, names)?;
         Ok(())
     }
 
-    // Keeps the crossings of the frames among the effects of a packet from the port.
-    fn keep_crossings(
-        &mut self,
-        alloc: Global,
-        port: &Name,
-        effects: &[NetEffect],
-    ) -> Result<(), NoMemory>
+    // Keeps whom the crossings name of the frames among the effects of a packet from the port, which wait.
+    fn keep_crossings(&mut self, port: &Name, effects: &[NetEffect]) -> Result<(), NoMemory>
         requires taken { self.old.whole ≡ false }
         requires keys { HaveKeys self.old.state.config.net self.old.state.keys }
         requires sent { (ws : List (ℕ × Crossing)) × CanBeKept self.old.state port.now effects.now ws }
+        requires waiting { AreWaiting self.old.sim (frames_sent effects.now) }
         ensures { OnOk result ((ws : List (ℕ × Crossing)) → CanBeKept self.old.state port.now effects.now ws
             → self.new ≡ record self.old { state = record self.old.state { waiting = self.old.state.waiting ++ ws } }) }
     {
         'effects: for effect in effects {
-            if let NetEffect::Tunnel {
-                frame,
-                to,
-                bytes,
-                ..
-            } = effect
-            {
-                let crossing = self.crossing(alloc, port, to, bytes.as_slice())?;
-                self.keep(*frame, crossing)?;
+            if let NetEffect::Tunnel { frame, bytes, .. } = effect {
+                let names = self.crossing(port, bytes.as_slice());
+                self.keep(*frame, names.datapath, names.in_port, names.aim)?;
             }
         }
         Ok(())
@@ -166,7 +150,6 @@ impl World {
     // Takes a packet from its port through the chassis.
     pub(super) fn enter(
         &mut self,
-        alloc: Global,
         port: &Name,
         packet: Packet,
         out: &mut SimOut,
@@ -185,7 +168,7 @@ impl World {
             Err(SimFault::NotBound(_)) => unreachable!(),
             Err(SimFault::NoFrame(_)) => unreachable!(),
         }
-        self.keep_crossings(alloc, port, &out.effects.as_slice()[before..])?;
+        self.keep_crossings(port, &out.effects.as_slice()[before..])?;
         Ok(())
     }
 
@@ -216,6 +199,7 @@ impl World {
 
     // Takes a frame that waits away.
     pub(super) fn lose(&mut self, frame: u128)
+        requires crossings { AreCrossings self.old.state }
         requires held { AreHeld self.old.state self.old.zones.numbers self.old.sim }
         requires taken { self.old.whole ≡ false }
         requires waits { IsSome (numbered self.old.state.waiting frame) }

@@ -102,7 +102,7 @@ impl World {
     {
         let packet = self.packet_for(alloc, port, frame.as_slice())?;
         let mut out = SimOut::new(alloc);
-        self.enter(alloc, port, packet, &mut out)?;
+        self.enter(port, packet, &mut out)?;
         self.finish();
         Ok(done_from(out))
     }
@@ -115,7 +115,7 @@ impl World {
     {
         let packet = self.packet_for(alloc, port, frame.as_slice())?;
         let mut out = SimOut::new(alloc);
-        self.enter(alloc, port, packet, &mut out)?;
+        self.enter(port, packet, &mut out)?;
         self.drain(&mut out)?;
         self.finish();
         Ok(done_from(out))

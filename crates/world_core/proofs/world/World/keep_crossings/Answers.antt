@@ -3,13 +3,14 @@ use Rattle.std.proofs.lemmas.List.{drop_more, drop_all}
 use Rattle.switch_engine.specs.declared.effect.NetEffect.{NetEffect}
 use Rattle.switch_engine.specs.declared.effect.NetEffect.TheVariants as net
 use Rattle.sim_laws.specs.SentFrames.{IsSentFrom}
+use Rattle.world_core.specs.Waiting.{crossing_of, frame_under, names_of}
 use Rattle.world_core.specs.WorldView.{WorldView}
-use Rattle.world_core.proofs.CrossingStore.{IsKeeping, keeping_ends, keeping_goes_on, keeping_passes, next_of, next_sent, sends_none}
+use Rattle.world_core.proofs.CrossingStore.{IsKeeping, keeping_ends, keeping_goes_on, keeping_passes, next_back, next_of, next_sent, sends_none}
 use Rattle.world_core.proofs.world.World.keep_crossings.Goals as goal
-use Rattle.world_core.proofs.world.World.keep_crossings.Goals.{in-Tunnel+in_ok-crossing+in_ok-keep, in_default}
+use Rattle.world_core.proofs.world.World.keep_crossings.Goals.{in-Tunnel+in_ok-keep, in_default}
 
-pub crossing-requires-clause-sent : goal.crossing-requires-clause-sent
-crossing-requires-clause-sent c =
+pub crossing-names-requires-clause-sent : goal.crossing-names-requires-clause-sent
+crossing-names-requires-clause-sent c =
     let effects = c.args.effects.now in
     let i = c.effects.effect-index in
     let ws = c.requires.sent.0 in
@@ -19,6 +20,7 @@ crossing-requires-clause-sent c =
     let keeping : IsKeeping c.args.self.now (net.Tunnel c.in-Tunnel.frame c.in-Tunnel.from c.in-Tunnel.to c.in-Tunnel.bytes ∷ left) ws c.effects.self =
     subst (λ es. IsKeeping c.args.self.now es ws c.effects.self) (now ∙ ap (λ (e : NetEffect). e ∷ left) c.in-Tunnel.is) (c.effects.invariant.keeping ws can) in
     let h = next_of c.args.self.now c.in-Tunnel.frame c.in-Tunnel.from c.in-Tunnel.to c.in-Tunnel.bytes left ws c.effects.self keeping in (
+      c.in-Tunnel.to,
       h.crossing,
       subst (λ bs. IsSentFrom c.effects.self.state c.args.port.now c.in-Tunnel.to bs h.crossing) (sym c.as_slice.ensures)
           (next_sent c.args.self.now c.args.port.now effects c.in-Tunnel.frame c.in-Tunnel.to c.in-Tunnel.bytes left ws keeping.done c.effects.self can h keeping.now_is),
@@ -31,7 +33,7 @@ effects-preserved c =
     let left = drop (i + 1) effects in
     let now : drop i effects ≡ c.effect-item.result ∷ left = drop_more effects i c.effect-item.result c.effects-test.true ∙ ap (λ (e : NetEffect). e ∷ left) (sym c.effect-item.is) in
     elim c.match-effect.branch [
-      | in-Tunnel+in_ok-crossing+in_ok-keep w ↦
+      | in-Tunnel+in_ok-keep w ↦
           let n = w.in-Tunnel.frame in
           let to = w.in-Tunnel.to in
           let bytes = w.in-Tunnel.bytes in
@@ -41,9 +43,10 @@ effects-preserved c =
                 subst (λ es. IsKeeping c.args.self.now es ws c.effects.self) (now ∙ ap (λ (e : NetEffect). e ∷ left) w.in-Tunnel.is) (c.effects.invariant.keeping ws can) in
                 let h = next_of c.args.self.now n w.in-Tunnel.from to bytes left ws c.effects.self keeping in
                 let sent = next_sent c.args.self.now c.args.port.now effects n to bytes left ws keeping.done c.effects.self can h keeping.now_is in
-                let same : w.in_ok-crossing.crossing ≡ h.crossing = w.in_ok-crossing.ensures h.crossing (subst (λ bs. IsSentFrom c.effects.self.state c.args.port.now to bs h.crossing) (sym w.as_slice.ensures) sent) in
+                let names : w.crossing-names.result ≡ names_of h.crossing = w.crossing-names.ensures to h.crossing (subst (λ bs. IsSentFrom c.effects.self.state c.args.port.now to bs h.crossing) (sym w.as_slice.ensures) sent) in
+                let same = next_back c.args.self.now c.args.port.now effects n to bytes left ws keeping.done c.effects.self can c.requires.waiting h keeping.now_is w.crossing-names.result names in
                 subst (λ (v : WorldView). IsKeeping c.args.self.now left ws v) (sym w.self-is)
-                (keeping_goes_on c.args.self.now c.args.port.now effects n to bytes left ws keeping.done c.effects.self w.keep.new.self w.in_ok-crossing.crossing can h keeping.now_is same w.in_ok-keep.ensures);
+                (keeping_goes_on c.args.self.now c.args.port.now effects n to bytes left ws keeping.done c.effects.self w.keep.new.self (crossing_of w.crossing-names.result (frame_under c.effects.self.sim.waiting n)) can h keeping.now_is same w.in_ok-keep.ensures);
             taken = ap (λ (v : WorldView). v.whole) (w.self-is ∙ w.in_ok-keep.ensures) ∙ c.effects.invariant.taken;
           }
       | in_default w ↦

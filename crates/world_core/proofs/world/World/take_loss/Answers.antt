@@ -2,12 +2,16 @@ use Rattle.std.proofs.Common.{◌≡◌, ◌+◌, ◌++◌, [], ap, None, refl, 
 use Rattle.edit_reader.specs.declared.event.Event.TheVariants as event_of
 use Rattle.event_lines.specs.Lines.{accepted_lines}
 use Rattle.net_model.specs.State.{event_count}
+use Rattle.sim_laws.specs.Sound.{AreCrossings}
 use Rattle.world_core.specs.Inside.{seen_of}
 use Rattle.world_core.specs.Outcome.{IsAccepted}
 use Rattle.world_core.specs.Refusing.{no_frame}
 use Rattle.world_core.specs.WorldView.{IsSound, WorldView}
 use Rattle.world_core.proofs.PacketEvents.{counted_world, loss_taken, lost_world}
 use Rattle.world_core.proofs.world.World.take_loss.Goals as goal
+
+pub lose-requires-clause-crossings : goal.lose-requires-clause-crossings
+lose-requires-clause-crossings c = subst (λ (v : WorldView). AreCrossings v.state) (sym c.self.view_is) c.requires.sound.consistent.on_the_way.crossings
 
 pub invariant_of-self-3 : goal.invariant_of-self-3
 invariant_of-self-3 c =
