@@ -1,12 +1,13 @@
 use crate::top::ovnsim;
-use flow_table::lookup::Lookup;
+use chassis_sim::sim::Sim;
 use ovn_base::memory::NoMemory;
 use ovn_base::memory_sink::MemorySink;
 use ovn_base::memory_source::MemorySource;
+use ovn_base::name::Name;
 use std::alloc::Global;
 use std::test::Fail;
 use tuple_space::space::TupleSpace;
-use world_core::held::Held;
+use world_core::world::World;
 
 // ---- worked inputs
 
@@ -471,10 +472,16 @@ fn a_chassis_beside_64_is_refused(rt: HostRuntime) -> Result<(), Fail> {
     Ok(())
 }
 
+// Whether no frame waits between chassis that hold their flows by masks, and the chassis of this name has no flow.
+fn are_still(chassis: &Sim<TupleSpace>, name: &Name) -> bool {
+    chassis.waiting() == 0 && chassis.flow(name, 0).is_none()
+}
+
 // What holds the flows of the world's chassis is the classifier by masks.
 #[test]
 fn chassis_hold_flows_by_masks(rt: HostRuntime) -> Result<(), Fail> {
-    let held: Held = TupleSpace::new(rt.alloc())?;
-    assert!(rt; held.flow(0).is_none());
+    let name = Name::read(b"hv1").expect(&rt, "a name");
+    let world = World::new(rt.alloc())?;
+    assert!(rt; are_still(world.simulated_chassis(), &name));
     Ok(())
 }

@@ -24,8 +24,7 @@ with m keys = record m { accepted = m.accepted + 1; keys = keys }
 
 counted_births : (m : State) → AreBorn m → AreBorn (with m m.keys)
 counted_births m b = record {
-  switches = λ a switch h. let old = b.switches a switch h in omega (arith, old);
-  ports = λ q port h. let old = b.ports q port h in omega (arith, old);
+  records = λ k q r h. let old = b.records k q r h in omega (arith, old);
   keys = born_later m.keys (event_count m) (event_count (with m m.keys)) (omega arith) b.keys;
   none = λ z. absurd (omega (arith, z));
 }
@@ -66,8 +65,7 @@ module _ (m : State) (zones : Zoned) (more : ℕ) (s : sim.SimState) (a : IsAmid
 
   born_settled : AreBorn (with m (settled m.keys))
   born_settled = let b = counted_births m a.born in record {
-    switches = b.switches;
-    ports = b.ports;
+    records = b.records;
     keys = settled_born m.keys (event_count (with m m.keys)) b.keys;
     none = b.none;
   }

@@ -80,7 +80,7 @@ no_choice_in_arrival (Some s) n x = by (is_switch s.config.net x.datapath)
     by true = no_choice_at_aim s n x x.aim
     by false = refl
 
-choice_first : (e : End) (xs ys : List Choice) → choice_in e (xs ++ ys) ≡ choice_in e xs ++ ys
+pub choice_first : (e : End) (xs ys : List Choice) → choice_in e (xs ++ ys) ≡ choice_in e xs ++ ys
 choice_first (leaves port p) xs ys = refl
 choice_first (is_dropped datapath port why) xs ys = refl
 choice_first (crosses here x) xs ys = refl
@@ -88,7 +88,7 @@ choice_first (picks_backend datapath vip backend) xs ys = refl
 choice_first (picks_port router port) xs ys = refl
 choice_first (is_lost n) xs ys = refl
 
-choices_append : (es fs : List End) → choices_in (es ++ fs) ≡ choices_in es ++ choices_in fs
+pub choices_append : (es fs : List End) → choices_in (es ++ fs) ≡ choices_in es ++ choices_in fs
 choices_append [] fs = refl
 choices_append (e ∷ es) fs = ap (choice_in e) (choices_append es fs) ∙ choice_first e (choices_in es) (choices_in fs)
 

@@ -124,7 +124,7 @@ amidst_with m zones more most waiting next a crossings few = record {
   built = a.built;
   keys = a.keys;
   bound = a.bound;
-  born = record { switches = a.born.switches; ports = a.born.ports; keys = a.born.keys; none = a.born.none };
+  born = record { records = a.born.records; keys = a.born.keys; none = a.born.none };
   crossings = crossings;
   few = a.few;
   few_sent = few;

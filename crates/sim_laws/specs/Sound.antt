@@ -5,11 +5,10 @@ use Rattle.std.specs.Map.{keys_of}
 use Rattle.std.specs.Ordering.{nat_cmp}
 use Rattle.ovn_base.specs.lists.Among.{Among}
 use Rattle.ovn_base.specs.declared.name.Name.{Name}
-use Rattle.ovn_base.specs.names.ByName.{at}
 use Rattle.inet_packet.specs.Whole.{IsWhole}
-use Rattle.nb_records.specs.Network.{empty_network}
-use Rattle.nb_records.specs.declared.switch.Switch.{Switch}
-use Rattle.nb_records.specs.declared.switch.SwitchPort.{SwitchPort}
+use Rattle.nb_records.specs.Network.{birth_of, empty_network, record_at}
+use Rattle.nb_records.specs.declared.kinds.Kind.{Kind}
+use Rattle.nb_records.specs.declared.record.Record.{Record}
 use Rattle.tunnel_keys.specs.Births.{AreKeysBorn}
 use Rattle.tunnel_keys.specs.Keys.{Keys, held_datapaths, held_ports}
 use Rattle.tunnel_keys.specs.declared.owner.HeldDatapath.{HeldDatapath}
@@ -24,8 +23,7 @@ use Rattle.net_model.specs.State.{State, event_count}
 -- no record, no owner of a key and no datapath of a port's key is younger than the last event, and where no event was accepted
 -- there is no record
 pub record AreBorn (m : State) : Type 0 where
-  pub switches : (a : Name) (switch : Switch) → at m.config.net.switches a ≡ Some switch → switch.birth.0 ≤ event_count m
-  pub ports : (q : Name) (port : SwitchPort) → at m.config.net.switch_ports q ≡ Some port → port.birth.0 ≤ event_count m
+  pub records : (k : Kind) (q : Name) (r : Record) → record_at m.config.net k q ≡ Some r → (birth_of r).0 ≤ event_count m
   pub keys : AreKeysBorn m.keys (event_count m)
   pub none : m.accepted ≡ 0 → m.config.net ≡ empty_network
 

@@ -6,6 +6,7 @@ use Rattle.chassis_sim.specs.declared.change.SimChange.{SimChange}
 use Rattle.conn_zones.specs.Zoning.{Zoned}
 use Rattle.edit_reader.specs.Fitting.{IsEventInGrammar}
 use Rattle.edit_reader.specs.declared.event.Event.TheVariants as event_of
+use Rattle.nb_edits.proofs.RecordLaws.{same_birth}
 use Rattle.nb_edits.specs.EditLeaves as edits
 use Rattle.nb_edits.specs.OpFaults.{fault_of}
 use Rattle.nb_edits.proofs.EditSoundness.{edit_sound}
@@ -53,7 +54,7 @@ use Rattle.world_core.proofs.EditedKeys.{HasRecordsFrom, edited_born, edited_hav
 use Rattle.world_core.proofs.EditedNames.{AreNamesOf, names_listed, names_set}
 use Rattle.world_core.proofs.EditedRecords.{edited_built}
 use Rattle.world_core.proofs.StayingOwners.{bindings_stay, none_gone}
-use Rattle.world_core.proofs.StayingRecords.{port_births, ports_stay, switch_births, switches_stay}
+use Rattle.world_core.proofs.StayingRecords.{ports_stay, switches_stay}
 use Rattle.world_core.proofs.TouchedRecords.{port_kept, port_with_switch, switch_kept}
 use Rattle.world_core.proofs.EditedWaiting.{edit_kept}
 use Rattle.world_core.proofs.FreedKeys.{counted, finished_consistent}
@@ -172,13 +173,9 @@ module _ (m : State) (zones : Zoned) (lists : m.lists ≡ untracked m.config) (o
   -- no record is younger than the event
   born_then : AreBorn (counted mid)
   born_then = record {
-    switches = λ a s is. elim (switch_births net ops (event_count m + 1) old.valid grammar.each planned.faultless a s is) [
-      | inl was ↦ let early = old.born.switches a was.0 was.1 in let same = ap (λ (b : Birth). b.0) was.2 in omega (arith, early, same)
-      | inr new ↦ omega (arith, new)
-    ];
-    ports = λ q p is. elim (port_births net ops (event_count m + 1) old.valid grammar.each planned.faultless q p is) [
-      | inl was ↦ let early = old.born.ports q was.0 was.1 in let same = ap (λ (b : Birth). b.0) was.2 in omega (arith, early, same)
-      | inr new ↦ omega (arith, new)
+    records = λ k q r is. elim (sound.records k q r is) [
+      | inl new ↦ omega (arith, new)
+      | inr was ↦ let early = old.born.records k q was.0 was.1 in let same = ap (λ (b : Birth). b.0) (same_birth r was.0 was.2) in omega (arith, early, same)
     ];
     keys = born_later keys (event_count m + 1) (event_count (counted mid)) (omega arith) (edited_born net next m.keys keys old.keys after.hold gives records_from (event_count m) (event_count m + 1) (omega arith) old.born.keys sound.owners);
     none = λ h. absurd (omega (arith, h));

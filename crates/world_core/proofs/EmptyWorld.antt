@@ -20,13 +20,12 @@ use Rattle.tunnel_keys.proofs.Invariant.{none_hold}
 use Rattle.world_core.specs.Waiting.{crossings_of}
 use Rattle.world_core.specs.WorldView.{IsSound}
 use Rattle.world_core.specs.declared.crossing_names.CrossingNames.{CrossingNames}
+use Rattle.sim_laws.proofs.journey_laws.First.{no_records, nobody_born}
 use Rattle.sim_laws.specs.Held.{AreHeld}
-use Rattle.nb_rules.proofs.Validity.{unbroken}
-use Rattle.nb_rules.specs.Valid.{IsValid}
 use Rattle.physical_flows.specs.Built.{IsBuilt}
 use Rattle.physical_flows.specs.RecordKeys.{HaveKeys}
 use Rattle.physical_flows.specs.Bindings.{AreBound}
-use Rattle.sim_laws.specs.Sound.{AreBorn, AreCrossings}
+use Rattle.sim_laws.specs.Sound.{AreCrossings}
 use Rattle.net_model.specs.State.{empty}
 use Rattle.physical_flows.proofs.FlowSearch.{some_of}
 
@@ -35,18 +34,6 @@ first_keys = no_keys 16777215 32767
 
 new_keys : IsKeys first_keys
 new_keys = none_hold 16777215 32767 (omega arith, omega arith) (omega arith, omega arith)
-
-new_valid : IsValid empty.config.net
-unfolding IsStrictlySortedBy
-new_valid = record {
-  in_order = record { switches = tt; routers = tt; router_ports = tt; switch_ports = tt; address_sets = tt; port_groups = tt; acls = tt; routes = tt; nats = tt; load_balancers = tt; static_macs = tt; offline = tt };
-  named = record { switches = tt; routers = tt; router_ports = tt; switch_ports = tt; address_sets = tt; port_groups = tt; acls = tt; routes = tt; nats = tt; load_balancers = tt; static_macs = tt };
-  datapaths = tt;
-  ports = tt;
-  in_grammar = tt;
-  directed = tt;
-  unbroken = (unbroken empty.config.net []).1 (record { references = tt; addresses = tt; peers = tt; macs = tt; ips = tt; networks = tt; switch_vips = tt; router_vips = tt; bindings = tt; prefixes = tt; next_hops = tt; chassis = tt; widths = tt; datapaths = omega arith; ports = omega arith; acls = omega arith; cubes = omega arith });
-}
 
 new_built : IsBuilt empty.config.net
 new_built = record { others = refl; ports = λ q port e. absurd (none-some port e) }
@@ -100,14 +87,6 @@ new_bound = record {
   zoned = new_zoned;
 }
 
-new_born : AreBorn empty
-new_born = record {
-  switches = λ a switch e. absurd (none-some switch e);
-  ports = λ q port e. absurd (none-some port e);
-  keys = record { datapaths = λ a among. absurd (among_none a among); ports = λ a among. absurd (among_none a among); port_datapaths = λ a among. absurd (among_none a among) };
-  none = λ _. refl;
-}
-
 new_crossings : AreCrossings empty
 unfolding IsStrictlySortedBy
 new_crossings = record {
@@ -118,11 +97,11 @@ new_crossings = record {
 
 new_consistent : IsConsistent empty no_zones
 new_consistent = record {
-  valid = new_valid;
+  valid = no_records;
   built = new_built;
   keys = new_have;
   bound = new_bound;
-  born = new_born;
+  born = nobody_born;
   on_the_way = record { crossings = new_crossings; few = omega arith; none = λ _. refl };
   few = omega arith;
 }

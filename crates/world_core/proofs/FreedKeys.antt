@@ -39,8 +39,7 @@ module _ (c : State) (zones : Zoned) (old : IsConsistent c zones) where
     };
     bound = old.bound;
     born = record {
-      switches = old.born.switches;
-      ports = old.born.ports;
+      records = old.born.records;
       keys = settled_born c.keys (event_count (under (settled c.keys))) old.born.keys;
       none = old.born.none;
     };

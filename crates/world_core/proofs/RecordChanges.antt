@@ -9,7 +9,7 @@ use Rattle.std.specs.Ordering.{nat_cmp}
 use Rattle.ovn_base.specs.lists.Among.{Among}
 use Rattle.ovn_base.specs.declared.name.Name.{Name}
 use Rattle.ovn_base.specs.names.ByName.{at, put, IsByName}
-use Rattle.nb_records.specs.Network.{Network}
+use Rattle.nb_records.specs.Network.{Network, birth_of, record_at}
 use Rattle.ovn_base.proofs.ByNameLaws.{put_cases, put_sorted}
 use Rattle.conn_zones.specs.Rezoning.{IsRezoned}
 use Rattle.conn_zones.specs.Zoning.{Zoned}
@@ -68,7 +68,6 @@ module _ (m n : State) (born : AreBorn m) (later : event_count m ≤ event_count
   pub born_kept : (n.accepted ≡ 0 → m.accepted ≡ 0) → n.config.net ≡ m.config.net → n.keys ≡ m.keys → AreBorn n
   born_kept fresh net keys = record {
     none = λ h. net ∙ born.none (fresh h);
-    switches = λ a s e. let old : s.birth.0 ≤ event_count m = born.switches a s (ap (λ (w : Network). at w.switches a) (sym net) ∙ e) in omega (arith, old, later);
-    ports = λ q p e. let old : p.birth.0 ≤ event_count m = born.ports q p (ap (λ (w : Network). at w.switch_ports q) (sym net) ∙ e) in omega (arith, old, later);
+    records = λ k q r e. let old : (birth_of r).0 ≤ event_count m = born.records k q r (ap (λ (w : Network). record_at w k q) (sym net) ∙ e) in omega (arith, old, later);
     keys = subst (λ k. AreKeysBorn k (event_count n)) (sym keys) (born_later m.keys (event_count m) (event_count n) later born.keys);
   }

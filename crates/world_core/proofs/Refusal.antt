@@ -51,8 +51,7 @@ refused_consistent m zones now room =
       keys = now.keys;
       bound = now.bound;
       born = record {
-        switches = λ a switch is. let b = now.born.switches a switch is in omega (arith, b);
-        ports = λ q port is. let b = now.born.ports q port is in omega (arith, b);
+        records = λ k q r is. let b = now.born.records k q r is in omega (arith, b);
         keys = born_later m.keys (event_count m) (event_count (one_refused m)) (omega arith) now.born.keys;
         none = now.born.none;
       };

@@ -1,8 +1,8 @@
 -- Switches and ports stay through an edit of what is built, with their births, and ports on their switches.
-use Rattle.std.specs.Prelude.{◌≡◌, ◌⊎◌, ℕ, true, false, List, [], ◌∷◌, Option, Some, None, option_map, refl}
+use Rattle.std.specs.Prelude.{◌≡◌, ℕ, true, false, List, [], ◌∷◌, Option, Some, None, option_map, refl}
 use Rattle.std.specs.List.{AllByRecursion}
 use Rattle.std.proofs.lemmas.Bool.{false≢true, and_parts}
-use mathlib.Core.Path.{sym, ap, subst, ◌∙◌}
+use mathlib.Core.Path.{sym, ap, ◌∙◌}
 use mathlib.Core.Logic.{inl, inr}
 use Rattle.ovn_base.specs.declared.name.Name.{Name}
 use Rattle.ovn_base.specs.names.ByName.{at, put}
@@ -21,9 +21,7 @@ use Rattle.nb_records.specs.declared.switch.Switch.{Switch}
 use Rattle.nb_records.specs.declared.switch.SwitchPort.{SwitchPort}
 use Rattle.nb_rules.specs.First.{fault_if}
 use Rattle.nb_rules.specs.Valid.{IsValid}
-use Rattle.nb_edits.proofs.EditValidity.{IsFit, some_of, neither, not_there, no_first, no_fault, operated_fit, valid_fit}
-use Rattle.nb_edits.proofs.RecordLaws.{accepted_from}
-use Rattle.nb_edits.specs.EditLeaves.{IsSetOf}
+use Rattle.nb_edits.proofs.EditValidity.{IsFit, neither, not_there, no_first, no_fault, operated_fit, valid_fit}
 use Rattle.nb_edits.specs.OpFaults.{is_taken_for, op_fault, ops_fault, fault_of}
 use Rattle.world_core.specs.Built.{is_built_op, is_built_edit}
 use Rattle.world_core.proofs.NamedRecords.{itself_at}
@@ -155,24 +153,4 @@ module _ (net : Network) (ops : List Op) (n : ℕ) (valid : IsValid net) (gramma
   pub ports_stay : is_built_edit ops ≡ true → (q : Name) (p : SwitchPort) → at net.switch_ports q ≡ Some p → StaysAt (accepted net ops n) q p
   ports_stay is q p found = port_stays_through net ops n (valid_fit net valid) grammar is (ops_pass net ops n none) q p found
 
-  -- ---- who comes was born now
-
-  -- a switch after was there, or comes with this event
-  pub switch_births : (a : Name) (now : Switch) → at (accepted net ops n).switches a ≡ Some now → ((s : Switch) × (at net.switches a ≡ Some s) × (now.birth ≡ s.birth)) ⊎ (now.birth.0 ≡ n)
-  switch_births a now found = elim (accepted_from net ops n (valid_fit net valid) grammar (ops_pass net ops n none) kind.Switch a (row.Switch now) (ap (option_map row.Switch) found)) [
-    | inl new ↦ inr new
-    | inr old ↦ (
-        let x = some_of row.Switch (at net.switches a) old.0 old.1 in
-        let set : IsSetOf (row.Switch now) (row.Switch x.0) = subst (λ (r : Record). IsSetOf (row.Switch now) r) (sym x.2) old.2 in
-        inl (x.0, x.1, ap (λ (s : Switch). s.birth) set))
-  ]
-
-  -- so does a port
-  pub port_births : (q : Name) (now : SwitchPort) → at (accepted net ops n).switch_ports q ≡ Some now → ((p : SwitchPort) × (at net.switch_ports q ≡ Some p) × (now.birth ≡ p.birth)) ⊎ (now.birth.0 ≡ n)
-  port_births q now found = elim (accepted_from net ops n (valid_fit net valid) grammar (ops_pass net ops n none) kind.SwitchPort q (row.SwitchPort now) (ap (option_map row.SwitchPort) found)) [
-    | inl new ↦ inr new
-    | inr old ↦ (
-        let x = some_of row.SwitchPort (at net.switch_ports q) old.0 old.1 in
-        let set : IsSetOf (row.SwitchPort now) (row.SwitchPort x.0) = subst (λ (r : Record). IsSetOf (row.SwitchPort now) r) (sym x.2) old.2 in
-        inl (x.0, x.1, ap (λ (p : SwitchPort). p.birth) set))
-  ]
+-- ---- births

@@ -1,5 +1,5 @@
 //! The state of the network and of its chassis, and its steps.
-ghost use Rattle.std.specs.Prelude.{◌-◌, ◌≡◌, ◌+◌, ◌<◌, ◌^◌, ◌++◌, ◌↔◌, [], ◌∷◌, None, Some, true, false, min, length, slice_get, IsTrue, IfErr, IfOk, OnOk, OnErr, List};
+ghost use Rattle.std.specs.Prelude.{◌-◌, ◌≡◌, ◌+◌, ◌<◌, ◌≤◌, ◌^◌, ◌++◌, ◌↔◌, [], ◌∷◌, None, Some, true, false, min, length, slice_get, IsTrue, IfErr, IfOk, OnOk, OnErr, List};
 ghost use Rattle.std.specs.Option.{option_copied};
 ghost use Rattle.ovn_base.specs.lists.Once.{EachOnce};
 ghost use Rattle.chassis_sim.specs.State.{flow_at, at_name};
@@ -140,6 +140,13 @@ impl World {
         self.sim.flow(chassis, index)
     }
 
+    /// The simulated chassis, over what holds the flows of each.
+    pub fn simulated_chassis(&self) -> &Sim<Held>
+        ensures { result.now.state ≡ self.now.sim }
+    {
+        &self.sim
+    }
+
     /// The flows that the packets of the last event matched; none where it was refused.
     pub fn walks(&self) -> &[Walk]
         ensures { result.now ≡ self.now.walks }
@@ -260,12 +267,13 @@ impl World {
         &mut self,
         event: &Event,
         text: &mut Vec<u8>,
-        _steps: &mut Steps<L>,
+        steps: &mut Steps<L>,
     ) -> Result<(), StepFault>
         requires sound { IsSound self.old }
         requires room { event_count self.old.state < 2 ^ 42 }
         requires admitted { IsEventInGrammar event.now }
-        ensures { Outcome result self.old event.now text.old.items text.new.items self.new }
+        ensures outcome { Outcome result self.old event.now text.old.items text.new.items self.new }
+        ensures steps { steps.old ≤ steps.new }
     {
         match event {
             Event::Edit(_) | Event::Bind { .. } | Event::AddChassis(_) => {

@@ -33,8 +33,7 @@ counted m keys = record m { accepted = m.accepted + 1; keys = keys }
 
 births_then : (m : State) → AreBorn m → AreBorn (counted m m.keys)
 births_then m b = record {
-  switches = λ d switch h. let old = b.switches d switch h in omega (arith, old);
-  ports = λ q port h. let old = b.ports q port h in omega (arith, old);
+  records = λ k q r h. let old = b.records k q r h in omega (arith, old);
   keys = born_later m.keys (event_count m) (event_count (counted m m.keys)) (omega arith) b.keys;
   none = λ z. absurd (omega (arith, z));
 }
@@ -157,7 +156,7 @@ module _ (m : State) (zones : Zoned) (sets : Sets) (more : ℕ) (s : SimState) (
           no_router = u.no_router;
           keys = keys_settled;
           bound = u.bound;
-          born = record { switches = b.switches; ports = b.ports; keys = settled_born m.keys (event_count (counted m m.keys)) b.keys; none = b.none };
+          born = record { records = b.records; keys = settled_born m.keys (event_count (counted m m.keys)) b.keys; none = b.none };
           on_the_way = record {
             crossings = record { in_order = u.crossings.in_order; below = u.crossings.below; may = λ n x w. absurd (none_waits e n x w) };
             few = few_sent;

@@ -8,6 +8,9 @@ use Rattle.conn_zones.specs.Zoning.{home_for, number_on, IsZoned}
 use Rattle.conn_zones.specs.declared.numbers.ZoneUse.{ZoneUse}
 use Rattle.conn_zones.specs.declared.numbers.ZoneUse.TheVariants as zone
 use Rattle.match_cubes.specs.Points.{named}
+use Rattle.nb_records.specs.Network.{empty_network, record_at}
+use Rattle.nb_records.specs.declared.kinds.Kind.{Kind}
+use Rattle.nb_records.specs.declared.kinds.Kind.TheVariants as kind
 use Rattle.nb_rules.proofs.Validity.{unbroken}
 use Rattle.nb_rules.specs.Valid.{IsValid}
 use Rattle.net_model.specs.State.{empty}
@@ -27,7 +30,7 @@ use Rattle.sim_laws.specs.journeys.Holding.{HoldsNetwork}
 
 -- ---- records and keys
 
-no_records : IsValid empty.config.net
+pub no_records : IsValid empty.config.net
 unfolding IsStrictlySortedBy
 no_records = record {
   in_order = record { switches = tt; routers = tt; router_ports = tt; switch_ports = tt; address_sets = tt; port_groups = tt; acls = tt; routes = tt; nats = tt; load_balancers = tt; static_macs = tt; offline = tt };
@@ -92,10 +95,23 @@ nothing_bound = record {
 
 -- ---- crossings
 
-nobody_born : AreBorn empty
+-- no kind has a record
+pub no_record : (k : Kind) (q : Name) → record_at empty_network k q ≡ None
+no_record kind.Switch q = refl
+no_record kind.Router q = refl
+no_record kind.RouterPort q = refl
+no_record kind.SwitchPort q = refl
+no_record kind.AddressSet q = refl
+no_record kind.PortGroup q = refl
+no_record kind.Acl q = refl
+no_record kind.Route q = refl
+no_record kind.Nat q = refl
+no_record kind.LoadBalancer q = refl
+no_record kind.StaticMac q = refl
+
+pub nobody_born : AreBorn empty
 nobody_born = record {
-  switches = λ a switch e. absurd (none-some switch e);
-  ports = λ q port e. absurd (none-some port e);
+  records = λ k q r e. absurd (none-some r (sym (no_record k q) ∙ e));
   keys = record { datapaths = λ a among. absurd (among_none a among); ports = λ a among. absurd (among_none a among); port_datapaths = λ a among. absurd (among_none a among) };
   none = λ _. refl;
 }

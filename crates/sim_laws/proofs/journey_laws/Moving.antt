@@ -7,21 +7,10 @@ use Rattle.net_model.specs.State.{State}
 use Rattle.net_model.specs.Trail.{End, leaves, is_dropped, crosses, picks_backend, picks_port, is_lost, choice_in, choices_in, crossings_in}
 use Rattle.net_model.specs.declared.crossing.Crossing.{Crossing}
 use Rattle.ovn_base.specs.declared.limits.TheConstants.{MAX_ARRIVALS}
+use Rattle.sim_laws.proofs.PlainTravels.{choices_append}
 use Rattle.sim_laws.proofs.journey_laws.Ways.{crossings_append}
 use Rattle.sim_laws.specs.journeys.Events.{TravelLaw, DrainLaw, EnterAndDrainLaw}
 use Rattle.sim_laws.specs.journeys.Moves.{journey_in, Moves, AreMoved}
-
-choice_first : (e : End) (xs ys : List Choice) → choice_in e (xs ++ ys) ≡ choice_in e xs ++ ys
-choice_first (leaves port p) xs ys = refl
-choice_first (is_dropped datapath port why) xs ys = refl
-choice_first (crosses here x) xs ys = refl
-choice_first (picks_backend datapath vip backend) xs ys = refl
-choice_first (picks_port router port) xs ys = refl
-choice_first (is_lost n) xs ys = refl
-
-choices_append : (es fs : List End) → choices_in (es ++ fs) ≡ choices_in es ++ choices_in fs
-choices_append [] fs = refl
-choices_append (e ∷ es) fs = ap (choice_in e) (choices_append es fs) ∙ choice_first e (choices_in es) (choices_in fs)
 
 length_append : {X : Type 0} (xs ys : List X) → length (xs ++ ys) ≡ length xs + length ys
 length_append [] ys = omega arith

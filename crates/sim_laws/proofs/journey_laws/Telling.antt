@@ -65,7 +65,7 @@ led_sound m zones more most lists waiting ends u c may few = record {
   no_router = u.no_router;
   keys = u.keys;
   bound = u.bound;
-  born = record { switches = u.born.switches; ports = u.born.ports; keys = u.born.keys; none = u.born.none };
+  born = record { records = u.born.records; keys = u.born.keys; none = u.born.none };
   crossings = crossings_behind k ends (record { in_order = c.in_order; below = c.below; may = λ n x w. still x (c.may n x w) }) (λ x w. may_still m lists waiting m.next x (may x w));
   few = u.few;
   few_sent = few;

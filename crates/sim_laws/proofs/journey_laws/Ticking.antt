@@ -79,7 +79,7 @@ ticks m zones sets more s seconds u h = (
     no_router = u.no_router;
     keys = u.keys;
     bound = u.bound;
-    born = record { switches = u.born.switches; ports = u.born.ports; keys = u.born.keys; none = u.born.none };
+    born = record { records = u.born.records; keys = u.born.keys; none = u.born.none };
     crossings = record { in_order = u.crossings.in_order; below = u.crossings.below; may = λ n x w. may_then m seconds x (u.crossings.may n x w) };
     few = u.few;
     few_sent = u.few_sent;
