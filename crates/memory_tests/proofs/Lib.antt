@@ -1,0 +1,3 @@
+-- Lemmas.
+pub mod Left
+pub mod NoRecords
