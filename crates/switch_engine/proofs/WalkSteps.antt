@@ -1,5 +1,5 @@
 -- A walk on its way.
-use Rattle.std.specs.Prelude.{◌≡◌, ◌&&◌, ℕ, true, false, cond, List, [], ◌∷◌, ◌++◌, Option, Some, None, option_to_list, reverse, refl}
+use Rattle.std.specs.Prelude.{◌≡◌, ◌&&◌, ℕ, Bool, true, false, cond, List, [], ◌∷◌, ◌++◌, Option, Some, None, option_to_list, reverse, refl}
 use Rattle.std.specs.List.{AllByRecursion}
 use Rattle.std.proofs.Math.Dec.{eqb as nat_eq}
 use Rattle.std.proofs.lemmas.List.{reverse-append}
@@ -118,13 +118,11 @@ module _ {flows : List Flow} {entry : Entry} {now : ℕ} {packet : Packet} {firs
 pub on_top : (pending after : List Carried) (copy : Carried) → after ≡ pending ++ copy ∷ [] → reverse after ≡ copy ∷ reverse pending
 on_top pending after copy is = ap reverse is ∙ reverse-append pending (copy ∷ [])
 
--- what goes on stands before the pending copies, where the copy itself goes on
-pub stacked_some : (pending put after made : List Carried) (itself : Option Carried) (copy : Carried) → itself ≡ Some copy → reverse put ≡ made ++ reverse pending → after ≡ put ++ copy ∷ [] → reverse after ≡ (option_to_list itself ++ made) ++ reverse pending
-stacked_some pending put after made itself copy some first top = on_top put after copy top ∙ ap (λ l. copy ∷ l) first ∙ ap (λ o. (option_to_list o ++ made) ++ reverse pending) (sym some)
-
--- and where it doesn't
-pub stacked_none : (pending put made : List Carried) (itself : Option Carried) → itself ≡ None → reverse put ≡ made ++ reverse pending → reverse put ≡ (option_to_list itself ++ made) ++ reverse pending
-stacked_none pending put made itself none first = first ∙ ap (λ o. (option_to_list o ++ made) ++ reverse pending) (sym none)
+-- what goes on stands before the pending copies
+pub stacked : (pending put made : List Carried) (goes_on : Bool) (copy : Carried) → reverse put ≡ made ++ reverse pending
+    → cond goes_on (copy ∷ []) [] ++ reverse put ≡ (option_to_list (cond goes_on (Some copy) None) ++ made) ++ reverse pending
+stacked pending put made true copy first = ap (λ l. copy ∷ l) first
+stacked pending put made false copy first = first
 
 -- a copy came through its table with a flow
 pub advanced : {flows : List Flow} {entry : Entry} {now : ℕ} {copy : Carried} {zones after : ZoneLists} (flow : Flow) → IsBest flows copy.table copy.regs copy.packet flow → (ops : List FlowOp) → ops ≡ flow.ops

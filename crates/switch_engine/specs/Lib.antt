@@ -14,7 +14,6 @@ pub mod PlainProper
 pub mod PlainWalk
 pub mod Proper
 pub mod Range
-pub mod Steps
 pub mod Tracking
 pub mod Walk
 pub mod Zones

@@ -1,5 +1,5 @@
 //! What the actions of a flow do.
-ghost use Rattle.std.specs.Prelude.{◌≡◌, ◌++◌, [], ◌∷◌, true, IfOk, OnOk, OnErr};
+ghost use Rattle.std.specs.Prelude.{◌≡◌, ◌++◌, [], ◌∷◌, true, cond, Some, None, IfOk, OnOk, OnErr};
 ghost use Rattle.std.specs.List.{AllByRecursion};
 ghost use Rattle.indexmap.specs.IndexMap.{spare};
 ghost use Rattle.switch_engine.specs.Actions.{drop_at, frame_to, copies_for, patched_regs};
@@ -295,30 +295,29 @@ fn act(
 }
 
 // Does the actions at the time with the copy and the zones, up to one after which it goes on at a table or ends. Adds their effects and
-// the copies that are made, and gives the copy itself back where it goes on.
+// the copies that are made, and tells whether the copy itself goes on.
 pub(crate) fn run_ops(
     entry: &Entry,
     now: u64,
     ops: &[FlowOp],
-    copy: Carried,
+    copy: &mut Carried,
     zones: &mut ZoneMap,
     effects: &mut List<Effect>,
     made: &mut List<Carried>,
-) -> Result<Option<Carried>, NoMemory>
+) -> Result<bool, NoMemory>
     requires entry { IsEntry entry.now }
     requires sets { AllByRecursion Sets ops.now }
-    requires in_range { AllByRecursion IsCarriedInRange (copy ∷ made.old) }
-    ensures brings { IfOk result (λ itself. Brings entry.now now ops.now copy itself zones.old.entries zones.new.entries effects.old effects.new made.old made.new) }
+    requires in_range { AllByRecursion IsCarriedInRange (copy.old ∷ made.old) }
+    ensures brings { IfOk result (λ goes_on. Brings entry.now now ops.now copy.old (cond goes_on (Some copy.new) None) zones.old.entries zones.new.entries effects.old effects.new made.old made.new) }
     ensures room { spare zones.new ≡ spare zones.old }
     ensures err { OnErr result (Extends effects.old effects.new) }
 {
-    let mut copy = copy;
     'ops: for op in ops {
-        match act(entry, now, op, &mut copy, zones, effects, made)? {
+        match act(entry, now, op, copy, zones, effects, made)? {
             Turn::Next => {}
-            Turn::Leaves => return Ok(Some(copy)),
-            Turn::Ends => return Ok(None),
+            Turn::Leaves => return Ok(true),
+            Turn::Ends => return Ok(false),
         }
     }
-    Ok(None)
+    Ok(false)
 }

@@ -1,5 +1,5 @@
 //! Takes packets through tables.
-ghost use Rattle.std.specs.Prelude.{◌≡◌, ◌++◌, [], ◌∷◌, OnOk, OnErr, reverse};
+ghost use Rattle.std.specs.Prelude.{◌≡◌, ◌++◌, [], ◌∷◌, cond, IfOk, OnOk, OnErr, reverse};
 ghost use Rattle.std.specs.List.{AllByRecursion};
 ghost use Rattle.indexmap.specs.IndexMap.{spare};
 ghost use Rattle.inet_packet.specs.Whole.{IsWhole};
@@ -15,7 +15,7 @@ use crate::actions::{dropped, run_ops};
 use crate::carried::Carried;
 use crate::effect::{Effect, Entry};
 use crate::registers::cleared;
-use crate::walk::{RunOut, Step};
+use crate::walk::{RunOut, add_step};
 use crate::zones::{ZoneMap, Zones};
 use flow_table::flow::Cause;
 use flow_table::lookup::Lookup;
@@ -71,33 +71,34 @@ fn put_all(copies: List<Carried>, pending: &mut List<Carried>) -> Result<(), NoM
     Ok(())
 }
 
-// Takes a copy through the table to which it comes: adds the flow that it matches and the effects, and puts what goes on
-// onto the pending copies, of which the last is the next to be carried.
+// Takes a copy through the table to which it comes: adds the flow that it matches and the effects, and puts the copies that
+// are made onto the pending ones, of which the last is the next to be carried. Tells whether the copy itself goes on before them.
 fn advance<T: Lookup>(
     alloc: Global,
     tables: &T,
     zones: &mut ZoneMap,
     entry: &Entry,
     now: u64,
-    copy: Carried,
+    copy: &mut Carried,
     pending: &mut List<Carried>,
     out: &mut RunOut,
-) -> Result<(), NoMemory>
+) -> Result<bool, NoMemory>
     requires proper { IsProper (T.flows tables.now) }
     requires entry { IsEntry entry.now }
-    requires in_range { IsCarriedInRange copy }
+    requires in_range { IsCarriedInRange copy.old }
     requires all_in_range { AllByRecursion IsCarriedInRange (reverse pending.old) }
-    ensures ok { OnOk result (Advances (T.flows tables.now) entry.now now copy zones.old.entries zones.new.entries (reverse pending.old) (reverse pending.new) out.old out.new) }
-    ensures all_in_range { OnOk result (AllByRecursion IsCarriedInRange (reverse pending.new)) }
+    ensures ok { IfOk result (λ goes_on. Advances (T.flows tables.now) entry.now now copy.old zones.old.entries zones.new.entries (reverse pending.old) (cond goes_on (copy.new ∷ []) [] ++ reverse pending.new) out.old out.new) }
+    ensures all_in_range { IfOk result (λ goes_on. AllByRecursion IsCarriedInRange (cond goes_on (copy.new ∷ []) [] ++ reverse pending.new)) }
     ensures room { spare zones.new ≡ spare zones.old }
     ensures err { OnErr result (KeepsRun out.old out.new) }
 {
     let Some(flow) = tables.lookup(copy.table, &copy.regs, &copy.packet) else {
-        return end_unmatched(entry, &copy, &mut out.effects);
+        end_unmatched(entry, copy, &mut out.effects)?;
+        return Ok(false);
     };
-    out.walk.push(Step::of(copy.table, flow)?)?;
+    add_step(copy.table, flow, &mut out.walk)?;
     let mut made = List::new(alloc);
-    let itself = run_ops(
+    let goes_on = run_ops(
         entry,
         now,
         flow.ops.as_slice(),
@@ -107,10 +108,7 @@ fn advance<T: Lookup>(
         &mut made,
     )?;
     put_all(made, pending)?;
-    if let Some(copy) = itself {
-        pending.push(copy)?;
-    }
-    Ok(())
+    Ok(goes_on)
 }
 
 // Takes the packet from table 0 on through the tables, until no copy of it is left.
@@ -132,11 +130,25 @@ fn walk<T: Lookup>(
     ensures err { OnErr result (KeepsRun out.old out.new) }
 {
     let mut pending = List::new(alloc);
-    pending.push(at_start(entry, packet))?;
-    'copies: while let Some(copy) = pending.pop() {
-        advance(alloc, tables, zones, entry, now, copy, &mut pending, out)?;
+    let mut copy = at_start(entry, packet);
+    'copies: loop {
+        if advance(
+            alloc,
+            tables,
+            zones,
+            entry,
+            now,
+            &mut copy,
+            &mut pending,
+            out,
+        )? {
+            continue;
+        }
+        let Some(next) = pending.pop() else {
+            return Ok(());
+        };
+        copy = next;
     }
-    Ok(())
 }
 
 /// Takes the packet at the time from table 0 on through the tables until no copy of it is left, and adds its effects and the flows that

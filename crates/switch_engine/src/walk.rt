@@ -1,8 +1,8 @@
 //! The flows that a packet matches on its way.
-ghost use Rattle.std.specs.Prelude.{◌≡◌, [], IfOk};
-ghost use Rattle.switch_engine.specs.Steps.{IsStep};
+ghost use Rattle.std.specs.Prelude.{◌≡◌, ◌++◌, ◌∷◌, [], IfOk, OnOk, OnErr};
 
 use crate::effect::Effect;
+use flow_table::exact::exact_op_clone;
 use flow_table::flow::Flow;
 use ovn_base::list::List;
 use ovn_base::memory::NoMemory;
@@ -17,16 +17,6 @@ pub struct Step {
 }
 
 impl Step {
-    // The step that matched the flow in the table, with a copy of the flow.
-    pub(crate) fn of(table: u8, flow: &Flow) -> Result<Self, NoMemory>
-        ensures { IfOk result (IsStep table flow.now) }
-    {
-        Ok(Step {
-            table,
-            flow: flow.copy()?,
-        })
-    }
-
     /// An equal step in memory of its own.
     pub fn copy(&self) -> Result<Self, NoMemory>
         ensures { IfOk result (λ s. s ≡ self.now) }
@@ -36,6 +26,26 @@ impl Step {
             flow: self.flow.copy()?,
         })
     }
+}
+
+// Adds the step that matched the flow in the table. The flow's parts are copied right into the step, which is large.
+pub(crate) fn add_step(table: u8, flow: &Flow, steps: &mut List<Step>) -> Result<(), NoMemory>
+    ensures ok { OnOk result (steps.new ≡ steps.old ++ record { table = table; flow = flow.now } ∷ []) }
+    ensures err { OnErr result (steps.new ≡ steps.old) }
+{
+    exact_op_clone();
+    let ops = flow.ops.copy()?;
+    steps.push(Step {
+        table,
+        flow: Flow {
+            table: flow.table,
+            priority: flow.priority,
+            rank: flow.rank,
+            cube: flow.cube,
+            ops,
+            cookie: flow.cookie,
+        },
+    })
 }
 
 // Equal steps in memory of their own.
