@@ -1,4 +1,7 @@
 -- What lowering asks of rows.
+pub mod EachRow
 pub mod SuitedTerms
 pub mod SuitedRows
 pub mod LiveDatapaths
+pub mod NarrowTerms
+pub mod NarrowRows

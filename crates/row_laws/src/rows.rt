@@ -1,6 +1,6 @@
 //! The law of a row, on functions that do nothing: call one, and its clauses are facts of the call.
 ghost use Rattle.row_laws.specs.BestRow as spec;
-ghost use Rattle.row_laws.specs.CanLower.{CanLowerLaw};
+ghost use Rattle.row_laws.specs.CanLower.{CanLowerLaw, NarrowLaw, NamedPortsLaw};
 ghost use Rattle.row_laws.specs.Numbers.{PortStandsLaw, NoneStandsLaw};
 
 /// Of a table that holds the rows of a network, the flow that a packet takes comes from a row of its datapath that holds and that no row
@@ -15,6 +15,16 @@ pub fn best_row()
 /// their fields.
 pub fn rows_can_be_lowered()
     ensures { CanLowerLaw }
+{}
+
+/// No match of a row of valid records has more cubes than a match may have.
+pub fn rows_are_narrow()
+    ensures { NarrowLaw }
+{}
+
+/// Each port to which a row of valid records sends has a live key, where each datapath and port of the records has one.
+pub fn named_ports_are_live()
+    ensures { NamedPortsLaw }
 {}
 
 /// In a register, the live key of a switch's port stands for that port, and what is no key of a port for none.

@@ -1,0 +1,4 @@
+use Rattle.row_laws.proofs.rows.named_ports_are_live.Goals as goal
+
+pub returns : goal.returns
+returns c = ?
