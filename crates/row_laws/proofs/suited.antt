@@ -5,3 +5,4 @@ pub mod SuitedRows
 pub mod LiveDatapaths
 pub mod NarrowTerms
 pub mod NarrowRows
+pub mod NamedPorts

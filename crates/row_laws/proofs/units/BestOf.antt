@@ -3,7 +3,7 @@ use Rattle.std.specs.Prelude.{◌≡◌, Bool, true, false, List, [], ◌∷◌,
 use Rattle.std.proofs.Common.{refl, sym, ap, ◌∙◌, subst, inl, inr}
 use Rattle.std.proofs.lemmas.Bool.{cases_Bool, cond-true, cond-false}
 use Rattle.std.proofs.lemmas.Option.{none-some, same_Some}
-use Rattle.ovn_base.proofs.AmongLaws.{among_cases, among_none}
+use Rattle.ovn_base.proofs.AmongLaws.{among_cases, among_none, among_same}
 use Rattle.ovn_base.specs.lists.Among.{Among, here, there}
 use Rattle.nb_records.specs.Ways.{best_of, best_by}
 
@@ -22,6 +22,18 @@ module _ {X : Type 0} (beats : X → X → Bool) where
   pub best_none : (xs : List X) → best_by beats xs ≡ None → (x : X) → Among x xs → ⊥
   best_none [] h x m = among_none x m
   best_none (y ∷ ys) h x m = none-some (best_of beats y (best_by beats ys)) (sym h)
+
+  -- what is found is one of the list
+  pub best_among : (xs : List X) (m : X) → best_by beats xs ≡ Some m → Among m xs
+  best_among [] m e = absurd (none-some m e)
+  best_among (x ∷ xs) m e = by (best_by beats xs) (best_among xs) (same_Some (best_of beats x (best_by beats xs)) m e)
+    where
+      by : (o : Option X) → ((y : X) → o ≡ Some y → Among y xs) → best_of beats x o ≡ m → Among m (x ∷ xs)
+      by None each k = among_same m x xs (sym k)
+      by (Some y) each k = elim (cases_Bool (beats y x)) [
+        | inl up ↦ there (subst (λ z. Among z xs) (sym (cond-true (beats y x) y x up) ∙ k) (each y refl))
+        | inr low ↦ among_same m x xs (sym k ∙ cond-false (beats y x) y x low)
+      ]
 
   module _ (order : IsOrder beats) where
     -- the first of a list, before what is best of the others
