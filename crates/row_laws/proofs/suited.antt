@@ -4,5 +4,6 @@ pub mod SuitedTerms
 pub mod SuitedRows
 pub mod LiveDatapaths
 pub mod NarrowTerms
+pub mod NarrowPorts
 pub mod NarrowRows
 pub mod NamedPorts

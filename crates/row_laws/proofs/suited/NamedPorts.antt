@@ -1,5 +1,5 @@
 -- Each port that an action of a row names is a port of the records, and so has a live key.
-use Rattle.std.specs.Prelude.{◌≡◌, ◌&&◌, ◌++◌, Bool, true, false, not, List, [], ◌∷◌, map, flat_map, Option, Some, None, IsSome}
+use Rattle.std.specs.Prelude.{◌≡◌, ◌&&◌, ◌++◌, Bool, true, false, not, List, [], ◌∷◌, map, flat_map, Some, IsSome}
 use Rattle.std.specs.List.{AllByRecursion, list_all}
 use Rattle.std.specs.Map.{values_of}
 use Rattle.std.proofs.Common.{refl, sym, subst}
@@ -7,7 +7,6 @@ use Rattle.std.proofs.lemmas.Bool.{false≢true, and_parts}
 use Rattle.ovn_base.proofs.AmongLaws.{among_all, among_left, among_right, among_map, map_among, filter_among, flat_map_among}
 use Rattle.ovn_base.proofs.ByNameLaws.{at_among}
 use Rattle.ovn_base.specs.declared.address.Backend.{Backend}
-use Rattle.ovn_base.specs.declared.address.Cidr.{Cidr}
 use Rattle.ovn_base.specs.declared.address.Ip4.{Ip4}
 use Rattle.ovn_base.specs.declared.address.Mac.{Mac}
 use Rattle.ovn_base.specs.declared.name.Name.{Name}
@@ -20,7 +19,7 @@ use Rattle.flow_table.specs.declared.flow.ZoneOf.TheVariants as zone
 use Rattle.inet_packet.specs.declared.regs.Reg.TheVariants as reg
 use Rattle.match_language.specs.declared.expr.Expr.{Expr}
 use Rattle.nb_records.specs.Network.{Network}
-use Rattle.nb_records.specs.Routers.{contains, router_ports_of, translates_sources, translates_destinations}
+use Rattle.nb_records.specs.Routers.{router_ports_of, translates_sources, translates_destinations}
 use Rattle.nb_records.specs.Switches.{is_virtual, is_named, has_some, router_port_behind, macs_of, mac_of_ip}
 use Rattle.nb_records.specs.Ways.{Way, best_by, is_better_way, ways_of_port, network_ways}
 use Rattle.nb_records.specs.declared.balancer.LoadBalancer.{LoadBalancer}

@@ -1,7 +1,7 @@
 -- The widths of the terms of which rows are made, where names of sets and groups stand for these members.
 use Rattle.std.specs.Prelude.{◌≡◌, ◌≤◌, ◌+◌, ◌*◌, ◌++◌, ℕ, suc, true, false, List, [], ◌∷◌, map, length, bit_and, count_ones}
 use Rattle.std.specs.List.{AllByRecursion}
-use Rattle.std.proofs.Common.{refl, sym, ap, ◌∙◌, arith}
+use Rattle.std.proofs.Common.{refl, ap, ◌∙◌, arith}
 use Rattle.std.proofs.lemmas.Bool.{false≢true}
 use Rattle.std.proofs.lemmas.Nat.{ones_cat}
 use Rattle.ovn_base.specs.declared.address.Cidr.{Cidr}

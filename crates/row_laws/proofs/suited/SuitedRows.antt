@@ -3,14 +3,14 @@ use Rattle.std.specs.Prelude.{◌≡◌, ◌++◌, ◌&&◌, Bool, true, false, 
 use Rattle.std.specs.List.{AllByRecursion}
 use Rattle.std.specs.Option.{option_and_then}
 use Rattle.std.proofs.Common.{refl, sym, subst}
-use Rattle.ovn_base.proofs.AmongLaws.{among_all, among_left, among_right, among_map, map_among, flat_map_among}
+use Rattle.ovn_base.proofs.AmongLaws.{among_all, among_left, among_right, among_map, map_among}
 use Rattle.ovn_base.proofs.ByNameLaws.{at_among}
 use Rattle.ovn_base.specs.declared.address.Backend.{Backend}
 use Rattle.ovn_base.specs.declared.address.Cidr.{Cidr}
 use Rattle.ovn_base.specs.declared.address.Ip4.{Ip4}
 use Rattle.ovn_base.specs.declared.address.Mac.{Mac}
 use Rattle.ovn_base.specs.declared.name.Name.{Name}
-use Rattle.ovn_base.specs.lists.Among.{Among, here, there}
+use Rattle.ovn_base.specs.lists.Among.{Among}
 use Rattle.ovn_base.specs.names.ByName.{at}
 use Rattle.flow_table.specs.declared.flow.Cause.TheVariants as cause
 use Rattle.flow_table.specs.declared.flow.ZoneOf.{ZoneOf}
@@ -22,10 +22,10 @@ use Rattle.match_language.specs.declared.field.Field.TheVariants as f
 use Rattle.match_language.specs.declared.field.Predicate.TheVariants as p
 use Rattle.match_cubes.proofs.SuitedLaws.{fits_suited}
 use Rattle.nb_records.specs.Grammar.{IsIp4, IsCidr, IsVip, IsSecurityEntry, IsInGrammar, IsAcl, IsRoute, IsNat, IsRouterPort, IsLoadBalancer}
-use Rattle.nb_records.specs.Network.{Network, records_of, is_online}
+use Rattle.nb_records.specs.Network.{Network, records_of}
 use Rattle.nb_records.specs.Routers.{translates_sources, translates_destinations}
 use Rattle.nb_records.specs.Ways.{best_by, is_better_way, network_ways}
-use Rattle.nb_records.specs.Switches.{is_virtual, is_named, is_stateful, has_some, router_port_behind, macs_of, mac_of_ip, applies}
+use Rattle.nb_records.specs.Switches.{is_virtual, is_named, has_some, router_port_behind, macs_of, mac_of_ip}
 use Rattle.nb_records.specs.declared.balancer.LoadBalancer.{LoadBalancer}
 use Rattle.nb_records.specs.declared.balancer.Vip.{Vip}
 use Rattle.nb_records.specs.declared.record.Record.{Record}
@@ -35,7 +35,6 @@ use Rattle.nb_records.specs.declared.router.Route.{Route}
 use Rattle.nb_records.specs.declared.router.RouterPort.{RouterPort}
 use Rattle.nb_records.specs.declared.rule.Acl.{Acl}
 use Rattle.nb_records.specs.declared.switch.SecurityEntry.{SecurityEntry}
-use Rattle.nb_records.specs.declared.switch.Switch.{Switch}
 use Rattle.nb_records.specs.declared.switch.SwitchPort.{SwitchPort}
 use Rattle.nb_rules.specs.Valid.{IsValid}
 use Rattle.inet_packet.specs.declared.regs.Reg.TheVariants as reg
@@ -43,8 +42,6 @@ use Rattle.logical_flows.specs.declared.action.Action.TheVariants as a
 use Rattle.logical_flows.specs.declared.flow.LFlow.{LFlow}
 use Rattle.logical_flows.specs.declared.stage.Stage.{Stage}
 use Rattle.logical_flows.specs.declared.stage.Stage.TheVariants as stage
-use Rattle.logical_flows.specs.declared.unit.UnitId.{UnitId}
-use Rattle.logical_flows.specs.declared.unit.UnitId.TheVariants as unit
 use Rattle.stage_rows.specs.BalancerRows as balancing
 use Rattle.stage_rows.specs.Facts.{own_ips, answered_ips, answered_if, port_ips}
 use Rattle.stage_rows.specs.NatRows.{nat_dnat, nat_snat}
@@ -53,41 +50,21 @@ use Rattle.stage_rows.specs.RuleRows.{rule_row}
 use Rattle.stage_rows.specs.Rows.{on_some, when, field_is, mac_is, ip_is, ip_in, ip_in_some, in_is, out_is, asks_for, all_of, whole_number, prefix_value, reg_is, match_row, tracked_row, drop_row, pass_row, base_row, go_on}
 use Rattle.stage_rows.specs.StateRows.{state_rows}
 use Rattle.stage_rows.specs.SwitchRows as switch
-use Rattle.stage_rows.specs.Units.{switch_port_rows, router_port_rows, rule_rows, route_rows, neighbour_rows, nat_rows, balancer_rows, switch_rows, router_rows, port_rows, rows_in, all_stages, is_from_lport, is_to_lport, neighbour_named, translates_named}
+use Rattle.stage_rows.specs.Units.{switch_port_rows, router_port_rows, rule_rows, route_rows, neighbour_rows, nat_rows, balancer_rows, switch_rows, router_rows, is_from_lport, is_to_lport}
 use Rattle.row_laws.proofs.records.AnsweredIps.{answered_ok, network_ok}
 use Rattle.row_laws.proofs.records.SwitchPorts.{ip_ok}
 use Rattle.row_laws.proofs.records.ValidPorts.{in_grammar}
+use Rattle.row_laws.proofs.suited.EachRow as rows
+use Rattle.row_laws.proofs.suited.EachRow.{each_row}
 use Rattle.row_laws.proofs.suited.SuitedTerms as terms
 use Rattle.row_laws.proofs.suited.SuitedTerms.{suited, AreSuited, suited_all, suited_more, suited_either, suited_is, suited_with, suited_number}
 use Rattle.row_laws.specs.CanLower.{SuitedLaw}
-
--- ---- lists of rows
 
 abbrev IsSuited : LFlow → Type 0
 IsSuited r = suited r.matching ≡ true
 
 abbrev Are : List LFlow → Type 0
-Are rows = AllByRecursion IsSuited rows
-
-both : (xs ys : List LFlow) → Are xs → Are ys → Are (xs ++ ys)
-both [] ys h k = k
-both (x ∷ xs) ys h k = (h.0, both xs ys h.1 k)
-
-each : {X : Type 0} (g : X → LFlow) (xs : List X) → ((x : X) → Among x xs → IsSuited (g x)) → Are (map g xs)
-each g [] h = tt
-each g (x ∷ xs) h = (h x here, each g xs (λ y m. h y (there m)))
-
-each_list : {X : Type 0} (g : X → List LFlow) (xs : List X) → ((x : X) → Among x xs → Are (g x)) → Are (flat_map g xs)
-each_list g [] h = tt
-each_list g (x ∷ xs) h = both (g x) (flat_map g xs) (h x here) (each_list g xs (λ y m. h y (there m)))
-
-if_so : (b : Bool) (xs : List LFlow) → Are xs → Are (when b xs)
-if_so true xs h = h
-if_so false xs h = tt
-
-if_some : {X : Type 0} (o : Option X) (g : X → List LFlow) → ((x : X) → Are (g x)) → Are (on_some o g)
-if_some None g h = tt
-if_some (Some x) g h = h x
+Are rs = AllByRecursion IsSuited rs
 
 -- ---- rows of no term
 
@@ -135,16 +112,16 @@ module _ (net : Network) (valid : IsValid net) (name : Name) (q : SwitchPort) (f
   security_in x m =
       let sends : List Expr → LFlow = λ ts. pass_row stage.SwitchPortSecurity 90 (switch.sent_by q x ++ ts) in
       let drops : List Expr = switch.sent_by q x ++ e.Any (e.Is p.Ip4 ∷ e.Is p.Arp ∷ []) ∷ [] in
-      both (map sends (switch.may_send x)) (drop_row stage.SwitchPortSecurity 85 drops cause.PortSecurity ∷ pass_row stage.SwitchPortSecurity 80 (switch.sent_by q x) ∷ [])
-      (each sends (switch.may_send x) (λ ts n. suited_all (switch.sent_by q x ++ ts) (suited_more (switch.sent_by q x) ts (sender x) (among_all AreSuited ts (switch.may_send x) (may_send_by x (entry_ok x m) (has_some x.ips)) n))))
+      rows.both IsSuited (map sends (switch.may_send x)) (drop_row stage.SwitchPortSecurity 85 drops cause.PortSecurity ∷ pass_row stage.SwitchPortSecurity 80 (switch.sent_by q x) ∷ [])
+      (rows.each IsSuited sends (switch.may_send x) (λ ts n. suited_all (switch.sent_by q x ++ ts) (suited_more (switch.sent_by q x) ts (sender x) (among_all AreSuited ts (switch.may_send x) (may_send_by x (entry_ok x m) (has_some x.ips)) n))))
       (suited_all drops (suited_more (switch.sent_by q x) (e.Any (e.Is p.Ip4 ∷ e.Is p.Arp ∷ []) ∷ []) (sender x) (suited_either (e.Is p.Ip4) (e.Is p.Arp) (suited_is p.Ip4) (suited_is p.Arp), tt)), (suited_all (switch.sent_by q x) (sender x), tt))
 
   security_out : (x : SecurityEntry) → Among x q.port_security → Are (switch.entry_security_out q x)
   security_out x m =
       let gets : List Expr → LFlow = λ ts. pass_row stage.SwitchSecurityOut 80 (switch.got_by q x ++ ts) in
       let drops : List Expr = switch.got_by q x ++ e.Is p.Ip4 ∷ [] in
-      both (map gets (switch.may_get x)) (drop_row stage.SwitchSecurityOut 75 drops cause.PortSecurity ∷ pass_row stage.SwitchSecurityOut 70 (switch.got_by q x) ∷ [])
-      (each gets (switch.may_get x) (λ ts n. suited_all (switch.got_by q x ++ ts) (suited_more (switch.got_by q x) ts (receiver x) (among_all AreSuited ts (switch.may_get x) (may_get_by x (entry_ok x m) (has_some x.ips)) n))))
+      rows.both IsSuited (map gets (switch.may_get x)) (drop_row stage.SwitchSecurityOut 75 drops cause.PortSecurity ∷ pass_row stage.SwitchSecurityOut 70 (switch.got_by q x) ∷ [])
+      (rows.each IsSuited gets (switch.may_get x) (λ ts n. suited_all (switch.got_by q x ++ ts) (suited_more (switch.got_by q x) ts (receiver x) (among_all AreSuited ts (switch.may_get x) (may_get_by x (entry_ok x m) (has_some x.ips)) n))))
       (suited_all drops (suited_more (switch.got_by q x) (e.Is p.Ip4 ∷ []) (receiver x) (suited_is p.Ip4, tt)), (suited_all (switch.got_by q x) (receiver x), tt))
 
   answered_small : (o : Option RouterPort) (n : Option Name) → o ≡ option_and_then (at net.router_ports) n → (ip : Ip4) → Among ip (answered_if net o) → IsIp4 ip
@@ -158,28 +135,28 @@ module _ (net : Network) (valid : IsValid net) (name : Name) (q : SwitchPort) (f
       (suited_all (in_is q.name ∷ asks_for ip) (terms.suited_in q.name, asks), (suited_all (asks_for ip) asks, tt))
 
   port_suited : (s : Stage) → Are (switch_port_rows s net q)
-  port_suited stage.SwitchAdmit = if_so (not q.enabled) (drop_row stage.SwitchAdmit 120 (in_is q.name ∷ []) cause.Disabled ∷ []) (terms.suited_in q.name, tt)
+  port_suited stage.SwitchAdmit = rows.if_so IsSuited (not q.enabled) (drop_row stage.SwitchAdmit 120 (in_is q.name ∷ []) cause.Disabled ∷ []) (terms.suited_in q.name, tt)
   port_suited stage.SwitchPortSecurity =
       let last : List LFlow = drop_row stage.SwitchPortSecurity 70 (in_is q.name ∷ []) cause.PortSecurity ∷ [] in
-      both (flat_map (switch.entry_port_security q) q.port_security) (when (has_some q.port_security) last) (each_list (switch.entry_port_security q) q.port_security security_in) (if_so (has_some q.port_security) last (terms.suited_in q.name, tt))
+      rows.both IsSuited (flat_map (switch.entry_port_security q) q.port_security) (when (has_some q.port_security) last) (rows.each_list IsSuited (switch.entry_port_security q) q.port_security security_in) (rows.if_so IsSuited (has_some q.port_security) last (terms.suited_in q.name, tt))
   port_suited stage.SwitchTrack =
-      if_so (switch.tracks_port net q) (switch.port_track_row q ∷ []) (suited_all (switch.tracks (in_is q.name)) (terms.suited_in q.name, (suited_is p.Ip4, (terms.suited_unicast, tt))), tt)
+      rows.if_so IsSuited (switch.tracks_port net q) (switch.port_track_row q ∷ []) (suited_all (switch.tracks (in_is q.name)) (terms.suited_in q.name, (suited_is p.Ip4, (terms.suited_unicast, tt))), tt)
   port_suited stage.SwitchArp =
-      if_so (is_virtual q && q.enabled) (flat_map (λ ip. on_some (mac_of_ip ip q) (switch.address_arp q ip)) (port_ips q))
-      (each_list (λ ip. on_some (mac_of_ip ip q) (switch.address_arp q ip)) (port_ips q) (λ ip m. if_some (mac_of_ip ip q) (switch.address_arp q ip) (arp_ok ip m)))
+      rows.if_so IsSuited (is_virtual q && q.enabled) (flat_map (λ ip. on_some (mac_of_ip ip q) (switch.address_arp q ip)) (port_ips q))
+      (rows.each_list IsSuited (λ ip. on_some (mac_of_ip ip q) (switch.address_arp q ip)) (port_ips q) (λ ip m. rows.if_some IsSuited (mac_of_ip ip q) (switch.address_arp q ip) (λ mac is. arp_ok ip m mac)))
   port_suited stage.SwitchLookup =
       let answered : List LFlow = map (switch.answered_lookup q) (answered_if net (router_port_behind net q)) in
       let known : List LFlow = map (switch.address_lookup q) (macs_of net q) in
-      if_so q.enabled (when (not (is_virtual q)) answered ++ known) (both (when (not (is_virtual q)) answered) known
-      (if_so (not (is_virtual q)) answered (each (switch.answered_lookup q) (answered_if net (router_port_behind net q)) (λ ip m.
+      rows.if_so IsSuited q.enabled (when (not (is_virtual q)) answered ++ known) (rows.both IsSuited (when (not (is_virtual q)) answered) known
+      (rows.if_so IsSuited (not (is_virtual q)) answered (rows.each IsSuited (switch.answered_lookup q) (answered_if net (router_port_behind net q)) (λ ip m.
       suited_all (e.Is p.EthMcast ∷ asks_for ip) (suited_is p.EthMcast, terms.suited_asks ip (answered_small (router_port_behind net q) q.router_port refl ip m)))))
-      (each (switch.address_lookup q) (macs_of net q) (λ mac m. terms.suited_dst mac)))
+      (rows.each IsSuited (switch.address_lookup q) (macs_of net q) (λ mac m. terms.suited_dst mac)))
   port_suited stage.SwitchTrackOut =
-      both (switch.port_disabled_out q) (when (switch.tracks_port net q) (switch.port_track_out_row q ∷ [])) (if_so (not q.enabled) (drop_row stage.SwitchTrackOut 120 (out_is q.name ∷ []) cause.Disabled ∷ []) (terms.suited_out q.name, tt))
-      (if_so (switch.tracks_port net q) (switch.port_track_out_row q ∷ []) (suited_all (switch.tracks (out_is q.name)) (terms.suited_out q.name, (suited_is p.Ip4, (terms.suited_unicast, tt))), tt))
+      rows.both IsSuited (switch.port_disabled_out q) (when (switch.tracks_port net q) (switch.port_track_out_row q ∷ [])) (rows.if_so IsSuited (not q.enabled) (drop_row stage.SwitchTrackOut 120 (out_is q.name ∷ []) cause.Disabled ∷ []) (terms.suited_out q.name, tt))
+      (rows.if_so IsSuited (switch.tracks_port net q) (switch.port_track_out_row q ∷ []) (suited_all (switch.tracks (out_is q.name)) (terms.suited_out q.name, (suited_is p.Ip4, (terms.suited_unicast, tt))), tt))
   port_suited stage.SwitchSecurityOut =
-      both (flat_map (switch.entry_security_out q) q.port_security) (when (has_some q.port_security) (switch.around_security_out q)) (each_list (switch.entry_security_out q) q.port_security security_out)
-      (if_so (has_some q.port_security) (switch.around_security_out q) (suited_all (out_is q.name ∷ e.Is p.EthMcast ∷ []) (terms.suited_out q.name, (suited_is p.EthMcast, tt)), (terms.suited_out q.name, tt)))
+      rows.both IsSuited (flat_map (switch.entry_security_out q) q.port_security) (when (has_some q.port_security) (switch.around_security_out q)) (rows.each_list IsSuited (switch.entry_security_out q) q.port_security security_out)
+      (rows.if_so IsSuited (has_some q.port_security) (switch.around_security_out q) (suited_all (out_is q.name ∷ e.Is p.EthMcast ∷ []) (terms.suited_out q.name, (suited_is p.EthMcast, tt)), (terms.suited_out q.name, tt)))
   port_suited _ = tt
 
 -- ---- a router's port
@@ -200,11 +177,11 @@ module _ (net : Network) (valid : IsValid net) (name : Name) (q : RouterPort) (f
     (suited_all (in_is q.name ∷ e.Is p.EthMcast ∷ e.Is p.Arp ∷ []) (terms.suited_in q.name, (suited_is p.EthMcast, (suited_is p.Arp, tt))), tt),
   )
   router_port_suited stage.RouterInput =
-      both (map (router.answered_input q) (answered_ips net q)) (map router.echo_input (own_ips q))
-      (each (router.answered_input q) (answered_ips net q) (λ ip m. suited_all (in_is q.name ∷ asks_for ip) (terms.suited_in q.name, terms.suited_asks ip (answered_ok net valid name q found ip m))))
-      (each router.echo_input (own_ips q) (λ ip m. suited_all (ip_is f.Ip4Dst ip ∷ field_is f.Icmp4Type 8 ∷ field_is f.Icmp4Code 0 ∷ []) (terms.suited_ip_dst ip (own_small ip m), (suited_number f.Icmp4Type 8 refl, (suited_number f.Icmp4Code 0 refl, tt)))))
-  router_port_suited stage.RouterOwn = each router.own_row (own_ips q) (λ ip m. terms.suited_ip_dst ip (own_small ip m))
-  router_port_suited stage.RouterRoute = each (router.network_row q) q.networks (λ n m. terms.suited_dst_in n (among_all IsCidr n q.networks router_port_ok.networks.each m))
+      rows.both IsSuited (map (router.answered_input q) (answered_ips net q)) (map router.echo_input (own_ips q))
+      (rows.each IsSuited (router.answered_input q) (answered_ips net q) (λ ip m. suited_all (in_is q.name ∷ asks_for ip) (terms.suited_in q.name, terms.suited_asks ip (answered_ok net valid name q found ip m))))
+      (rows.each IsSuited router.echo_input (own_ips q) (λ ip m. suited_all (ip_is f.Ip4Dst ip ∷ field_is f.Icmp4Type 8 ∷ field_is f.Icmp4Code 0 ∷ []) (terms.suited_ip_dst ip (own_small ip m), (suited_number f.Icmp4Type 8 refl, (suited_number f.Icmp4Code 0 refl, tt)))))
+  router_port_suited stage.RouterOwn = rows.each IsSuited router.own_row (own_ips q) (λ ip m. terms.suited_ip_dst ip (own_small ip m))
+  router_port_suited stage.RouterRoute = rows.each IsSuited (router.network_row q) q.networks (λ n m. terms.suited_dst_in n (among_all IsCidr n q.networks router_port_ok.networks.each m))
   router_port_suited _ = tt
 
 -- ---- rules, routes, NAT, balancers
@@ -234,25 +211,25 @@ module _ (net : Network) (valid : IsValid net) where
       grammar r (among_left r _ _ (among_right r _ _ (among_map (λ (e : Name × LoadBalancer). row.LoadBalancer e.1) (name, x) net.load_balancers (at_among net.load_balancers name x is))))
 
   rule_suited : (s : Stage) (x : Acl) → IsAcl x → Are (rule_rows s x)
-  rule_suited stage.SwitchAclIn x h = if_so (is_from_lport x.direction) (rule_row x ∷ []) (fits_suited _ _ x.matching h.matching, tt)
-  rule_suited stage.SwitchAclOut x h = if_so (is_to_lport x.direction) (rule_row x ∷ []) (fits_suited _ _ x.matching h.matching, tt)
+  rule_suited stage.SwitchAclIn x h = rows.if_so IsSuited (is_from_lport x.direction) (rule_row x ∷ []) (fits_suited _ _ x.matching h.matching, tt)
+  rule_suited stage.SwitchAclOut x h = rows.if_so IsSuited (is_to_lport x.direction) (rule_row x ∷ []) (fits_suited _ _ x.matching h.matching, tt)
   rule_suited _ x h = tt
 
   route_suited : (s : Stage) (x : Route) → IsRoute x → Are (route_rows s net x)
-  route_suited stage.RouterRoute x h = if_some (best_by is_better_way (network_ways net x.router x.nexthop)) (λ w. router.route_row x w ∷ []) (λ w. (terms.suited_dst_in x.prefix h.prefix, tt))
+  route_suited stage.RouterRoute x h = rows.if_some IsSuited (best_by is_better_way (network_ways net x.router x.nexthop)) (λ w. router.route_row x w ∷ []) (λ w is. (terms.suited_dst_in x.prefix h.prefix, tt))
   route_suited _ x h = tt
 
   nat_suited : (s : Stage) (x : Nat) → IsNat x → Are (nat_rows s x)
-  nat_suited stage.RouterDnat x h = if_so (translates_destinations x.kind) (nat_dnat x) (terms.suited_ip_dst x.external_ip h.external_ip, tt)
-  nat_suited stage.RouterSnat x h = if_so (translates_sources x.kind) (nat_snat x) (terms.suited_src_in x.logical_ip h.logical_ip, (terms.suited_src_in x.logical_ip h.logical_ip, tt))
+  nat_suited stage.RouterDnat x h = rows.if_so IsSuited (translates_destinations x.kind) (nat_dnat x) (terms.suited_ip_dst x.external_ip h.external_ip, tt)
+  nat_suited stage.RouterSnat x h = rows.if_so IsSuited (translates_sources x.kind) (nat_snat x) (terms.suited_src_in x.logical_ip h.logical_ip, (terms.suited_src_in x.logical_ip h.logical_ip, tt))
   nat_suited _ x h = tt
 
   vip_suited : (x : LoadBalancer) → IsLoadBalancer x → (v : Vip) → Among v x.vips → suited (all_of (balancing.to_vip x.protocol v.at)) ≡ true
   vip_suited x h v m = suited_all (balancing.to_vip x.protocol v.at) (terms.suited_vip x.protocol v.at (among_all IsVip v x.vips h.vips.each m).0)
 
   balancer_suited : (s : Stage) (online : Backend → Bool) (d : Name) (x : LoadBalancer) → IsLoadBalancer x → Are (balancer_rows s online d x)
-  balancer_suited stage.SwitchStateIn online d x h = if_so (is_named d x.switches) (balancing.switch_vips online x) (each (balancing.switch_vip_row online x.protocol) x.vips (vip_suited x h))
-  balancer_suited stage.RouterDnat online d x h = if_so (is_named d x.routers) (balancing.router_vips online x) (each (balancing.router_vip_row online x.protocol) x.vips (vip_suited x h))
+  balancer_suited stage.SwitchStateIn online d x h = rows.if_so IsSuited (is_named d x.switches) (balancing.switch_vips online x) (rows.each IsSuited (balancing.switch_vip_row online x.protocol) x.vips (vip_suited x h))
+  balancer_suited stage.RouterDnat online d x h = rows.if_so IsSuited (is_named d x.routers) (balancing.router_vips online x) (rows.each IsSuited (balancing.router_vip_row online x.protocol) x.vips (vip_suited x h))
   balancer_suited _ online d x h = tt
 
 -- ---- what switches and routers have beside their ports
@@ -290,43 +267,28 @@ router_suited stage.RouterInput translating = (
 )
 router_suited stage.RouterUndo translating =
     let first : List LFlow = match_row stage.RouterUndo 100 (e.Is p.Ip4 ∷ []) (a.Undo ∷ a.Find zone.Dnat ∷ go_on stage.RouterUndo ∷ []) ∷ [] in
-    both (when translating first) (base_row stage.RouterUndo ∷ []) (if_so translating first (suited_is p.Ip4, tt)) (bare, tt)
+    rows.both IsSuited (when translating first) (base_row stage.RouterUndo ∷ []) (rows.if_so IsSuited translating first (suited_is p.Ip4, tt)) (bare, tt)
 router_suited stage.RouterDnat translating = (bare, (bare, (bare, tt)))
 router_suited stage.RouterOwn translating = (bare, tt)
 router_suited stage.RouterRoute translating = (bare, tt)
 router_suited stage.RouterNeighbour translating = (bare, tt)
 router_suited stage.RouterFind translating =
     let first : List LFlow = tracked_row stage.RouterFind 100 (reg_is reg.Own 0 ∷ []) (e.Is p.Ip4 ∷ []) (a.Find zone.Snat ∷ go_on stage.RouterFind ∷ []) ∷ [] in
-    both (when translating first) (base_row stage.RouterFind ∷ []) (if_so translating first (suited_is p.Ip4, tt)) (bare, tt)
+    rows.both IsSuited (when translating first) (base_row stage.RouterFind ∷ []) (rows.if_so IsSuited translating first (suited_is p.Ip4, tt)) (bare, tt)
 router_suited stage.RouterSnat translating = (bare, (bare, tt))
 router_suited _ translating = tt
 
 -- ---- all units
 
-module _ (net : Network) (valid : IsValid net) (s : Stage) where
-  of_port : (name : Name) (o : Option SwitchPort) → at net.switch_ports name ≡ o → (o' : Option RouterPort) → at net.router_ports name ≡ o' → Are (port_rows s net o o')
-  of_port name (Some q) is o' also = port_suited net valid name q is s
-  of_port name None is (Some q) also = router_port_suited net valid name q also s
-  of_port name None is None also = tt
-
-  of_there : {X : Type 0} (entries : List (Name × X)) (name : Name) (g : X → List LFlow) → ((x : X) → at entries name ≡ Some x → Are (g x)) → Are (on_some (at entries name) g)
-  of_there entries name g h = by (at entries name) refl
-    where
-      by : (o : Option _) → at entries name ≡ o → Are (on_some o g)
-      by None is = tt
-      by (Some x) is = h x is
-
-  unit_suited : (u : UnitId) → Are (rows_in s net u)
-  unit_suited (unit.Port q) = of_port q (at net.switch_ports q) refl (at net.router_ports q) refl
-  unit_suited (unit.Rule r d) = of_there net.acls r (λ x. when (applies net d x) (rule_rows s x)) (λ x is. if_so (applies net d x) (rule_rows s x) (rule_suited net valid s x (rule_ok net valid r x is)))
-  unit_suited (unit.Route r) = of_there net.routes r (route_rows s net) (λ x is. route_suited net valid s x (route_ok net valid r x is))
-  unit_suited (unit.Neighbour port ip) = if_some (neighbour_named net port ip) (neighbour_rows s port ip) (neighbour_suited s port ip)
-  unit_suited (unit.Nat r) = of_there net.nats r (nat_rows s) (λ x is. nat_suited net valid s x (nat_ok net valid r x is))
-  unit_suited (unit.Balancer b d) = of_there net.load_balancers b (balancer_rows s (is_online net b) d) (λ x is. balancer_suited net valid s (is_online net b) d x (balancer_ok net valid b x is))
-  unit_suited (unit.Switch d) = if_some (at net.switches d) (λ (x : Switch). switch_rows s (is_stateful net d) (switch.some_take_unknown net d)) (λ x. switch_suited s (is_stateful net d) (switch.some_take_unknown net d))
-  unit_suited (unit.Router d) = if_some (translates_named net d) (router_rows s) (router_suited s)
-
 pub rows_suited : SuitedLaw
-rows_suited net valid r d pair =
-    let m = flat_map_among (λ s. rows_in s net pair.origin) r all_stages pair.among in
-    among_all IsSuited r (rows_in m.0 net pair.origin) (unit_suited net valid m.0 pair.origin) m.2
+rows_suited net valid r d pair = each_row IsSuited net (record {
+  port = λ name q is s. port_suited net valid name q is s;
+  router_port = λ name q is s. router_port_suited net valid name q is s;
+  rule = λ name x is s. rule_suited net valid s x (rule_ok net valid name x is);
+  route = λ name x is s. route_suited net valid s x (route_ok net valid name x is);
+  neighbour = λ s port ip mac. neighbour_suited s port ip mac;
+  nat = λ name x is s. nat_suited net valid s x (nat_ok net valid name x is);
+  balancer = λ name x is s online d. balancer_suited net valid s online d x (balancer_ok net valid name x is);
+  switch = λ s stateful takes. switch_suited s stateful takes;
+  router = λ s translating. router_suited s translating;
+}) r d pair
