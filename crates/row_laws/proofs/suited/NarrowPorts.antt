@@ -1,4 +1,4 @@
--- The matches of the rows of ports have eight cubes at most, where names of sets and groups stand for these members.
+-- The matches of the rows of ports are narrow, whatever the members are for which names of sets and groups stand.
 use Rattle.std.specs.Prelude.{◌≡◌, ◌&&◌, ◌++◌, Bool, true, false, not, cond, List, [], ◌∷◌, map, flat_map}
 use Rattle.std.specs.List.{AllByRecursion}
 use Rattle.std.proofs.Common.{refl, arith}
