@@ -5,3 +5,4 @@ pub mod SwitchPorts
 pub mod AnsweredIps
 pub mod VipHolders
 pub mod StandsFor
+pub mod OnePrefix

@@ -7,6 +7,8 @@ pub mod Reached
 pub mod AdmitAtRouter
 pub mod OwnAtRouter
 pub mod InputAtRouter
+pub mod RouterWays
+pub mod RouteAtRouter
 pub mod NeighbourAtRouter
 pub mod PlainAtRouter
 pub mod EachAtRouter

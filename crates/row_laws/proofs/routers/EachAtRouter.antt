@@ -17,17 +17,19 @@ use Rattle.row_laws.proofs.routers.InputAtRouter.{input_law}
 use Rattle.row_laws.proofs.routers.NeighbourAtRouter.{neighbour_law}
 use Rattle.row_laws.proofs.routers.OwnAtRouter.{own_law}
 use Rattle.row_laws.proofs.routers.PlainAtRouter.{undo_law, dnat_law, find_law, snat_law}
+use Rattle.row_laws.proofs.routers.RouteAtRouter.{route_law}
 use Rattle.row_laws.proofs.routers.RouterUnits.{a_router_row}
 use Rattle.row_laws.proofs.routers.TakenAtRouter.{row_holds}
-use Rattle.row_laws.specs.routers.RouterLaws.{RouterStageLaw, RouterBaseLaw, OfRouterStages, OfEachRouterStage}
+use Rattle.row_laws.specs.routers.RouterLaws.{RouterStageLaw, RouterBaseLaw, OfEachRouterStage}
 
-pub each_law : OfRouterStages RouterStageLaw
+pub each_law : OfEachRouterStage RouterStageLaw
 each_law = record {
   admit = admit_law;
   input = input_law;
   undo = undo_law;
   dnat = dnat_law;
   own = own_law;
+  route = route_law;
   neighbour = neighbour_law;
   find = find_law;
   snat = snat_law;

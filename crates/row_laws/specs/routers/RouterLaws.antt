@@ -26,17 +26,6 @@ RouterBaseLaw s =
     (net : Network) (router : Name) → IsSome (at net.routers router) → (regs : Regs) (sight : Sight)
     → (row : LFlow) × IsRowIn net (stage_table s) router row × RowHolds (router_roster net) regs sight row
 
--- It is so in each stage of a router but that of routes.
-pub record OfRouterStages (Law : Stage → Type 0) : Type 0 where
-  pub admit : Law stage.RouterAdmit
-  pub input : Law stage.RouterInput
-  pub undo : Law stage.RouterUndo
-  pub dnat : Law stage.RouterDnat
-  pub own : Law stage.RouterOwn
-  pub neighbour : Law stage.RouterNeighbour
-  pub find : Law stage.RouterFind
-  pub snat : Law stage.RouterSnat
-
 -- It is so in each stage of a router.
 pub record OfEachRouterStage (Law : Stage → Type 0) : Type 0 where
   pub admit : Law stage.RouterAdmit
