@@ -1,6 +1,7 @@
 -- The stages of a router.
 pub mod RouterUnits
 pub mod TakenAtRouter
+pub mod RouterNumbers
 pub mod OwnIps
 pub mod InputTerms
 pub mod Reached

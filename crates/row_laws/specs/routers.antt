@@ -1,4 +1,5 @@
 -- The stages of a router.
 pub mod RouterCopies
+pub mod RouterNumbers
 pub mod RouterActions
 pub mod RouterLaws

@@ -1,7 +1,7 @@
 -- In valid records no two ports of a router have networks of one prefix, and no two routes of it have one prefix.
 use Rattle.std.specs.Prelude.{◌≡◌, ◌==◌, ◌&&◌, ◌-◌, ◌/◌, ◌^◌, ℕ, true, false, Some}
 use Rattle.std.specs.List.{list_any}
-use Rattle.std.proofs.Common.{refl, sym, ap, ◌∙◌}
+use Rattle.std.proofs.Common.{sym, ap, ◌∙◌}
 use Rattle.std.proofs.lemmas.Bool.{false≢true, and_from, or_right, eqb-true, eq-eqb}
 use Rattle.std.proofs.lemmas.Option.{same_Some}
 use Rattle.ovn_base.proofs.AmongLaws.{among_all, among_left, among_right, among_map, among_any}

@@ -1,10 +1,11 @@
 -- Which numbers stand for ports: the live key of a port for that port, and what is no port's key for none.
-use Rattle.std.specs.Prelude.{◌≡◌, ◌≤◌, ℕ, true, Option, Some, None, option_map, filter_map}
+use Rattle.std.specs.Prelude.{◌≡◌, ◌≤◌, ◌<◌, ◌⊎◌, ℕ, true, Option, Some, None, option_map, filter_map}
 use Rattle.std.proofs.Common.{refl, sym, ap, ◌∙◌, subst, arith, inl, inr}
 use Rattle.std.proofs.lemmas.Bool.{false≢true}
-use Rattle.std.proofs.lemmas.Option.{same_Some}
+use Rattle.std.proofs.lemmas.Option.{none-some, same_Some}
 use Rattle.ovn_base.proofs.AmongLaws.{among_left, among_filter_map}
 use Rattle.ovn_base.proofs.ByNameLaws.{at_among}
+use Rattle.ovn_base.specs.declared.limits.TheConstants.{MAX_PORT_KEY}
 use Rattle.ovn_base.specs.declared.name.Name.{Name}
 use Rattle.ovn_base.specs.lists.Among.{Among}
 use Rattle.ovn_base.specs.names.ByName.{at}
@@ -16,9 +17,9 @@ use Rattle.tunnel_keys.specs.declared.owner.DatapathKey.{DatapathKey}
 use Rattle.tunnel_keys.specs.declared.owner.Identity.{Identity}
 use Rattle.tunnel_keys.specs.declared.owner.PortKey.{PortKey}
 use Rattle.net_model.specs.Config.{port_identity}
-use Rattle.net_model.specs.Sights.{is_live_one}
+use Rattle.net_model.specs.Sights.{Roster, roster_of, is_live_one}
 use Rattle.row_laws.proofs.records.ValidPorts.{port_named}
-use Rattle.row_laws.specs.Numbers.{IsPortKey, PortStandsLaw, NoneStandsLaw}
+use Rattle.row_laws.specs.Numbers.{IsPortKey, StandsFor, PortStandsLaw, NoneStandsLaw}
 
 module _ (keys : Keys) (hold : IsKeys keys) where
   -- a live port's key is held, beside the live datapath of its name
@@ -48,24 +49,37 @@ module _ (keys : Keys) (hold : IsKeys keys) where
       let is : a.0.key ≡ n = a.3 in
       (omega (arith, range.0, is), omega (arith, range.1, high, is))
 
+  -- ---- in any roster
+
+  -- the live key of the port's name stands for the port, where a name stands for a port of that name alone
+  pub key_stands : (who : Roster) (d : Name) (id : Identity) → who.live id.name ≡ Some id → ((q : Name) (other : Identity) → who.live q ≡ Some other → other.name ≡ q) → (n : ℕ) → IsPortKey keys d id.name n
+      → StandsFor keys who d (Some id) n
+  key_stands who d id live own n key = record {
+    named = λ q other. ap (λ m. is_live_one (Some id) (who.live m)) (sym (one_name d id.name q n key other)) ∙ ap (is_live_one (Some id)) live ∙ identity_own id;
+    numbered = λ q h. by q (who.live q) refl h;
+  }
+    where
+      by : (q : Name) (o : Option Identity) → who.live q ≡ o → is_live_one (Some id) o ≡ true → IsPortKey keys d q n
+      by q None is h = absurd (false≢true h)
+      by q (Some other) is h = subst (λ m. IsPortKey keys d m n) (ap (λ (x : Identity). x.name) (identity_exact id other h) ∙ own q other is) key
+
+  -- what is no key stands for none
+  pub no_key_stands : (who : Roster) (d : Name) (n : ℕ) → (n ≡ 0) ⊎ (MAX_PORT_KEY < n) → StandsFor keys who d None n
+  no_key_stands who d n outside = record {
+    named = λ q key. let range = key_range d q n key in absurd (elim outside [ inl zero' ↦ omega (arith, range.0, zero') | inr high ↦ omega (arith, range.1, high) ]);
+    numbered = λ q h. absurd (false≢true h);
+  }
+
+-- ---- ports of switches
+
+-- the name of an identity that a name stands for
+pub named_by : {X : Type 0} (identity : X → Identity) (o : Option X) (name : Name) → ((x : X) → o ≡ Some x → (identity x).name ≡ name) → (id : Identity) → option_map identity o ≡ Some id → id.name ≡ name
+named_by identity None name own id is = absurd (none-some id is)
+named_by identity (Some x) name own id is = ap (λ (y : Identity). y.name) (sym (same_Some (identity x) id is)) ∙ own x refl
+
 pub port_stands : PortStandsLaw
-port_stands net keys valid hold i there n key = record {
-  named = λ q other.
-      let same = one_name keys hold i.switch i.name q n key other in
-      ap (λ m. is_live_one (Some (port_identity i)) (option_map port_identity (at net.switch_ports m))) (sym same)
-      ∙ ap (λ (o : Option SwitchPort). is_live_one (Some (port_identity i)) (option_map port_identity o)) there
-      ∙ identity_own (port_identity i);
-  numbered = λ q h. by q (at net.switch_ports q) refl h;
-}
-  where
-    by : (q : Name) (o : Option SwitchPort) → at net.switch_ports q ≡ o → is_live_one (Some (port_identity i)) (option_map port_identity o) ≡ true → IsPortKey keys i.switch q n
-    by q None is h = absurd (false≢true h)
-    by q (Some port) is h =
-        let same = ap (λ (x : Identity). x.name) (identity_exact (port_identity i) (port_identity port) h) in
-        subst (λ m. IsPortKey keys i.switch m n) (same ∙ port_named net valid q port is) key
+port_stands net keys valid hold i there n key =
+    key_stands keys hold (roster_of net) i.switch (port_identity i) (ap (λ (o : Option SwitchPort). option_map port_identity o) there) (λ q id is. named_by port_identity (at net.switch_ports q) q (λ port e. port_named net valid q port e) id is) n key
 
 pub none_stands : NoneStandsLaw
-none_stands net keys hold d n outside = record {
-  named = λ q key. let range = key_range keys hold d q n key in absurd (elim outside [ inl zero' ↦ omega (arith, range.0, zero') | inr high ↦ omega (arith, range.1, high) ]);
-  numbered = λ q h. absurd (false≢true h);
-}
+none_stands net keys hold d n outside = no_key_stands keys hold (roster_of net) d n outside

@@ -6,24 +6,19 @@ use Rattle.ovn_base.proofs.AmongLaws.{among_map, map_among}
 use Rattle.ovn_base.specs.declared.address.Cidr.{Cidr}
 use Rattle.ovn_base.specs.declared.address.Ip4.{Ip4}
 use Rattle.ovn_base.specs.declared.name.Name.{Name}
-use Rattle.ovn_base.specs.lists.Among.{Among, here}
-use Rattle.ovn_base.specs.names.ByName.{at}
+use Rattle.ovn_base.specs.lists.Among.{here}
 use Rattle.flow_table.specs.declared.flow.Cause.TheVariants as cause
-use Rattle.inet_packet.specs.declared.regs.Reg.TheVariants as reg
 use Rattle.inet_packet.specs.declared.regs.Regs.{Regs}
 use Rattle.match_language.specs.declared.field.Field.TheVariants as f
 use Rattle.nb_records.specs.Grammar.{IsCidr}
 use Rattle.nb_records.specs.Network.{Network}
 use Rattle.nb_records.specs.Routers.{contains}
 use Rattle.nb_records.specs.Ways.{Way, best_by, is_better_way, network_ways, by_route}
-use Rattle.nb_records.specs.declared.router.Route.{Route}
-use Rattle.nb_records.specs.declared.router.RouterPort.{RouterPort}
 use Rattle.logical_flows.specs.Stages.{stage_table}
 use Rattle.logical_flows.specs.declared.action.Action.{Action}
-use Rattle.logical_flows.specs.declared.action.Action.TheVariants as a
 use Rattle.logical_flows.specs.declared.flow.LFlow.{LFlow}
 use Rattle.logical_flows.specs.declared.stage.Stage.TheVariants as stage
-use Rattle.stage_rows.specs.RouterRows.{routed_by, network_row, route_row}
+use Rattle.stage_rows.specs.RouterRows.{network_row, route_row}
 use Rattle.stage_rows.specs.Rows.{ip_in, match_row, drop_row}
 use Rattle.net_model.specs.Headers.{carries_ip4, dst_of}
 use Rattle.net_model.specs.Sights.{holds_at}
@@ -37,7 +32,7 @@ use Rattle.row_laws.proofs.units.BestOf.{best_none, best_is}
 use Rattle.row_laws.proofs.units.RowUnits.{in_some, some_in}
 use Rattle.row_laws.proofs.units.TakenRow.{among_one}
 use Rattle.row_laws.specs.Rows.{IsRowIn, RowHolds}
-use Rattle.row_laws.specs.routers.RouterActions.{ways_to, best_way, next_by, route_actions, router_actions_at}
+use Rattle.row_laws.specs.routers.RouterActions.{ways_to, best_way, route_actions, router_actions_at}
 use Rattle.row_laws.specs.routers.RouterCopies.{RouterCopy, router_roster}
 use Rattle.row_laws.specs.routers.RouterLaws.{RouterStageLaw}
 

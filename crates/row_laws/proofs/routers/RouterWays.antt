@@ -1,5 +1,5 @@
 -- The ways of a router to a destination: which of two is better, what each is by, and that of one length and kind there is one.
-use Rattle.std.specs.Prelude.{◌≡◌, ◌+◌, ◌*◌, ◌==◌, ◌&&◌, ◌||◌, ◌++◌, nat_lt, ℕ, Bool, true, false, not, cond, filter, filter_map, Option, Some, None, option_map}
+use Rattle.std.specs.Prelude.{◌≡◌, ◌+◌, ◌*◌, ◌==◌, ◌&&◌, ◌||◌, nat_lt, ℕ, Bool, true, false, not, cond, filter, filter_map, Option, Some, None, option_map}
 use Rattle.std.specs.Map.{values_of}
 use Rattle.std.proofs.Common.{refl, sym, ap, ◌∙◌, arith, subst, inl, inr}
 use Rattle.std.proofs.lemmas.Bool.{false≢true, cond-true}
@@ -24,6 +24,7 @@ use Rattle.row_laws.proofs.routers.OwnIps.{in_ports, ports_in}
 use Rattle.row_laws.proofs.units.BestOf.{IsOrder, best_is}
 use Rattle.row_laws.specs.Copies.{flag_number}
 use Rattle.row_laws.specs.routers.RouterActions.{ways_to}
+use Rattle.row_laws.specs.routers.RouterLaws.{BestWayLaw}
 
 -- ---- which is better
 
@@ -146,3 +147,19 @@ module _ (net : Network) (valid : IsValid net) (d : Name) (dst : Ip4) where
   pub network_next : (w : Way) → IsWay net d dst w → w.is_network ≡ true → w.hop.next ≡ dst
   network_next w (by_network port is on n m holds e) h = ap (λ (x : Way). x.hop.next) e
   network_next w (by_a_route q x is on holds v best e) h = absurd (false≢true (sym (ap (λ (x : Way). x.is_network) e) ∙ h))
+
+-- ---- the network's route
+
+pub best_way_law : BestWayLaw
+best_way_law net valid router dst = (
+  λ w found.
+      let way = way_from net valid router dst w (best_is is_better_way ways_order (ways_to net router dst) w found).among in
+      let port = way_port net valid router dst w way in
+      record {
+        route = ap (λ (o : Option Way). option_map (λ (x : Way). x.hop) o) found;
+        next = network_next net valid router dst w way;
+        there = port.0;
+        on = port.1;
+      },
+  λ none. ap (λ (o : Option Way). option_map (λ (x : Way). x.hop) o) none,
+)
