@@ -8,8 +8,10 @@ pub mod Reached
 pub mod AdmitAtRouter
 pub mod OwnAtRouter
 pub mod InputAtRouter
-pub mod RouterWays
+pub mod BestWays
 pub mod RouteAtRouter
 pub mod NeighbourAtRouter
 pub mod PlainAtRouter
 pub mod EachAtRouter
+pub mod TranslatesNothing
+pub mod ThroughRouter

@@ -3,3 +3,4 @@ pub mod RouterCopies
 pub mod RouterNumbers
 pub mod RouterActions
 pub mod RouterLaws
+pub mod RouterThrough

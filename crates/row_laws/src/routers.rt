@@ -1,6 +1,7 @@
 //! The laws of the stages of a router, on functions that do nothing: call one, and its clauses are facts of the call.
 ghost use Rattle.row_laws.specs.routers.RouterLaws as spec;
 ghost use Rattle.row_laws.specs.routers.RouterNumbers.{RouterPortStandsLaw, NoRouterPortStandsLaw};
+ghost use Rattle.row_laws.specs.routers.RouterThrough.{ThroughLaw, TranslatesNothingLaw, IntakeLaw};
 
 /// In each stage an unbeaten row that holds of a packet has exactly the actions that the network tells: what is for the router and what is
 /// not, its answers, its routes and its neighbours. Of the stages of NAT it says so where the router translates nothing.
@@ -32,4 +33,12 @@ pub fn best_way_is_the_route()
 pub fn numbers_stand_for_router_ports()
     ensures port { RouterPortStandsLaw }
     ensures none { NoRouterPortStandsLaw }
+{}
+
+/// Where a router translates nothing, its stages, one after another, take a packet through as the model says; and it has neither NAT nor a
+/// balancer.
+pub fn router_stages_are_the_way()
+    ensures through { ThroughLaw }
+    ensures translates_nothing { TranslatesNothingLaw }
+    ensures intake { IntakeLaw }
 {}

@@ -1,12 +1,15 @@
 -- r_route takes the best way to the destination: by the longest prefix, and at equal length by a network before a route.
-use Rattle.std.specs.Prelude.{◌≡◌, ◌<◌, ◌+◌, ◌*◌, ◌∷◌, [], ℕ, nat_lt, true, false, List, Option, Some, None}
+use Rattle.std.specs.Prelude.{◌≡◌, ◌<◌, ◌+◌, ◌*◌, ◌∷◌, [], ℕ, nat_lt, true, false, List, Option, Some, None, option_map}
+use Rattle.std.specs.Map.{keys_of}
 use Rattle.std.proofs.Common.{refl, sym, ap, ◌∙◌, arith, subst, inl, inr}
 use Rattle.std.proofs.lemmas.Bool.{and_parts, and_from, false≢true, lt-ltb, cases_lt}
-use Rattle.ovn_base.proofs.AmongLaws.{among_map, map_among}
+use Rattle.ovn_base.proofs.AmongLaws.{among_left, among_right, among_map, map_among}
+use Rattle.ovn_base.proofs.ByNameLaws.{at_among}
 use Rattle.ovn_base.specs.declared.address.Cidr.{Cidr}
 use Rattle.ovn_base.specs.declared.address.Ip4.{Ip4}
 use Rattle.ovn_base.specs.declared.name.Name.{Name}
 use Rattle.ovn_base.specs.lists.Among.{here}
+use Rattle.ovn_base.specs.names.ByName.{at}
 use Rattle.flow_table.specs.declared.flow.Cause.TheVariants as cause
 use Rattle.inet_packet.specs.declared.regs.Regs.{Regs}
 use Rattle.match_language.specs.declared.field.Field.TheVariants as f
@@ -14,22 +17,25 @@ use Rattle.nb_records.specs.Grammar.{IsCidr}
 use Rattle.nb_records.specs.Network.{Network}
 use Rattle.nb_records.specs.Routers.{contains}
 use Rattle.nb_records.specs.Ways.{Way, best_by, is_better_way, network_ways, by_route}
+use Rattle.nb_records.specs.declared.router.Route.{Route}
 use Rattle.logical_flows.specs.Stages.{stage_table}
 use Rattle.logical_flows.specs.declared.action.Action.{Action}
 use Rattle.logical_flows.specs.declared.flow.LFlow.{LFlow}
 use Rattle.logical_flows.specs.declared.stage.Stage.TheVariants as stage
+use Rattle.logical_flows.specs.declared.unit.UnitId.TheVariants as unit
 use Rattle.stage_rows.specs.RouterRows.{network_row, route_row}
 use Rattle.stage_rows.specs.Rows.{ip_in, match_row, drop_row}
+use Rattle.stage_rows.specs.Units.{route_rows}
 use Rattle.net_model.specs.Headers.{carries_ip4, dst_of}
 use Rattle.net_model.specs.Sights.{holds_at}
 use Rattle.row_laws.proofs.records.OnePrefix.{network_prefix, route_prefix}
-use Rattle.row_laws.proofs.routers.RouterUnits.{RouterRow, by_port, by_neighbour, by_nat, by_balancer, by_router, a_port_row, a_route_row}
+use Rattle.row_laws.proofs.routers.RouterUnits.{RouterRow, by_port, by_neighbour, by_nat, by_balancer, by_router, a_port_row}
 use Rattle.row_laws.proofs.routers.RouterUnits as units
-use Rattle.row_laws.proofs.routers.RouterWays.{IsWay, by_network, by_a_route, network_way, weight, better_is, ways_order, same_weight, way_from, way_to, same_way}
+use Rattle.row_laws.proofs.routers.BestWays.{IsWay, by_network, by_a_route, network_way, weight, better_is, ways_order, same_weight, way_from, way_to, same_way}
 use Rattle.row_laws.proofs.routers.TakenAtRouter.{IsTakenThere, its_unit, fields, taken_terms, none_above, own_place, row_holds}
 use Rattle.row_laws.proofs.terms.PacketTerms.{says_dst_in}
 use Rattle.row_laws.proofs.units.BestOf.{best_none, best_is}
-use Rattle.row_laws.proofs.units.RowUnits.{in_some, some_in}
+use Rattle.row_laws.proofs.units.RowUnits.{rows_among, in_some, some_in}
 use Rattle.row_laws.proofs.units.TakenRow.{among_one}
 use Rattle.row_laws.specs.Rows.{IsRowIn, RowHolds}
 use Rattle.row_laws.specs.routers.RouterActions.{ways_to, best_way, route_actions, router_actions_at}
@@ -39,6 +45,23 @@ use Rattle.row_laws.specs.routers.RouterLaws.{RouterStageLaw}
 -- numbers of which neither is less are one
 tied : (n k : ℕ) → nat_lt k n ≡ false → (n < k → ⊥) → n ≡ k
 tied n k low high = elim (cases_lt k n) [ inl less ↦ absurd (false≢true (sym low ∙ lt-ltb k n less)) | inr ge ↦ elim (cases_lt n k) [ inl more ↦ absurd (high more) | inr le ↦ omega (arith, le, ge) ] ]
+
+-- the row of a route that leaves by the best way to its next hop stands in the table
+a_route_row : (net : Network) (d q : Name) (x : Route) (v : Way) → at net.routes q ≡ Some x → x.router ≡ d → best_by is_better_way (network_ways net x.router x.nexthop) ≡ Some v
+    → IsRowIn net (stage_table stage.RouterRoute) d (route_row x v)
+a_route_row net d q x v is on best = record {
+  pair = record {
+    origin = unit.Route q;
+    there =
+        let u = unit.Route q in
+        let own = among_map unit.Route q (keys_of net.routes) (among_map (λ (e : Name × Route). e.0) (q, x) net.routes (at_among net.routes q x is)) in
+        among_left u _ _ (among_left u _ _ (among_left u _ _ (among_left u _ _ (among_left u _ _ (among_right u _ _ own)))));
+    among = rows_among net stage.RouterRoute (route_row x v) (unit.Route q)
+        (some_in (route_row x v) (at net.routes q) (route_rows stage.RouterRoute net) x is (some_in (route_row x v) (best_by is_better_way (network_ways net x.router x.nexthop)) (λ y. route_row x y ∷ []) v best here));
+    on = ap (λ (o : Option Route). option_map (λ (x : Route). x.router) o) is ∙ ap (λ n. Some n) on;
+  };
+  in_table = refl;
+}
 
 module _ (net : Network) (c : RouterCopy) (regs : Regs) (r : LFlow) (t : IsTakenThere net stage.RouterRoute c regs r) where
   abbrev d : Name
@@ -77,7 +100,7 @@ module _ (net : Network) (c : RouterCopy) (regs : Regs) (r : LFlow) (t : IsTaken
   })
   row_of w (by_a_route q x is on holds v best e) = subst HasRow (sym e) (record {
     own = route_row x v;
-    is_row = a_route_row net stage.RouterRoute (route_row x v) d q x is on (some_in (route_row x v) (best_by is_better_way (network_ways net x.router x.nexthop)) (λ y. route_row x y ∷ []) v best here);
+    is_row = a_route_row net d q x v is on best;
     holds_here = holding x.prefix (route_prefix net t.valid q x is) holds _ _;
     priority = omega arith;
   })

@@ -186,7 +186,7 @@ module _ (net : Network) (valid : IsValid net) (d : Name) (rt : Router) (is_rout
         | inr h ↦ cover_off (option_and_then (at net.port_groups) x.port_group) h
       ]
 
-  balancer_off : (q : Name) (x : LoadBalancer) → at net.load_balancers q ≡ Some x → is_named d x.switches ≡ true → ⊥
+  pub balancer_off : (q : Name) (x : LoadBalancer) → at net.load_balancers q ≡ Some x → is_named d x.switches ≡ true → ⊥
   balancer_off q x is on =
       let r = row.LoadBalancer x in
       let own = among_map (λ (e : Name × LoadBalancer). row.LoadBalancer e.1) (q, x) net.load_balancers (at_among net.load_balancers q x is) in
@@ -280,20 +280,6 @@ module _ (net : Network) (s : Stage) (r : LFlow) where
         };
         in_table = ap stage_table (port_rows_are s net port r m).0;
       }
-
-  pub a_route_row : (d q : Name) (x : Route) → at net.routes q ≡ Some x → x.router ≡ d → Among r (route_rows s net x) → IsRowIn net (stage_table s) d r
-  a_route_row d q x is on m = record {
-    pair = record {
-      origin = unit.Route q;
-      there =
-          let u = unit.Route q in
-          let own = among_map unit.Route q (keys_of net.routes) (among_map (λ (e : Name × Route). e.0) (q, x) net.routes (at_among net.routes q x is)) in
-          among_left u _ _ (among_left u _ _ (among_left u _ _ (among_left u _ _ (among_left u _ _ (among_right u _ _ own)))));
-      among = rows_among net s r (unit.Route q) (some_in r (at net.routes q) (route_rows s net) x is m);
-      on = ap (λ (o : Option Route). option_map (λ (x : Route). x.router) o) is ∙ ap (λ n. Some n) on;
-    };
-    in_table = ap stage_table (route_rows_are s net x r m).0;
-  }
 
   pub a_router_row : (d : Name) (x : Router) → at net.routers d ≡ Some x → Among r (router_rows s (translates net x)) → IsRowIn net (stage_table s) d r
   a_router_row d x is m = record {
