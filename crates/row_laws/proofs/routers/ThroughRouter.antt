@@ -54,9 +54,9 @@ module _ (net : Network) (i : RouterPort) (p : Packet) where
   intake_if true x y h k = h refl
   intake_if false x y h k = k refl
 
-  asks_arp : (b : Bool) → (carries_arp p && (field.arp_op p.body == 1)) ≡ b → answers_asked net i (cond b (Some (ip_of (field.arp_tpa p.body))) None) ≡ true → carries_arp p ≡ true
-  asks_arp true is h = (and_parts (carries_arp p) (field.arp_op p.body == 1) is).0
-  asks_arp false is h = absurd (false≢true h)
+  asked_so : (b : Bool) → answers_asked net i (cond b (Some (ip_of (field.arp_tpa p.body))) None) ≡ true → cond b (Some (ip_of (field.arp_tpa p.body))) None ≡ Some (ip_of (field.arp_tpa p.body))
+  asked_so true h = refl
+  asked_so false h = absurd (false≢true h)
 
   abbrev or_passes : Intake
   or_passes = cond (not (carries_ip4 p)) (refuses cause.NotIp4) passes_on
@@ -79,10 +79,10 @@ module _ (net : Network) (i : RouterPort) (p : Packet) where
   pub intake_is : IsIntake i p (intake net i p)
   intake_is =
       intake_if (not (is_for_port i p)) (refuses cause.NotForRouter) or_answers (λ h. tt) (λ h.
-      intake_if (answers_asked net i (asked_ip p)) (answers_with (arp_answer i p)) or_arp (λ k. (asks_arp (carries_arp p && (field.arp_op p.body == 1)) refl k, refl)) (λ k.
+      intake_if (answers_asked net i (asked_ip p)) (answers_with (arp_answer i p)) or_arp (λ k. (asked_so (carries_arp p && (field.arp_op p.body == 1)) k, refl)) (λ k.
       intake_if (carries_arp p) (refuses cause.Arp) or_bad (λ l. tt) (λ l.
       intake_if (carries_ip4 p && (is_bad_ip (src_of p) || is_bad_ip (dst_of p))) (refuses cause.BadIp) or_becomes (λ m. tt) (λ m.
-      intake_if (is_echo_request (tuple_of p) && is_own_ip net i.router (dst_of p)) (becomes (with_ip4 ip4_as_reply p)) or_ends (λ n. (echo_ip4 p.body (and_parts (is_echo_request (tuple_of p)) _ n).0, refl)) (λ n.
+      intake_if (is_echo_request (tuple_of p) && is_own_ip net i.router (dst_of p)) (becomes (with_ip4 ip4_as_reply p)) or_ends (λ n. let echo = (and_parts (is_echo_request (tuple_of p)) _ n).0 in (echo, echo_ip4 p.body echo, refl)) (λ n.
       intake_if (carries_ip4 p && nat_le (field.ip_ttl p.body) 1) (refuses cause.Ttl) or_passes (λ o. tt) (λ o.
       intake_if (not (carries_ip4 p)) (refuses cause.NotIp4) passes_on (λ q. tt) (λ q. is_so (carries_ip4 p) q)))))))
     where
@@ -154,7 +154,7 @@ module _ (s : Scene) (valid : IsValid s.config.net) (onward : Onward) (i : Route
     taken : (x : Intake) → IsIntake i p x → from_input (done_by net (intake_actions i p x) t (entering i p)) ≡ take_in x onward s false i t p
     taken (refuses why) is = refl
     taken (answers_with q) is = ap (leave_router onward net i t) (sym is.1)
-    taken (becomes q) is = routed true (with_ip4 ip4_as_reply p) ∙ ap (route_on onward s false i t) (sym is.1)
+    taken (becomes q) is = routed true (with_ip4 ip4_as_reply p) ∙ ap (route_on onward s false i t) (sym is.2)
     taken passes_on is = not_own (own_address net i p)
 
     admitted : (b : Bool) → is_for_port i p ≡ b → from_admit (done_by net (unless_dropped stage.RouterAdmit (cond (not b) (Some cause.NotForRouter) None)) t (entering i p)) ≡ take_in (intake net i p) onward s false i t p

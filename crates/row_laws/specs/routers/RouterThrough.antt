@@ -1,5 +1,7 @@
 -- That the stages of a router, one after another, take a packet through as the model says, where the router translates nothing.
 use Rattle.std.specs.Prelude.{◌≡◌, ◌==◌, ℕ, true, false, List, [], ◌∷◌, Option, Some, None, option_map, cond}
+use Rattle.conn_table.specs.Tuples.{tuple_of}
+use Rattle.inet_packet.specs.Fields as field
 use Rattle.inet_packet.specs.Rewrites.{with_ip4, ip4_as_reply, ip4_dec_ttl, with_arp_reply}
 use Rattle.inet_packet.specs.declared.packet.Packet.{Packet}
 use Rattle.inet_packet.specs.declared.regs.Reg.{Reg}
@@ -18,8 +20,8 @@ use Rattle.logical_flows.specs.declared.stage.Stage.{Stage}
 use Rattle.logical_flows.specs.declared.stage.Stage.TheVariants as stage
 use Rattle.net_model.specs.Entry.{Scene, Onward}
 use Rattle.net_model.specs.Forwarding.{is_translating, leave_router, into_router}
-use Rattle.net_model.specs.Headers.{carries_ip4, carries_arp, ip_of, dst_of}
-use Rattle.net_model.specs.RouterInput.{Intake, answers_with, becomes, passes_on, refuses, arp_answer, intake}
+use Rattle.net_model.specs.Headers.{carries_ip4, asked_ip, ip_of, dst_of}
+use Rattle.net_model.specs.RouterInput.{Intake, answers_with, becomes, passes_on, refuses, arp_answer, is_echo_request, intake}
 use Rattle.net_model.specs.Trail.{Trail, spot_in_router, drop_for}
 use Rattle.row_laws.specs.Copies.{not_sought}
 use Rattle.row_laws.specs.routers.RouterActions.{router_actions_at}
@@ -124,10 +126,10 @@ TranslatesNothingLaw =
     (net : Network) → IsValid net → (i : RouterPort) → at net.router_ports i.name ≡ Some i → is_translating net i ≡ false
     → (nats_of net i.router ≡ []) × (balancers_of net i.router ≡ [])
 
--- what an intake tells of the packet: one of ARP alone is answered, and one of IPv4 alone becomes an answer or passes on
+-- what an intake tells of the packet: only requests of ARP are answered, only echo requests become answers, and only packets of IPv4 pass on
 abbrev pub IsIntake : RouterPort → Packet → Intake → Type 0
-IsIntake i p (answers_with q) = (carries_arp p ≡ true) × (q ≡ arp_answer i p)
-IsIntake i p (becomes q) = (carries_ip4 p ≡ true) × (q ≡ with_ip4 ip4_as_reply p)
+IsIntake i p (answers_with q) = (asked_ip p ≡ Some (ip_of (field.arp_tpa p.body))) × (q ≡ arp_answer i p)
+IsIntake i p (becomes q) = (is_echo_request (tuple_of p) ≡ true) × (carries_ip4 p ≡ true) × (q ≡ with_ip4 ip4_as_reply p)
 IsIntake i p passes_on = carries_ip4 p ≡ true
 IsIntake i p (refuses why) = Unit {0}
 
