@@ -7,3 +7,5 @@ pub mod NarrowTerms
 pub mod NarrowPorts
 pub mod NarrowRows
 pub mod NamedPorts
+pub mod RisingActions
+pub mod RisingRows

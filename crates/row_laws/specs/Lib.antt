@@ -2,6 +2,7 @@
 pub mod Rows
 pub mod Numbers
 pub mod CanLower
+pub mod ProperRows
 pub mod BestRow
 pub mod Copies
 pub mod StageActions

@@ -195,7 +195,7 @@ module _ (net : Network) (valid : IsValid net) where
       let r = row.Acl x in
       grammar r (among_left r _ _ (among_left r _ _ (among_left r _ _ (among_left r _ _ (among_right r _ _ (among_map (λ (e : Name × Acl). row.Acl e.1) (name, x) net.acls (at_among net.acls name x is)))))))
 
-  route_ok : (name : Name) (x : Route) → at net.routes name ≡ Some x → IsRoute x
+  pub route_ok : (name : Name) (x : Route) → at net.routes name ≡ Some x → IsRoute x
   route_ok name x is =
       let r = row.Route x in
       grammar r (among_left r _ _ (among_left r _ _ (among_left r _ _ (among_right r _ _ (among_map (λ (e : Name × Route). row.Route e.1) (name, x) net.routes (at_among net.routes name x is))))))
