@@ -5,3 +5,4 @@ pub mod records
 pub mod units
 pub mod suited
 pub mod switch
+pub mod agreeing

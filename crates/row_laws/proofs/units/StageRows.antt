@@ -97,11 +97,11 @@ port_rows_are _ net q = tt
 
 -- ---- rules, balancers and switches
 
-rule_in : (d : Direction) → is_from_lport d ≡ true → rule_stage d ≡ stage.SwitchAclIn
+pub rule_in : (d : Direction) → is_from_lport d ≡ true → rule_stage d ≡ stage.SwitchAclIn
 rule_in FromLport h = refl
 rule_in ToLport h = absurd cc
 
-rule_out : (d : Direction) → is_to_lport d ≡ true → rule_stage d ≡ stage.SwitchAclOut
+pub rule_out : (d : Direction) → is_to_lport d ≡ true → rule_stage d ≡ stage.SwitchAclOut
 rule_out FromLport h = absurd cc
 rule_out ToLport h = refl
 

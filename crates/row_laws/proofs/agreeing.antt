@@ -1,0 +1,8 @@
+-- Rows that agree wherever a packet is.
+pub mod TwoRows
+pub mod GradedStages
+pub mod StateRows
+pub mod StateStages
+pub mod ArpStage
+pub mod LookupStage
+pub mod EachAgrees
