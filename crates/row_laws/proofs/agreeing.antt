@@ -5,4 +5,5 @@ pub mod StateRows
 pub mod StateStages
 pub mod ArpStage
 pub mod LookupStage
+pub mod FlowsAgree
 pub mod EachAgrees

@@ -2,3 +2,6 @@
 pub mod PortKeys
 pub mod InNames
 pub mod BestRows
+pub mod NarrowCubes
+pub mod NarrowFlows
+pub mod LowBits

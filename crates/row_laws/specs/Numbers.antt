@@ -6,6 +6,7 @@ use Rattle.ovn_base.specs.names.ByName.{at}
 use Rattle.inet_packet.specs.declared.regs.Regs.{Regs}
 use Rattle.inet_packet.specs.Whole.{IsWhole}
 use Rattle.match_cubes.specs.Points.{Members, members_of}
+use Rattle.match_cubes.specs.Suited.{HasFieldsInRange}
 use Rattle.match_cubes.specs.declared.sets.Sets.{Sets}
 use Rattle.nb_records.specs.Network.{Network}
 use Rattle.nb_records.specs.declared.switch.SwitchPort.{SwitchPort}
@@ -46,6 +47,15 @@ pub record HasNumbers (keys : Keys) (sets : Sets) (who : Roster) (datapath : Nam
   pub members : AreSameMembers who.members (members_of sets)
   pub within : HasRegistersInRange regs
   pub whole : IsWhole sight.packet
+
+-- The same of a packet that need not be whole: no number is wider than its field.
+pub record HasNumbersInRange (keys : Keys) (sets : Sets) (who : Roster) (datapath : Name) (regs : Regs) (sight : Sight) : Type 0 where
+  pub on : IsDatapathKey keys datapath regs.dp
+  pub came : StandsFor keys who datapath (Some sight.in_port) regs.in_port
+  pub goes : StandsFor keys who datapath sight.out_port regs.out_port
+  pub members : AreSameMembers who.members (members_of sets)
+  pub within : HasRegistersInRange regs
+  pub fields : HasFieldsInRange sight.packet
 
 -- The live key of a switch's port stands for the port.
 abbrev pub PortStandsLaw : Type 0

@@ -7,7 +7,7 @@ use Rattle.ovn_base.specs.declared.name.Name.{Name}
 use Rattle.ovn_base.specs.lists.Among.{Among}
 use Rattle.ovn_base.specs.names.ByName.{at}
 use Rattle.inet_packet.specs.declared.regs.Regs.{Regs}
-use Rattle.flow_table.specs.Matching.{Matches}
+use Rattle.flow_table.specs.Matching.{Matches, IsBest}
 use Rattle.flow_table.specs.declared.flow.Flow.{Flow}
 use Rattle.match_cubes.proofs.WholeLaws.{whole_in_range}
 use Rattle.match_cubes.specs.declared.sets.Sets.{Sets}
@@ -23,8 +23,8 @@ use Rattle.flow_lowering.specs.LoweredFlows.{lowered_ops, live_datapath_key}
 use Rattle.flow_lowering.specs.LoweringLaw.{LogicalFlowMatches}
 use Rattle.net_model.specs.Sights.{Sight, Roster}
 use Rattle.row_laws.proofs.lowered.InNames.{holds_same}
-use Rattle.row_laws.specs.BestRow.{HoldsRows, BestRowLaw, SomeMatchesLaw, NoneMatchesLaw}
-use Rattle.row_laws.specs.Numbers.{HasNumbers}
+use Rattle.row_laws.specs.BestRow.{HoldsRows, IsOfBestRow, BestRowLaw, SomeMatchesLaw, NoneMatchesLaw}
+use Rattle.row_laws.specs.Numbers.{HasNumbers, HasNumbersInRange}
 use Rattle.row_laws.specs.Rows.{IsRowIn, RowHolds}
 
 -- ---- the order of rows and of their flows
@@ -35,7 +35,7 @@ above_as p p' q q' m m' n n' a b c e (inl h) = inl (omega arith)
 above_as p p' q q' m m' n n' a b c e (inr h) = inr (a ∙ h.0 ∙ sym b, omega (arith, h.1))
 
 module _ (net : Network) (keys : Keys) (sets : Sets) (flows : List Flow) (table : ℕ) (rows : HoldsRows net keys sets flows table)
-    (who : Roster) (d : Name) (regs : Regs) (s : Sight) (h : HasNumbers keys sets who d regs s) where
+    (who : Roster) (d : Name) (regs : Regs) (s : Sight) (h : HasNumbersInRange keys sets who d regs s) where
   -- ---- the datapath
 
   key_is : (e : Name) (k : DatapathKey) → at keys.datapaths e ≡ Some k → live_datapath_key keys e ≡ k.key
@@ -65,7 +65,7 @@ module _ (net : Network) (keys : Keys) (sets : Sets) (flows : List Flow) (table 
       let suited = rows.can_lower.suited r d is.pair in
       let logical : LogicalFlowMatches keys sets r d regs s.packet =
       record { on = on; registers = k.registers; matching = holds_same keys rows.can_lower.hold sets who d regs s h r.matching suited ∙ k.matching } in
-      let some = (matches_alike keys sets r d suited regs s.packet h.within (whole_in_range s.packet h.whole)).1 logical in
+      let some = (matches_alike keys sets r d suited regs s.packet h.within h.fields).1 logical in
       let low = each_is_lowered keys sets r d some.flow some.among in
       let in_table = low.in_table ∙ is.in_table in
       record {
@@ -90,7 +90,7 @@ module _ (net : Network) (keys : Keys) (sets : Sets) (flows : List Flow) (table 
       let of = (rows.exactly f m.in_table).0 among in
       let low = each_is_lowered keys sets of.row of.datapath f of.among in
       let suited = rows.can_lower.suited of.row of.datapath of.pair in
-      let logical = (matches_alike keys sets of.row of.datapath suited regs s.packet h.within (whole_in_range s.packet h.whole)).0
+      let logical = (matches_alike keys sets of.row of.datapath suited regs s.packet h.within h.fields).0
       (record { flow = f; among = of.among; matches = record { in_table = low.in_table; fits = m.fits } }) in
       let live = found (at keys.datapaths of.datapath) (rows.can_lower.live of.row of.datapath of.pair) in
       let there : of.datapath ≡ d = one_datapath of.datapath live.0 live.1 logical.on in
@@ -106,8 +106,13 @@ module _ (net : Network) (keys : Keys) (sets : Sets) (flows : List Flow) (table 
 
 -- ---- the laws
 
-pub best_row : BestRowLaw
-best_row net keys sets flows table rows who d regs s h f best =
+-- a whole packet's numbers lie within their fields
+in_range : {keys : Keys} {sets : Sets} {who : Roster} {d : Name} {regs : Regs} {s : Sight} → HasNumbers keys sets who d regs s → HasNumbersInRange keys sets who d regs s
+in_range {s = s} h = record { on = h.on; came = h.came; goes = h.goes; members = h.members; within = h.within; fields = whole_in_range s.packet h.whole }
+
+pub best_in_range : (net : Network) (keys : Keys) (sets : Sets) (flows : List Flow) (table : ℕ) → HoldsRows net keys sets flows table → (who : Roster) (d : Name) (regs : Regs) (s : Sight)
+    → HasNumbersInRange keys sets who d regs s → (f : Flow) → IsBest flows table regs s.packet f → IsOfBestRow net keys who table d regs s f
+best_in_range net keys sets flows table rows who d regs s h f best =
     let own = held net keys sets flows table rows who d regs s h f best.held best.matching in
     record {
       row = own.row;
@@ -121,10 +126,13 @@ best_row net keys sets flows table rows who d regs s h f best =
       ops = own.ops;
     }
 
+pub best_row : BestRowLaw
+best_row net keys sets flows table rows who d regs s h f best = best_in_range net keys sets flows table rows who d regs s (in_range h) f best
+
 pub some_matches : SomeMatchesLaw
-some_matches net keys sets flows table rows who d regs s h r is k none = let m = matched net keys sets flows table rows who d regs s h r is k in none m.flow m.among m.matching
+some_matches net keys sets flows table rows who d regs s h r is k none = let m = matched net keys sets flows table rows who d regs s (in_range h) r is k in none m.flow m.among m.matching
 
 pub none_matches : NoneMatchesLaw
 none_matches net keys sets flows table rows who d regs s h none f among m =
-    let own = held net keys sets flows table rows who d regs s h f among m in
+    let own = held net keys sets flows table rows who d regs s (in_range h) f among m in
     none own.row own.is_row own.holds_here

@@ -30,7 +30,7 @@ use Rattle.net_model.specs.Sights.{Sight, Roster, is_live_one, is_port_of, port_
 use Rattle.tunnel_keys.specs.Keys.{Keys, IsKeys}
 use Rattle.tunnel_keys.specs.declared.owner.Identity.{Identity}
 use Rattle.row_laws.proofs.lowered.PortKeys.{key_test}
-use Rattle.row_laws.specs.Numbers.{HasNumbers}
+use Rattle.row_laws.specs.Numbers.{HasNumbersInRange}
 
 -- a port field takes no number
 no_number : (g : Field) (n m : ℕ) → is_port_field g ≡ true → suits g (v.Number n m) ≡ true → ⊥
@@ -43,7 +43,7 @@ zipped (x ∷ xs) (y ∷ ys) (zips_more _ _ _ _ e z) = λ i. e i ∷ zipped xs y
 zipped [] (y ∷ ys) z = elim z [ ]
 zipped (x ∷ xs) [] z = elim z [ ]
 
-module _ (keys : Keys) (hold : IsKeys keys) (sets : Sets) (who : Roster) (d : Name) (regs : Regs) (s : Sight) (h : HasNumbers keys sets who d regs s) where
+module _ (keys : Keys) (hold : IsKeys keys) (sets : Sets) (who : Roster) (d : Name) (regs : Regs) (s : Sight) (h : HasNumbersInRange keys sets who d regs s) where
   abbrev here : Setting
   here = setting_on keys sets d
 

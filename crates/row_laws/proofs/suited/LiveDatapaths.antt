@@ -41,7 +41,7 @@ use Rattle.row_laws.proofs.units.RowUnits.{in_some}
 use Rattle.row_laws.specs.CanLower.{CanLowerLaw}
 
 -- the datapath is one of the records
-data IsThere (net : Network) (d : Name) : Type 0 where
+pub data IsThere (net : Network) (d : Name) : Type 0 where
   as_switch : (x : Switch) → at net.switches d ≡ Some x → IsThere net d
   as_router : (x : Router) → at net.routers d ≡ Some x → IsThere net d
 
@@ -203,7 +203,7 @@ module _ (net : Network) (valid : IsValid net) where
       by {b = b} None is h = absurd (none-some b h)
       by (Some x) is h = as_router x is
 
-  there : (r : LFlow) (d : Name) → IsPair net r d → IsThere net d
+  pub there : (r : LFlow) (d : Name) → IsPair net r d → IsThere net d
   there r d pair =
       let m = flat_map_among (λ s. rows_in s net pair.origin) r all_stages pair.among in
       unit_there r m.0 pair.origin d pair.there pair.on m.2
