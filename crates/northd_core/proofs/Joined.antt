@@ -119,3 +119,7 @@ units_joined net gate start ports rules all one two three u (inr m) = elim (amon
 -- one more of those that are left
 pub one_more : {X : Type 0} (done : List X) (x : X) (left all : List X) → done ++ x ∷ left ≡ all → (done ++ x ∷ []) ++ left ≡ all
 one_more done x left all h = append_assoc done (x ∷ []) left ∙ h
+
+-- the lists of what is left, once those of one more are made
+pub one_more_list : {X Y : Type 0} (lists : X → List Y) (made now : List Y) (x : X) (rest left : List X) (all : List Y) → now ≡ made ++ lists x → left ≡ x ∷ rest → made ++ flat_map lists left ≡ all → now ++ flat_map lists rest ≡ all
+one_more_list lists made now x rest left all is first h = ap (λ ys. ys ++ flat_map lists rest) is ∙ append_assoc made (lists x) (flat_map lists rest) ∙ ap (λ xs. made ++ flat_map lists xs) (sym first) ∙ h

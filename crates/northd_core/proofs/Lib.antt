@@ -1,6 +1,8 @@
 -- Lemmas.
 pub mod Counted
 pub mod Joined
+pub mod LoweredRows
+pub mod LoweredStores
 pub mod NorthPlans
 pub mod Pairs
 pub mod RowUnits

@@ -25,7 +25,7 @@ use Rattle.northd_core.proofs.Stores as stores
 
 -- ---- the empty network
 
-no_rows : (u : UnitId) → rows_of empty_network u ≡ []
+pub no_rows : (u : UnitId) → rows_of empty_network u ≡ []
 no_rows (unit.Port q) = refl
 no_rows (unit.Rule r d) = refl
 no_rows (unit.Route r) = refl
@@ -46,7 +46,7 @@ no_pairs (unit.Switch d) = refl
 no_pairs (unit.Router d) = refl
 
 -- no unit has any in either
-none_held : {F : Type 0} (origins : List (UnitId × List F)) (has : UnitId → List F) → origins ≡ [] → ((u : UnitId) → has u ≡ []) → HaveSame (flows_of unit_order origins) has
+pub none_held : {F : Type 0} (origins : List (UnitId × List F)) (has : UnitId → List F) → origins ≡ [] → ((u : UnitId) → has u ≡ []) → HaveSame (flows_of unit_order origins) has
 none_held origins has none empty u f = (
   λ m. absurd (among_none f (subst (λ (es : List (UnitId × List _)). Among f (flows_of unit_order es u)) none m)),
   λ m. absurd (among_none f (subst (λ fs. Among f fs) (empty u) m)),
@@ -66,7 +66,7 @@ kept_stands exact_flow exact_pair old new flows pairs net stands = record {
 }
 
 -- a patch gives each unit the same, whatever leaves it what it has
-after_kept : {F : Type 0} (eq : F → F → Bool) (old new changes : List (UnitId × List F)) → IsKept eq unit_order old new → (u : UnitId) → flows_after unit_order new changes u ≡ flows_after unit_order old changes u
+pub after_kept : {F : Type 0} (eq : F → F → Bool) (old new changes : List (UnitId × List F)) → IsKept eq unit_order old new → (u : UnitId) → flows_after unit_order new changes u ≡ flows_after unit_order old changes u
 after_kept eq old new changes kept u = ap (λ fs. unwrap_or (lookup (is_at (unit_order u)) changes) fs) (kept.flows u)
 
 pub left_itself : (north : North) → IsLeft north north

@@ -3,3 +3,5 @@ pub mod Gate
 pub mod Listing
 pub mod Held
 pub mod Plans
+pub mod Lowering
+pub mod Awaited
