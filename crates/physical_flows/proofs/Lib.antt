@@ -1,4 +1,5 @@
 -- Lemmas.
+pub mod AroundSets
 pub mod BoundZones
 pub mod FlowSearch
 pub mod GroupMembers

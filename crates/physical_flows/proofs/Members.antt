@@ -29,7 +29,6 @@ use Rattle.net_model.specs.declared.crossing.Group.{Group}
 use Rattle.net_model.specs.declared.crossing.Group.TheVariants.{Flood, Unknown}
 use Rattle.physical_flows.specs.Homes.{is_home, is_at, is_group_member, members}
 use Rattle.physical_flows.specs.Numbers.{port_number}
-use Rattle.physical_flows.specs.Valid.{IsValid}
 use Rattle.physical_flows.specs.RecordKeys.{HaveKeys}
 use Rattle.physical_flows.specs.Stages.{Basis, zone_of, member_of, members_here, homes_of, has_unknown}
 use Rattle.physical_flows.specs.TableList.{ingress_rows, egress_rows, group_rows, is_record_in, group_among, here_among, bound_among, others_among, rows_among}
@@ -86,7 +85,7 @@ both_true false y e = absurd (false≢true e)
 true_both : (x y : Bool) → x ≡ true → y ≡ true → (x && y) ≡ true
 true_both x y e f = ap (λ b. b && y) e ∙ f
 
-module _ (b : Basis) (valid : IsValid b.net) (keys : HaveKeys b.net b.keys) (a : Name) where
+module _ (b : Basis) (sorted : IsByName b.net.switch_ports) (keys : HaveKeys b.net b.keys) (a : Name) where
   -- ---- the ports that have keys of the switch
 
   abbrev ports : List (Name × ℕ)
@@ -138,7 +137,7 @@ module _ (b : Basis) (valid : IsValid b.net) (keys : HaveKeys b.net b.keys) (a :
     member_found q m =
         let r = map_among (λ (e : Name × SwitchPort). e.0) q (filter of_group b.net.switch_ports) m in
         let f = filter_among of_group r.0 b.net.switch_ports r.1 in
-        let found : at b.net.switch_ports r.0.0 ≡ Some r.0.1 = among_at r.0.0 r.0.1 b.net.switch_ports valid.ports_sorted f.0 in
+        let found : at b.net.switch_ports r.0.0 ≡ Some r.0.1 = among_at r.0.0 r.0.1 b.net.switch_ports sorted f.0 in
         let both = both_true (same_name r.0.1.switch a) (is_group_member group r.0.1) f.1 in
         let own = keys.port_has r.0.0 r.0.1 found in
         let on = on_ports r.0.0 own.0 own.1 (own.3 ∙ (bytes_decides r.0.1.switch a).0 both.0) in
@@ -156,7 +155,7 @@ module _ (b : Basis) (valid : IsValid b.net) (keys : HaveKeys b.net b.keys) (a :
 
     pub members_are : members b.net a group ≡ keys_of (group_among b group ports)
     members_are =
-        one_order (members b.net a group) (keys_of (group_among b group ports)) (filter_sorted of_group b.net.switch_ports valid.ports_sorted)
+        one_order (members b.net a group) (keys_of (group_among b group ports)) (filter_sorted of_group b.net.switch_ports sorted)
         (filter_sorted (λ e. is_record_in group (at b.net.switch_ports e.0)) ports ports_sorted) member_found found_member
 
     -- as the flows of a chassis know them

@@ -3,17 +3,23 @@ use Rattle.std.specs.Prelude.{◌≡◌, ◌<◌, ◌^◌, ℕ, List, [], ◌∷
 use Rattle.std.specs.List.{AllByRecursion}
 use Rattle.std.proofs.Common.{sym, ap, ◌∙◌, subst, arith}
 use Rattle.std.proofs.lemmas.Bool.{false≢true}
+use mathlib.Core.Logic.{inl, inr}
+use Rattle.ovn_base.proofs.AmongLaws.{among_cases, among_none}
+use Rattle.ovn_base.specs.lists.Among.{here}
 use Rattle.ovn_base.specs.declared.name.Name.{Name}
 use Rattle.inet_packet.specs.declared.regs.Reg.{Reg}
 use Rattle.inet_packet.specs.declared.regs.Reg.TheVariants.{Dp, InPort, OutPort, ZIn, ZOut, Tracked, State, Blocked, Verdict, Arrived}
 use Rattle.flow_table.specs.declared.flow.Flow.{Flow}
 use Rattle.flow_table.specs.declared.flow.FlowOp.TheVariants.{Frame, Go}
+use Rattle.switch_engine.proofs.PlainTables.{plain_proper}
 use Rattle.switch_engine.specs.Proper.{width, CanBeSet}
 use Rattle.switch_engine.specs.PlainProper.{Rises, IsProperFlow, IsProper}
 use Rattle.conn_zones.specs.Zoning.{Zoned}
 use Rattle.nb_records.specs.declared.switch.SwitchPort.{SwitchPort}
 use Rattle.physical_flows.specs.Rows.{entry_row, arrival_row, pass_row, bad_source_row, vlan_row, flood_row, address_row, unknown_ops, unknown_row, remote_row, spread_row, stay_row, home_row, copies_row, return_row, leave_row, output_row}
 use Rattle.net_model.specs.State as state
+use Rattle.physical_flows.specs.Around.{AroundFlow}
+use Rattle.physical_flows.specs.AroundLaws.{AroundProperLaw}
 use Rattle.physical_flows.specs.RecordKeys.{HaveKeys}
 use Rattle.physical_flows.specs.Bindings.{AreBound}
 use Rattle.physical_flows.specs.ChassisFlows.{AreExactly, basis_at}
@@ -103,6 +109,13 @@ module _ (m : state.State) (zones : Zoned) (c : Name) (keys : HaveKeys m.config.
       row_proper f leave_row e
       (can_be_set Tracked 0 refl (omega arith), (can_be_set State 0 refl (omega arith), (can_be_set Blocked 0 refl (omega arith), (can_be_set Verdict 0 refl (omega arith), (omega arith, tt)))))
 
+  around_flow_proper : AroundFlow b f → IsProperFlow f
+  around_flow_proper (AroundFlow.in_entry r) = entry_proper r
+  around_flow_proper (AroundFlow.in_remote r) = remote_proper r
+  around_flow_proper (AroundFlow.in_home r) = home_proper r
+  around_flow_proper (AroundFlow.in_back r) = back_proper r
+  around_flow_proper (AroundFlow.in_output (OutputRow.output q port dp key of e)) = row_proper f (output_row dp q key) e (tt, tt)
+
   pub flow_proper : TableFlow b f → IsProperFlow f
   flow_proper (TableFlow.in_entry r) = entry_proper r
   flow_proper (TableFlow.in_s_admit r) = admit_proper r
@@ -124,3 +137,13 @@ module _ (m : state.State) (zones : Zoned) (c : Name) (keys : HaveKeys m.config.
 -- each number lies within its register, and each flow goes on at later tables
 pub proper : (m : state.State) (zones : Zoned) (flows : List Flow) (c : Name) → HaveKeys m.config.net m.keys → AreBound m.config zones → AreExactly (TableFlow (basis_at m zones.numbers c)) flows → IsProper flows
 proper m zones flows c keys bound exact f among = flow_proper m zones c keys bound f ((exact.same f).0 among)
+
+-- those around the pipelines are proper too, where others need not be plain
+pub around_proper : AroundProperLaw
+around_proper m zones c keys bound f r = (plain_proper (f ∷ []) own).0 f here
+  where
+    own : IsProper (f ∷ [])
+    own g among = elim (among_cases g f [] among) [
+      | inl same ↦ subst IsProperFlow (sym same) (around_flow_proper m zones c keys bound f r)
+      | inr none ↦ absurd (among_none g none)
+    ]

@@ -19,6 +19,7 @@ use Rattle.ovn_base.proofs.AmongLaws.{among_same, map_among, filter_among}
 use Rattle.ovn_base.proofs.ByNameLaws.{among_at, put_other}
 use Rattle.ovn_base.proofs.SameEntries.{same_found}
 use Rattle.conn_zones.specs.Zoning.{GivenNumbers}
+use Rattle.flow_table.specs.declared.flow.Flow.{Flow}
 use Rattle.nb_records.specs.Network.{Network}
 use Rattle.nb_records.specs.declared.switch.SwitchPort.{SwitchPort}
 use Rattle.tunnel_keys.specs.Keys.{Keys}
@@ -26,11 +27,13 @@ use Rattle.tunnel_keys.proofs.Lists.{at_filter, filter_at, filter_sorted}
 use Rattle.net_model.specs.declared.crossing.Group.{Group}
 use Rattle.physical_flows.specs.declared.unit.FlowUnit.{FlowUnit}
 use Rattle.physical_flows.specs.declared.unit.FlowUnit.TheVariants as unit
+use Rattle.physical_flows.specs.Around.{around_rows}
 use Rattle.physical_flows.specs.Homes.{is_home, is_at, is_group_member, members}
-use Rattle.physical_flows.specs.Numbers.{datapath_number, port_number}
 use Rattle.physical_flows.specs.Stages.{Basis, zone_of}
+use Rattle.physical_flows.specs.Touching as touching
+use Rattle.physical_flows.specs.Touching.{BindTouches, ChassisTouches, EditTouches}
 use Rattle.physical_flows.specs.Units.{unit_rows, ChangeOnly}
-use Rattle.physical_flows.proofs.UnitReads.{IsSameMember, only_these}
+use Rattle.physical_flows.proofs.UnitReads.{AreReadSo, IsSameMember, all_read_so, around_read_so, only_these}
 
 -- ---- tests
 
@@ -74,7 +77,7 @@ not_port_of s q p out e = out (there (among_same (unit.Port p) (unit.Port q) [] 
 
 -- ---- a port is bound
 
-module _ (before : Basis) (q home : Name) (port : SwitchPort) (zones : GivenNumbers) where
+module _ (rows : Basis → FlowUnit → List Flow) (read : AreReadSo rows) (before : Basis) (q home : Name) (port : SwitchPort) (zones : GivenNumbers) where
   abbrev bound : Basis
   bound = record before { bindings = put before.bindings q home; zones = zones }
 
@@ -88,9 +91,9 @@ module _ (before : Basis) (q home : Name) (port : SwitchPort) (zones : GivenNumb
         let one = same_Some on.0 port (sym on.1 ∙ ap (λ n. at before.net.switch_ports n) same ∙ found) in
         apart (sym on.2 ∙ ap (λ (r : SwitchPort). r.switch) one)
 
-    bound_touches : ChangeOnly (unit.Switch port.switch ∷ unit.Port q ∷ []) (unit_rows before) (unit_rows bound)
+    bound_touches : ChangeOnly (unit.Switch port.switch ∷ unit.Port q ∷ []) (rows before) (rows bound)
     bound_touches =
-        only_these before bound (unit.Switch port.switch ∷ unit.Port q ∷ [])
+        only_these rows read before bound (unit.Switch port.switch ∷ unit.Port q ∷ [])
         (λ a out. record {
           chassis = refl;
           entry = refl;
@@ -102,12 +105,16 @@ module _ (before : Basis) (q home : Name) (port : SwitchPort) (zones : GivenNumb
         (λ p out. record { chassis = refl; entry = refl; beneath = λ r is. refl; own = bound_member p (not_port_of port.switch q p out) })
 
 -- a port that is bound changes its own rows and those of its switch, on each chassis
-pub bind_touches : (before after : Basis) (q home : Name) (port : SwitchPort) (zones : GivenNumbers) → after ≡ record before { bindings = put before.bindings q home; zones = zones }
-    → at before.net.switch_ports q ≡ Some port → IsByName before.net.switch_ports → ((p : Name) → p ≢ q → zone_of after p ≡ zone_of before p)
-    → ChangeOnly (unit.Switch port.switch ∷ unit.Port q ∷ []) (unit_rows before) (unit_rows after)
-bind_touches before after q home port zones is found sorted others =
-    subst (λ b. ((p : Name) → p ≢ q → zone_of b p ≡ zone_of before p) → ChangeOnly (unit.Switch port.switch ∷ unit.Port q ∷ []) (unit_rows before) (unit_rows b)) (sym is)
-    (λ kept. bound_touches before q home port zones found sorted kept) others
+binds : (rows : Basis → FlowUnit → List Flow) → AreReadSo rows → BindTouches rows
+binds rows read before after q home port zones is found sorted others =
+    subst (λ b. ((p : Name) → p ≢ q → zone_of b p ≡ zone_of before p) → ChangeOnly (unit.Switch port.switch ∷ unit.Port q ∷ []) (rows before) (rows b)) (sym is)
+    (λ kept. bound_touches rows read before q home port zones found sorted kept) others
+
+pub bind_touches : BindTouches unit_rows
+bind_touches = binds unit_rows all_read_so
+
+pub around_bind : BindTouches around_rows
+around_bind = binds around_rows around_read_so
 
 -- ---- a chassis is added
 
@@ -129,7 +136,7 @@ none_bound bindings all c homes new q = by (at bindings q) refl
     by None is = refl
     by (Some home) is = other_names home c (λ same. new (subst (λ n. Among n all) same (homes q home is)))
 
-module _ (before : Basis) (c : Name) where
+module _ (rows : Basis → FlowUnit → List Flow) (read : AreReadSo rows) (before : Basis) (c : Name) where
   abbrev with_chassis : Basis
   with_chassis = record before { all = insert_key (slice_cmp nat_cmp) before.all c }
 
@@ -145,9 +152,9 @@ module _ (before : Basis) (c : Name) where
     chassis_member : (q : Name) → IsSameMember before with_chassis q
     chassis_member q = record { number = refl; home = refl; zone = refl }
 
-    with_chassis_touches : ChangeOnly [] (unit_rows before) (unit_rows with_chassis)
+    with_chassis_touches : ChangeOnly [] (rows before) (rows with_chassis)
     with_chassis_touches =
-        only_these before with_chassis []
+        only_these rows read before with_chassis []
         (λ a out. record {
           chassis = refl;
           entry = refl;
@@ -159,24 +166,22 @@ module _ (before : Basis) (c : Name) where
         (λ q out. record { chassis = refl; entry = refl; beneath = λ r is. refl; own = chassis_member q })
 
 -- a chassis that is added changes no rows on the others: nobody is at home there yet
-pub chassis_touches : (before after : Basis) (c : Name) → after ≡ record before { all = insert_key (slice_cmp nat_cmp) before.all c } → (¬ Among c before.all)
-    → ((q home : Name) → at before.bindings q ≡ Some home → Among home before.all) → ChangeOnly [] (unit_rows before) (unit_rows after)
-chassis_touches before after c is new homes = subst (λ b. ChangeOnly [] (unit_rows before) (unit_rows b)) (sym is) (with_chassis_touches before c new homes)
+comes : (rows : Basis → FlowUnit → List Flow) → AreReadSo rows → ChassisTouches rows
+comes rows read before after c is new homes = subst (λ b. ChangeOnly [] (rows before) (rows b)) (sym is) (with_chassis_touches rows read before c new homes)
+
+pub chassis_touches : ChassisTouches unit_rows
+chassis_touches = comes unit_rows all_read_so
+
+pub around_chassis : ChassisTouches around_rows
+around_chassis = comes around_rows around_read_so
 
 -- ---- records are edited
 
--- the records of the switches and ports that aren't among the units stay, and so do the numbers of their keys
-pub record IsSameBeside (units : List FlowUnit) (net next : Network) (keys keys_after : Keys) : Type 0 where
-  pub switches : (a : Name) → ¬ Among (unit.Switch a) units → at next.switches a ≡ at net.switches a
-  pub datapaths : (a : Name) → ¬ Among (unit.Switch a) units → datapath_number keys_after a ≡ datapath_number keys a
-  pub ports : (q : Name) → ¬ Among (unit.Port q) units → at next.switch_ports q ≡ at net.switch_ports q
-  pub numbers : (q : Name) → ¬ Among (unit.Port q) units → port_number keys_after q ≡ port_number keys q
-  -- the switch of a port that stays keeps its key
-  pub beneath : (q : Name) (port : SwitchPort) → ¬ Among (unit.Port q) units → at net.switch_ports q ≡ Some port → datapath_number keys_after port.switch ≡ datapath_number keys port.switch
-  -- with a port go the switches that it was on and is on
-  pub on : (q : Name) (port : SwitchPort) → Among (unit.Port q) units → (at net.switch_ports q ≡ Some port) ⊎ (at next.switch_ports q ≡ Some port) → Among (unit.Switch port.switch) units
+-- as it is told in specs, under the name by which callers know it
+abbrev pub IsSameBeside : List FlowUnit → Network → Network → Keys → Keys → Type 0
+IsSameBeside units net next keys keys_after = touching.IsSameBeside units net next keys keys_after
 
-module _ (before : Basis) (units : List FlowUnit) (next : Network) (keys : Keys) where
+module _ (rows : Basis → FlowUnit → List Flow) (read : AreReadSo rows) (before : Basis) (units : List FlowUnit) (next : Network) (keys : Keys) where
   abbrev edited : Basis
   edited = record before { net = next; keys = keys }
 
@@ -216,9 +221,9 @@ module _ (before : Basis) (units : List FlowUnit) (next : Network) (keys : Keys)
         each_kept : (q : Name) → Among q (members before.net a group) → IsSameMember before edited q
         each_kept q m = let on = member_on before.net sorted a group q m in port_kept q (untouched q on.0 (inl on.1) on.2)
 
-    edited_touches : ChangeOnly units (unit_rows before) (unit_rows edited)
+    edited_touches : ChangeOnly units (rows before) (rows edited)
     edited_touches =
-        only_these before edited units
+        only_these rows read before edited units
         (λ a out. record {
           chassis = refl;
           entry = ap (λ o. is_some o) (same.switches a out);
@@ -230,7 +235,12 @@ module _ (before : Basis) (units : List FlowUnit) (next : Network) (keys : Keys)
         (λ q out. record { chassis = refl; entry = same.ports q out; beneath = λ port is. same.beneath q port out is; own = port_kept q out })
 
 -- an edit of any records changes the rows of those units alone beside which all stays
-pub edit_touches : (before after : Basis) (units : List FlowUnit) (next : Network) (keys : Keys) → after ≡ record before { net = next; keys = keys }
-    → IsByName before.net.switch_ports → IsByName next.switch_ports → IsSameBeside units before.net next before.keys keys → ChangeOnly units (unit_rows before) (unit_rows after)
-edit_touches before after units next keys is sorted sorted_after same =
-    subst (λ b. ChangeOnly units (unit_rows before) (unit_rows b)) (sym is) (edited_touches before units next keys sorted sorted_after same)
+edits : (rows : Basis → FlowUnit → List Flow) → AreReadSo rows → EditTouches rows
+edits rows read before after units next keys is sorted sorted_after same =
+    subst (λ b. ChangeOnly units (rows before) (rows b)) (sym is) (edited_touches rows read before units next keys sorted sorted_after same)
+
+pub edit_touches : EditTouches unit_rows
+edit_touches = edits unit_rows all_read_so
+
+pub around_edit : EditTouches around_rows
+around_edit = edits around_rows around_read_so

@@ -30,11 +30,12 @@ use Rattle.net_model.specs.declared.crossing.Group.{Group}
 use Rattle.net_model.specs.declared.crossing.Group.TheVariants.{Flood, Unknown}
 use Rattle.physical_flows.specs.declared.unit.FlowUnit.{FlowUnit}
 use Rattle.physical_flows.specs.declared.unit.FlowUnit.TheVariants as unit
+use Rattle.physical_flows.specs.Around.{keyed_around, port_around, around_everywhere, around_rows}
 use Rattle.physical_flows.specs.Homes.{is_home, is_at, members, other_homes}
 use Rattle.physical_flows.specs.Numbers.{datapath_number, port_number}
-use Rattle.physical_flows.specs.Stages.{Basis, zone_of, member_of, members_here, homes_of, has_unknown}
+use Rattle.physical_flows.specs.Stages.{Basis, zone_of, member_of, members_here, homes_of}
 use Rattle.physical_flows.specs.TableList.{ingress_rows, egress_rows, group_rows, bound_rows}
-use Rattle.physical_flows.specs.Units.{switch_everywhere, switch_here, keyed_everywhere, keyed_here, port_everywhere, port_here, unit_rows, ChangeOnly}
+use Rattle.physical_flows.specs.Units.{switch_everywhere, switch_here, keyed_everywhere, keyed_here, port_everywhere, port_here, rows_everywhere, rows_here, unit_rows, ChangeOnly}
 use Rattle.physical_flows.proofs.FlowSearch.{is_some_of}
 
 -- ---- lists
@@ -82,6 +83,12 @@ pub record IsSameSwitch (before after : Basis) (a : Name) : Type 0 where
   pub each : (group : Group) (q : Name) → Among q (members before.net a group) → IsSameMember before after q
   pub homes : (group : Group) → other_homes before.net before.bindings after.all a group before.chassis ≡ homes_of before a group
 
+-- rows of units that follow from this alone
+pub record AreReadSo (rows : Basis → FlowUnit → List Flow) : Type 0 where
+  pub common : (before after : Basis) → rows after unit.Common ≡ rows before unit.Common
+  pub switch : (before after : Basis) (a : Name) → IsSameSwitch before after a → rows after (unit.Switch a) ≡ rows before (unit.Switch a)
+  pub port : (before after : Basis) (q : Name) → IsSamePort before after q → rows after (unit.Port q) ≡ rows before (unit.Port q)
+
 -- ---- ports
 
 module _ (before after : Basis) (q : Name) (same : IsSamePort before after q) where
@@ -94,19 +101,29 @@ module _ (before after : Basis) (q : Name) (same : IsSamePort before after q) wh
       let zone = same.own.zone in
       λ i. bound_rows (chassis i) (home i) (zone i) dp q key
 
-  abbrev rows_of : Basis → Option SwitchPort → List Flow
-  rows_of b o = port_everywhere b q o ++ port_here b q o
-
-  entry_same : (o : Option SwitchPort) → at before.net.switch_ports q ≡ o → rows_of after o ≡ rows_of before o
-  entry_same None is = refl
-  entry_same (Some port) is =
+  here_same : (o : Option SwitchPort) → at before.net.switch_ports q ≡ o → port_here after q o ≡ port_here before q o
+  here_same None is = refl
+  here_same (Some port) is =
       let dp = same.beneath port is in
       let key = same.own.number in
-      (λ i. keyed_everywhere q port (dp i) (key i) ++ keyed_here after q (dp i) (key i))
-      ∙ ap (λ rows. keyed_everywhere q port (datapath_number before.keys port.switch) (port_number before.keys q) ++ rows) (keyed_same (datapath_number before.keys port.switch) (port_number before.keys q))
+      (λ i. keyed_here after q (dp i) (key i)) ∙ keyed_same (datapath_number before.keys port.switch) (port_number before.keys q)
 
-  pub port_same : unit_rows after (unit.Port q) ≡ unit_rows before (unit.Port q)
-  port_same = ap (λ o. rows_of after o) same.entry ∙ entry_same (at before.net.switch_ports q) refl
+  port_here_same : rows_here after (unit.Port q) ≡ rows_here before (unit.Port q)
+  port_here_same = ap (λ o. port_here after q o) same.entry ∙ here_same (at before.net.switch_ports q) refl
+
+  everywhere_same : (o : Option SwitchPort) → at before.net.switch_ports q ≡ o → port_everywhere after q o ≡ port_everywhere before q o
+  everywhere_same None is = refl
+  everywhere_same (Some port) is = let dp = same.beneath port is in let key = same.own.number in λ i. keyed_everywhere q port (dp i) (key i)
+
+  port_everywhere_same : rows_everywhere after (unit.Port q) ≡ rows_everywhere before (unit.Port q)
+  port_everywhere_same = ap (λ o. port_everywhere after q o) same.entry ∙ everywhere_same (at before.net.switch_ports q) refl
+
+  around_same : (o : Option SwitchPort) → at before.net.switch_ports q ≡ o → port_around after q o ≡ port_around before q o
+  around_same None is = refl
+  around_same (Some port) is = let dp = same.beneath port is in let key = same.own.number in λ i. keyed_around q (dp i) (key i)
+
+  port_around_same : around_everywhere after (unit.Port q) ≡ around_everywhere before (unit.Port q)
+  port_around_same = ap (λ o. port_around after q o) same.entry ∙ around_same (at before.net.switch_ports q) refl
 
 -- ---- switches
 
@@ -132,34 +149,54 @@ module _ (before after : Basis) (a : Name) (same : IsSameSwitch before after a) 
     groups_same : (dp : ℕ) → group_rows dp group (homes_of after a group) (members_here after a group) ≡ group_rows dp group (homes_of before a group) (members_here before a group)
     groups_same dp = λ i. group_rows dp group (homes_same i) (members_same i)
 
-  abbrev switch_rows_of : Basis → Option Switch → Option ℕ → List Flow
-  switch_rows_of b o number = switch_everywhere b a o number ++ switch_here b a o number
+  all_same : (o p : Option Switch) (number : Option ℕ) → is_some o ≡ is_some p → switch_everywhere after a o number ≡ switch_everywhere before a p number
+  all_same None None number e = refl
+  all_same None (Some p) number e = absurd (false≢true e)
+  all_same (Some o) None number e = absurd (false≢true (sym e))
+  all_same (Some o) (Some p) None e = refl
+  all_same (Some o) (Some p) (Some dp) e = ap (λ ms. ingress_rows dp (nat_lt 0 (length ms)) ++ egress_rows dp) (same.in_group Unknown)
 
-  switches_same : (o p : Option Switch) (number : Option ℕ) → is_some o ≡ is_some p → switch_rows_of after o number ≡ switch_rows_of before p number
-  switches_same None None number e = refl
-  switches_same None (Some p) number e = absurd (false≢true e)
-  switches_same (Some o) None number e = absurd (false≢true (sym e))
-  switches_same (Some o) (Some p) None e = refl
-  switches_same (Some o) (Some p) (Some dp) e =
-      let taken : has_unknown after a ≡ has_unknown before a = ap (λ ms. nat_lt 0 (length ms)) (same.in_group Unknown) in
-      λ i. (ingress_rows dp (taken i) ++ egress_rows dp) ++ groups_same Flood dp i ++ groups_same Unknown dp i
+  switch_everywhere_same : rows_everywhere after (unit.Switch a) ≡ rows_everywhere before (unit.Switch a)
+  switch_everywhere_same =
+      ap (λ n. switch_everywhere after a (at after.net.switches a) n) same.number ∙ all_same (at after.net.switches a) (at before.net.switches a) (datapath_number before.keys a) same.entry
 
-  pub switch_same : unit_rows after (unit.Switch a) ≡ unit_rows before (unit.Switch a)
-  switch_same =
-      ap (λ n. switch_rows_of after (at after.net.switches a) n) same.number
-      ∙ switches_same (at after.net.switches a) (at before.net.switches a) (datapath_number before.keys a) same.entry
+  own_same : (o p : Option Switch) (number : Option ℕ) → is_some o ≡ is_some p → switch_here after a o number ≡ switch_here before a p number
+  own_same None None number e = refl
+  own_same None (Some p) number e = absurd (false≢true e)
+  own_same (Some o) None number e = absurd (false≢true (sym e))
+  own_same (Some o) (Some p) None e = refl
+  own_same (Some o) (Some p) (Some dp) e = λ i. groups_same Flood dp i ++ groups_same Unknown dp i
+
+  switch_here_same : rows_here after (unit.Switch a) ≡ rows_here before (unit.Switch a)
+  switch_here_same = ap (λ n. switch_here after a (at after.net.switches a) n) same.number ∙ own_same (at after.net.switches a) (at before.net.switches a) (datapath_number before.keys a) same.entry
 
 -- ---- all units
 
+-- all rows of a unit
+pub all_read_so : AreReadSo unit_rows
+all_read_so = record {
+  common = λ before after. refl;
+  switch = λ before after a same. let all = switch_everywhere_same before after a same in let own = switch_here_same before after a same in λ i. all i ++ own i;
+  port = λ before after q same. let all = port_everywhere_same before after q same in let own = port_here_same before after q same in λ i. all i ++ own i;
+}
+
+-- and those around the pipelines
+pub around_read_so : AreReadSo around_rows
+around_read_so = record {
+  common = λ before after. refl;
+  switch = λ before after a same. switch_here_same before after a same;
+  port = λ before after q same. let all = port_around_same before after q same in let own = port_here_same before after q same in λ i. all i ++ own i;
+}
+
 -- it is enough that this stays so for the switches and the ports that aren't among the units
-pub only_these : (before after : Basis) (units : List FlowUnit) → ((a : Name) → (¬ Among (unit.Switch a) units) → IsSameSwitch before after a)
-    → ((q : Name) → (¬ Among (unit.Port q) units) → IsSamePort before after q) → ChangeOnly units (unit_rows before) (unit_rows after)
-only_these before after units switches ports = λ u out. by u out
+pub only_these : (rows : Basis → FlowUnit → List Flow) → AreReadSo rows → (before after : Basis) (units : List FlowUnit) → ((a : Name) → (¬ Among (unit.Switch a) units) → IsSameSwitch before after a)
+    → ((q : Name) → (¬ Among (unit.Port q) units) → IsSamePort before after q) → ChangeOnly units (rows before) (rows after)
+only_these rows read before after units switches ports = λ u out. by u out
   where
-    by : (u : FlowUnit) → (¬ Among u units) → unit_rows after u ≡ unit_rows before u
-    by unit.Common out = refl
-    by (unit.Switch a) out = switch_same before after a (switches a out)
-    by (unit.Port q) out = port_same before after q (ports q out)
+    by : (u : FlowUnit) → (¬ Among u units) → rows after u ≡ rows before u
+    by unit.Common out = read.common before after
+    by (unit.Switch a) out = read.switch before after a (switches a out)
+    by (unit.Port q) out = read.port before after q (ports q out)
 
 -- ---- the numbers of zones, where a port is bound
 

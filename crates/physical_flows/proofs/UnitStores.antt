@@ -5,7 +5,6 @@ use mathlib.Core.Logic.{inl, inr}
 use Rattle.std.proofs.lemmas.Bool.{false≢true}
 use Rattle.std.proofs.lemmas.List.{append-nil}
 use Rattle.std.specs.BTreeMap.{is_at}
-use Rattle.std.specs.List.{AllByRecursion}
 use Rattle.std.specs.Map.{keys_of, lookup}
 use Rattle.std.specs.Set.{is_member}
 use Rattle.ovn_base.specs.declared.delta.Delta.{Delta}
@@ -18,18 +17,18 @@ use Rattle.flow_refs.proofs.ForCallers.{held_among, comes_among, goes_among, onc
 use Rattle.flow_table.specs.declared.flow.Flow.{Flow}
 use Rattle.physical_flows.specs.declared.unit.FlowUnit.{FlowUnit}
 use Rattle.physical_flows.specs.Stages.{Basis}
-use Rattle.physical_flows.specs.UnitFlows.{UnitStore, HaveRows, IsRowChange, IsTablePatch, StayPrepared, rows_held, same_flow, unit_order}
-use Rattle.physical_flows.specs.Units.{rows_everywhere, rows_here, unit_rows, HasRow, ChangeOnly}
+use Rattle.physical_flows.specs.UnitFlows.{UnitStore, AreGiven, HaveRows, IsRowChange, IsTablePatch, StayPrepared, rows_held, same_flow, unit_order}
+use Rattle.physical_flows.specs.Units.{rows_here, HasRow, ChangeOnly}
 
--- units with all their rows, by those that they have on every chassis
+-- units with all their rows, by those that are given
 abbrev pub rows_given : Basis → List (FlowUnit × List Flow) → List (FlowUnit × List Flow)
-rows_given b everywhere = map (λ e. (e.0, e.1 ++ rows_here b e.0)) everywhere
+rows_given b given = map (λ e. (e.0, e.1 ++ rows_here b e.0)) given
 
 -- ---- the units that are given rows
 
 -- those of which the rows are made, when none are left
-pub all_given : (b : Basis) (changes everywhere left : List (FlowUnit × List Flow)) → changes ++ rows_given b left ≡ rows_given b everywhere → left ≡ [] → changes ≡ rows_given b everywhere
-all_given b changes everywhere left so_far none = sym (append-nil changes) ∙ ap (λ es. changes ++ rows_given b es) (sym none) ∙ so_far
+pub all_given : (b : Basis) (changes given left : List (FlowUnit × List Flow)) → changes ++ rows_given b left ≡ rows_given b given → left ≡ [] → changes ≡ rows_given b given
+all_given b changes given left so_far none = sym (append-nil changes) ∙ ap (λ es. changes ++ rows_given b es) (sym none) ∙ so_far
 
 module _ (exact : (u v : FlowUnit) → (is_at (unit_order u) v ≡ true) ↔ (u ≡ v)) (b : Basis) where
   keys_given : (es : List (FlowUnit × List Flow)) → keys_of (rows_given b es) ≡ keys_of es
@@ -40,21 +39,21 @@ module _ (exact : (u v : FlowUnit) → (is_at (unit_order u) v ≡ true) ↔ (u 
   pub given_once : (es : List (FlowUnit × List Flow)) → EachOnce (keys_of es) → IsEachOnce unit_order (rows_given b es)
   given_once es once = is_each_once unit_order (λ u v. (exact u v).0) (rows_given b es) (subst (λ (us : List FlowUnit). EachOnce us) (sym (keys_given es)) once)
 
-module _ (exact : (u v : FlowUnit) → (is_at (unit_order u) v ≡ true) ↔ (u ≡ v)) (b : Basis) (held : List (FlowUnit × List Flow)) where
+module _ (exact : (u v : FlowUnit) → (is_at (unit_order u) v ≡ true) ↔ (u ≡ v)) (b : Basis) (held : List (FlowUnit × List Flow)) (rows : FlowUnit → List Flow) where
   -- the flows of a unit after the changes, by whether it is the first of them
   abbrev after_first : (e : FlowUnit × List Flow) → List (FlowUnit × List Flow) → FlowUnit → Bool → List Flow
   after_first e es u same = unwrap_or (cond same (Some (e.1 ++ rows_here b e.0)) (lookup (is_at (unit_order u)) (rows_given b es))) (flows_of unit_order held u)
 
   -- a unit is given its rows, or else keeps what it has
-  given_or_kept : (es : List (FlowUnit × List Flow)) → AllByRecursion (λ e. e.1 ≡ rows_everywhere b e.0) es → (u : FlowUnit)
-      → (flows_after unit_order held (rows_given b es) u ≡ unit_rows b u) ⊎ ((¬ Among u (keys_of es)) × (flows_after unit_order held (rows_given b es) u ≡ flows_of unit_order held u))
+  given_or_kept : (es : List (FlowUnit × List Flow)) → AreGiven b rows es → (u : FlowUnit)
+      → (flows_after unit_order held (rows_given b es) u ≡ rows u) ⊎ ((¬ Among u (keys_of es)) × (flows_after unit_order held (rows_given b es) u ≡ flows_of unit_order held u))
   given_or_kept [] all u = inr (λ m. among_none u m, refl)
   given_or_kept (e ∷ es) all u = by (is_at (unit_order u) e.0) (exact u e.0) (given_or_kept es all.1 u)
     where
       by : (same : Bool) → (same ≡ true) ↔ (u ≡ e.0)
-          → (flows_after unit_order held (rows_given b es) u ≡ unit_rows b u) ⊎ ((¬ Among u (keys_of es)) × (flows_after unit_order held (rows_given b es) u ≡ flows_of unit_order held u))
-          → (after_first e es u same ≡ unit_rows b u) ⊎ ((¬ Among u (e.0 ∷ keys_of es)) × (after_first e es u same ≡ flows_of unit_order held u))
-      by true same rest = inl (ap (λ rows. rows ++ rows_here b e.0) all.0 ∙ ap (λ v. unit_rows b v) (sym (same.0 refl)))
+          → (flows_after unit_order held (rows_given b es) u ≡ rows u) ⊎ ((¬ Among u (keys_of es)) × (flows_after unit_order held (rows_given b es) u ≡ flows_of unit_order held u))
+          → (after_first e es u same ≡ rows u) ⊎ ((¬ Among u (e.0 ∷ keys_of es)) × (after_first e es u same ≡ flows_of unit_order held u))
+      by true same rest = inl (sym all.0 ∙ ap rows (sym (same.0 refl)))
       by false other rest = elim rest [
         | inl given ↦ inl given
         | inr kept ↦ inr (λ m. elim (among_cases u e.0 (keys_of es) m) [ inl is ↦ false≢true (other.1 is) | inr later ↦ kept.0 later ], kept.1)
@@ -97,48 +96,45 @@ module _ (exact : (f g : Flow) → (same_flow f g ≡ true) ↔ (f ≡ g)) where
 
   -- ---- what is prepared
 
-  module _ (exact_unit : (u v : FlowUnit) → (is_at (unit_order u) v ≡ true) ↔ (u ≡ v)) (b : Basis) (everywhere given : List (FlowUnit × List Flow)) (old new : UnitStore) (patch : Prepared Flow FlowUnit)
-      (rows_are : AllByRecursion (λ e. e.1 ≡ rows_everywhere b e.0) everywhere) (is_given : given ≡ rows_given b everywhere) (prepared : IsPreparedFor same_flow unit_order new patch)
-      (same : AreSame same_flow given patch.changes) (kept : IsKept same_flow unit_order old.origins new.origins) where
-    abbrev after : FlowUnit → List Flow
-    after u = flows_after unit_order new.origins (rows_given b everywhere) u
+  module _ (exact_unit : (u v : FlowUnit) → (is_at (unit_order u) v ≡ true) ↔ (u ≡ v)) (b : Basis) (given changes : List (FlowUnit × List Flow)) (old new : UnitStore) (patch : Prepared Flow FlowUnit)
+      (are_changes : changes ≡ rows_given b given) (prepared : IsPreparedFor same_flow unit_order new patch) (same : AreSame same_flow changes patch.changes)
+      (kept : IsKept same_flow unit_order old.origins new.origins) (before rows : FlowUnit → List Flow) (had : HaveRows before (rows_held old)) (rows_are : AreGiven b rows given)
+      (only : ChangeOnly (keys_of given) before rows) where
+    abbrev made : FlowUnit → List Flow
+    made u = flows_after unit_order new.origins (rows_given b given) u
 
     -- each unit will have its rows
-    leads_to : (before : FlowUnit → List Flow) → HaveRows before (rows_held old) → ChangeOnly (keys_of everywhere) before (unit_rows b)
-        → HaveRows (unit_rows b) (flows_after unit_order new.origins patch.changes)
-    leads_to before had only u f = (λ m. rows.0 (members.0 m), λ m. members.1 (rows.1 m))
+    leads_to : HaveRows rows (flows_after unit_order new.origins patch.changes)
+    leads_to u f = (λ m. are.0 (members.0 m), λ m. members.1 (are.1 m))
       where
-        members : Among f (flows_after unit_order new.origins patch.changes u) ↔ Among f (after u)
+        members : Among f (flows_after unit_order new.origins patch.changes u) ↔ Among f (made u)
         members =
-            let both = given_alike same_flow unit_order new.origins given patch.changes same u f ∙ ap (λ (es : List (FlowUnit × List Flow)). is_member same_flow (flows_after unit_order new.origins es u) f) is_given in (
-              λ m. member_among same_flow same_only f (after u) (sym both ∙ among_member same_flow same_own f (flows_after unit_order new.origins patch.changes u) m),
-              λ m. member_among same_flow same_only f (flows_after unit_order new.origins patch.changes u) (both ∙ among_member same_flow same_own f (after u) m),
+            let both = given_alike same_flow unit_order new.origins changes patch.changes same u f ∙ ap (λ (es : List (FlowUnit × List Flow)). is_member same_flow (flows_after unit_order new.origins es u) f) are_changes in (
+              λ m. member_among same_flow same_only f (made u) (sym both ∙ among_member same_flow same_own f (flows_after unit_order new.origins patch.changes u) m),
+              λ m. member_among same_flow same_only f (flows_after unit_order new.origins patch.changes u) (both ∙ among_member same_flow same_own f (made u) m),
             )
 
-        rows : Among f (after u) ↔ Among f (unit_rows b u)
-        rows = elim (given_or_kept exact_unit b new.origins everywhere rows_are u) [
+        are : Among f (made u) ↔ Among f (rows u)
+        are = elim (given_or_kept exact_unit b new.origins rows given rows_are u) [
           | inl e ↦ (λ m. subst (λ fs. Among f fs) e m, λ m. subst (λ fs. Among f fs) (sym e) m)
           | inr k ↦
-              let stays : after u ≡ flows_of unit_order old.origins u = k.1 ∙ kept.flows u in
-              let unchanged : unit_rows b u ≡ before u = only u k.0 in (
+              let stays : made u ≡ flows_of unit_order old.origins u = k.1 ∙ kept.flows u in
+              let unchanged : rows u ≡ before u = only u k.0 in (
                 λ m. subst (λ fs. Among f fs) (sym unchanged) ((had u f).0 (subst (λ fs. Among f fs) stays m)),
                 λ m. subst (λ fs. Among f fs) (sym stays) ((had u f).1 (subst (λ fs. Among f fs) unchanged m)),
               )
         ]
 
-    still_had : (before : FlowUnit → List Flow) → HaveRows before (rows_held old) → HaveRows before (rows_held new)
-    still_had before had u f = (λ m. (had u f).0 (subst (λ fs. Among f fs) (kept.flows u) m), λ m. subst (λ fs. Among f fs) (sym (kept.flows u)) ((had u f).1 m))
+    still_had : HaveRows before (rows_held new)
+    still_had u f = (λ m. (had u f).0 (subst (λ fs. Among f fs) (kept.flows u) m), λ m. subst (λ fs. Among f fs) (sym (kept.flows u)) ((had u f).1 m))
 
-    -- the patch leads from the rows that are held to those of the basis
-    pub is_patch : (before : FlowUnit → List Flow) → HaveRows before (rows_held old) → ChangeOnly (keys_of everywhere) before (unit_rows b)
-        → IsTablePatch before (unit_rows b) new patch
-    is_patch before had only =
-        let leads = leads_to before had only in
-        record {
-          ready = prepared;
-          leads = leads;
-          change = row_change before (unit_rows b) (rows_held new) (flows_after unit_order new.origins patch.changes) patch.delta (still_had before had) leads prepared.delta;
-        }
+    -- the patch leads from the rows that are held to those that are given
+    pub is_patch : IsTablePatch before rows new patch
+    is_patch = record {
+      ready = prepared;
+      leads = leads_to;
+      change = row_change before rows (rows_held new) (flows_after unit_order new.origins patch.changes) patch.delta still_had leads_to prepared.delta;
+    }
 
 -- ---- what was prepared before
 

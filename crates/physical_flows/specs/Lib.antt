@@ -1,5 +1,7 @@
 -- Definitions that contracts cite.
 pub mod Addresses
+pub mod Around
+pub mod AroundLaws
 pub mod Bindings
 pub mod Built
 pub mod ChassisFlows
@@ -10,8 +12,10 @@ pub mod Numbers
 pub mod RecordKeys
 pub mod Rows
 pub mod Stages
+pub mod Switched
 pub mod TableList
 pub mod Tables
+pub mod Touching
 pub mod UnitFlows
 pub mod Units
 pub mod Valid

@@ -1,5 +1,6 @@
 -- The flows of a chassis as a counted store has them, unit by unit, and how they change.
-use Rattle.std.specs.Prelude.{◌↔◌, Bool, List}
+use Rattle.std.specs.Prelude.{◌≡◌, ◌↔◌, ◌++◌, Bool, List}
+use Rattle.std.specs.List.{AllByRecursion}
 use Rattle.std.specs.declared.cmp.Ordering.{Ordering}
 use Rattle.ovn_base.specs.declared.delta.Delta.{Delta}
 use Rattle.ovn_base.specs.lists.Among.{Among}
@@ -10,7 +11,8 @@ use Rattle.flow_table.specs.contracts.flow.FlowPartialEq.TheImpl as of_flow
 use Rattle.flow_table.specs.declared.flow.Flow.{Flow}
 use Rattle.physical_flows.specs.contracts.unit.FlowUnitOrd.TheImpl as of_unit
 use Rattle.physical_flows.specs.declared.unit.FlowUnit.{FlowUnit}
-use Rattle.physical_flows.specs.Units.{HasRow}
+use Rattle.physical_flows.specs.Stages.{Basis}
+use Rattle.physical_flows.specs.Units.{HasRow, rows_here}
 
 abbrev pub same_flow : Flow → Flow → Bool
 same_flow = of_flow.ghosts.eq
@@ -29,6 +31,10 @@ rows_held held = flows_of unit_order held.origins
 -- each unit has exactly the flows of its rows
 abbrev pub HaveRows : (FlowUnit → List Flow) → (FlowUnit → List Flow) → Type 0
 HaveRows rows held = (u : FlowUnit) (f : Flow) → Among f (held u) ↔ Among f (rows u)
+
+-- each unit's rows are those that are given, and behind them the ones that follow from who is at home
+abbrev pub AreGiven : Basis → (FlowUnit → List Flow) → List (FlowUnit × List Flow) → Type 0
+AreGiven b rows given = AllByRecursion (λ e. rows e.0 ≡ e.1 ++ rows_here b e.0) given
 
 -- what comes is exactly what was a row of no unit and is one of some, what goes the other way round, each flow once
 pub record IsRowChange (before after : FlowUnit → List Flow) (delta : Delta Flow) : Type 0 where

@@ -1,8 +1,9 @@
 //! The flows of a chassis, from the records, the keys and the homes.
 ghost use Rattle.std.specs.Prelude.{◌≡◌, ◌++◌, map, IfOk, OnOk};
 ghost use Rattle.std.specs.List.{list_any};
-ghost use Rattle.ovn_base.specs.names.ByName.{at};
+ghost use Rattle.ovn_base.specs.names.ByName.{at, IsByName};
 ghost use Rattle.ovn_base.specs.names.SameName.{same_name};
+ghost use Rattle.physical_flows.specs.Around.{around_everywhere};
 ghost use Rattle.physical_flows.specs.Homes.{is_at, is_group_member};
 ghost use Rattle.physical_flows.specs.Stages.{zone_of};
 ghost use Rattle.physical_flows.specs.TableList.{rows_among, bound_rows, is_record_in, group_among, here_among, bound_among, is_other_among, others_among};
@@ -13,7 +14,8 @@ ghost use Rattle.physical_flows.specs.Valid.{IsValid};
 ghost use Rattle.physical_flows.specs.RecordKeys.{HaveKeys};
 
 use crate::rows::{
-    push_common, push_egress, push_group, push_ingress, push_local, push_port, push_remote,
+    push_common, push_egress, push_exits, push_group, push_ingress, push_local, push_port,
+    push_remote,
 };
 use crate::unit::FlowUnit;
 use conn_zones::homes::Homes;
@@ -155,7 +157,7 @@ impl Maps<'_> {
         name: &Name,
         flows: &mut List<Flow>,
     ) -> Result<(), NoMemory>
-        requires valid { IsValid (basis_of self.now).net }
+        requires sorted { IsByName (basis_of self.now).net.switch_ports }
         requires keys { HaveKeys (basis_of self.now).net (basis_of self.now).keys }
         ensures { OnOk result (flows.new ≡ flows.old ++ rows_everywhere (basis_of self.now) (unit.Switch name.now)) }
     {
@@ -180,7 +182,7 @@ impl Maps<'_> {
         name: &Name,
         flows: &mut List<Flow>,
     ) -> Result<(), NoMemory>
-        requires valid { IsValid (basis_of self.now).net }
+        requires sorted { IsByName (basis_of self.now).net.switch_ports }
         requires keys { HaveKeys (basis_of self.now).net (basis_of self.now).keys }
         ensures { OnOk result (flows.new ≡ flows.old ++ rows_here (basis_of self.now) (unit.Switch name.now)) }
     {
@@ -217,6 +219,27 @@ impl Maps<'_> {
             return Ok(());
         };
         push_port(alloc, datapath, *name, port, key, flows)
+    }
+
+    // Adds the rows around the pipelines that a port has on every chassis.
+    fn push_port_around(
+        &self,
+        alloc: Global,
+        name: &Name,
+        flows: &mut List<Flow>,
+    ) -> Result<(), NoMemory>
+        ensures { OnOk result (flows.new ≡ flows.old ++ around_everywhere (basis_of self.now) (unit.Port name.now)) }
+    {
+        let Some(port) = self.records.switch_port(name) else {
+            return Ok(());
+        };
+        let Some(datapath) = self.keys.datapath(&port.switch) else {
+            return Ok(());
+        };
+        let Some(key) = self.keys.port(name) else {
+            return Ok(());
+        };
+        push_exits(alloc, datapath, *name, key, flows)
     }
 
     // Adds the rows that a port has by its home.
@@ -296,6 +319,34 @@ impl Maps<'_> {
         Ok(rows)
     }
 
+    // The rows around the pipelines that a unit has on every chassis.
+    fn rows_around(&self, alloc: Global, unit: &FlowUnit) -> Result<List<Flow>, NoMemory>
+        ensures { IfOk result (λ rows. rows ≡ around_everywhere (basis_of self.now) unit.now) }
+    {
+        let mut rows = List::new(alloc);
+        match unit {
+            FlowUnit::Common => push_common(alloc, &mut rows)?,
+            FlowUnit::Switch(_) => {}
+            FlowUnit::Port(name) => self.push_port_around(alloc, name, &mut rows)?,
+        }
+        Ok(rows)
+    }
+
+    /// The units, each with those of its rows around the pipelines that are the same on every chassis.
+    pub fn around(
+        &self,
+        alloc: Global,
+        units: &[FlowUnit],
+    ) -> Result<List<(FlowUnit, List<Flow>)>, NoMemory>
+        ensures { IfOk result (λ rows. rows ≡ map (λ u. (u, around_everywhere (basis_of self.now) u)) units.now) }
+    {
+        let mut rows = List::new(alloc);
+        'units: for unit in units {
+            rows.push((*unit, self.rows_around(alloc, unit)?))?;
+        }
+        Ok(rows)
+    }
+
     /// All rows of a unit, of which those are given that are the same on every chassis.
     pub(crate) fn rows_of(
         &self,
@@ -303,7 +354,7 @@ impl Maps<'_> {
         unit: &FlowUnit,
         everywhere: &List<Flow>,
     ) -> Result<List<Flow>, NoMemory>
-        requires valid { IsValid (basis_of self.now).net }
+        requires sorted { IsByName (basis_of self.now).net.switch_ports }
         requires keys { HaveKeys (basis_of self.now).net (basis_of self.now).keys }
         ensures { IfOk result (λ rows. rows ≡ everywhere.now ++ rows_here (basis_of self.now) unit.now) }
     {

@@ -1,8 +1,11 @@
-//! A law of the definitions, on a function that does nothing: call it, and its clause is a fact of the call.
+//! Laws of the definitions, each on a function that does nothing: call it, and its clauses are facts of the call.
 ghost use Rattle.std.specs.Prelude.{◌≡◌, map};
 ghost use Rattle.nb_records.specs.Network.{Network};
 ghost use Rattle.net_model.specs.Targets as targets;
+ghost use Rattle.physical_flows.specs.Around.{around_rows};
+ghost use Rattle.physical_flows.specs.AroundLaws.{AroundAlikeLaw, AroundProperLaw, AroundSetLaw, AroundUnitsLaw, UnitsOnceLaw};
 ghost use Rattle.physical_flows.specs.Homes.{ArePortsNamed, members};
+ghost use Rattle.physical_flows.specs.Touching.{BindTouches, ChassisTouches, EditTouches};
 
 use nb_records::switch::SwitchPort;
 use net_model::crossing::Group;
@@ -11,4 +14,26 @@ use ovn_base::name::Name;
 /// A group of a switch has the ports that it has in the network.
 pub fn groups_agree()
     ensures { (net : Network) (switch : Name) (group : Group) → ArePortsNamed net → members net switch group ≡ map (λ (q : SwitchPort). q.name) (targets.members net switch group) }
+{}
+
+/// The rows around the pipelines of all units are exactly the flows of those tables, which are proper.
+pub fn flows_around()
+    ensures set { AroundSetLaw }
+    ensures proper { AroundProperLaw }
+{}
+
+/// The units of the records alone have rows around the pipelines, and each stands once. Those of the rows that are the same on every
+/// chassis don't follow from it.
+pub fn units_around()
+    ensures units { AroundUnitsLaw }
+    ensures once { UnitsOnceLaw }
+    ensures alike { AroundAlikeLaw }
+{}
+
+/// An edit changes the rows around the pipelines of those units alone beside which all stays, a port that is bound its own and its
+/// switch's, and a chassis that comes none on the others.
+pub fn around_touched()
+    ensures edit { EditTouches around_rows }
+    ensures bind { BindTouches around_rows }
+    ensures chassis { ChassisTouches around_rows }
 {}

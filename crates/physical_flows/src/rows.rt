@@ -1,6 +1,7 @@
 //! The flows that a chassis holds, row by row.
 ghost use Rattle.std.specs.Prelude.{◌≡◌, ◌++◌, [], ◌∷◌, map, IfOk, OnOk};
 ghost use Rattle.flow_table.specs.declared.flow.FlowOp.TheVariants.{Set, Go, Frame};
+ghost use Rattle.physical_flows.specs.Around.{exit_rows};
 ghost use Rattle.physical_flows.specs.GroupKeys.{group_key};
 ghost use Rattle.inet_packet.specs.Cubes.{any, exactly, everything};
 ghost use Rattle.physical_flows.specs.Rows.{on_entry, on_tunnel, on_datapath, on_address, on_exit, on_return, on_group, of_a_group, from_a_group, to_a_group, with_tag, arrived_is, flow_of, pass_row, remote_row, spread_row, copies_row, unknown_ops, address_row};
@@ -407,16 +408,15 @@ fn push_addresses(
     Ok(())
 }
 
-/// Adds the rows of a port, wherever it is bound.
-pub fn push_port(
+/// Adds the rows by which packets leave at a port: none goes back to where it came from.
+pub fn push_exits(
     alloc: Global,
     dp: u32,
     name: Name,
-    port: &SwitchPort,
     key: u16,
     flows: &mut List<Flow>,
 ) -> Result<(), NoMemory>
-    ensures { OnOk result (flows.new ≡ flows.old ++ port_rows dp name port.now key) }
+    ensures { OnOk result (flows.new ≡ flows.old ++ exit_rows dp name key) }
 {
     let drop = FlowOp::Drop(Cause::Loopback);
     push_one(
@@ -434,7 +434,21 @@ pub fn push_port(
         exit_cube(dp, key),
         FlowOp::Output(name),
         flows,
-    )?;
+    )
+}
+
+/// Adds the rows of a port, wherever it is bound.
+pub fn push_port(
+    alloc: Global,
+    dp: u32,
+    name: Name,
+    port: &SwitchPort,
+    key: u16,
+    flows: &mut List<Flow>,
+) -> Result<(), NoMemory>
+    ensures { OnOk result (flows.new ≡ flows.old ++ port_rows dp name port.now key) }
+{
+    push_exits(alloc, dp, name, key, flows)?;
     push_addresses(alloc, dp, &port.addresses, key, flows)
 }
 

@@ -5,10 +5,13 @@ ghost use Rattle.std.specs.Map.{keys_of};
 ghost use Rattle.ovn_base.specs.lists.Once.{EachOnce};
 ghost use Rattle.flow_table.specs.declared.flow.Flow.{Flow};
 ghost use Rattle.physical_flows.specs.declared.unit.FlowUnit.{FlowUnit};
+ghost use Rattle.ovn_base.specs.names.ByName.{IsByName};
+ghost use Rattle.physical_flows.specs.Around.{around_everywhere, around_rows};
 ghost use Rattle.physical_flows.specs.Compiling.{basis_of};
 ghost use Rattle.physical_flows.specs.RecordKeys.{HaveKeys};
 ghost use Rattle.flow_refs.specs.Store.{IsPreparedFor};
-ghost use Rattle.physical_flows.specs.UnitFlows.{HaveRows, IsTablePatch, StayPrepared, rows_held, same_flow, unit_order};
+ghost use Rattle.physical_flows.specs.Switched.{IsSwitched};
+ghost use Rattle.physical_flows.specs.UnitFlows.{AreGiven, HaveRows, IsTablePatch, StayPrepared, rows_held, same_flow, unit_order};
 ghost use Rattle.physical_flows.specs.Units.{ChangeOnly, no_rows, rows_everywhere, unit_rows};
 ghost use Rattle.physical_flows.specs.Valid.{IsValid};
 
@@ -73,6 +76,34 @@ impl UnitFlows {
         })
     }
 
+    // Makes all ready for some units to have the rows that are given, and behind them those that follow from who is at home on the
+    // chassis of the maps.
+    fn prepare_given(
+        &mut self,
+        alloc: Global,
+        maps: &Maps<'_>,
+        given: &[(FlowUnit, List<Flow>)],
+    ) -> Result<TablePatch, NoMemory>
+        requires sorted { IsByName (basis_of maps.now).net.switch_ports }
+        requires keys { HaveKeys (basis_of maps.now).net (basis_of maps.now).keys }
+        requires once { EachOnce (keys_of given.now) }
+        ensures kept { rows_held self.new ≡ rows_held self.old }
+        ensures left { StayPrepared self.old self.new }
+        ensures prepared { IfOk result (λ patch. (before after : FlowUnit → List Flow) → HaveRows before (rows_held self.old)
+            → AreGiven (basis_of maps.now) after given.now → ChangeOnly (keys_of given.now) before after → IsTablePatch before after self.new patch) }
+    {
+        exact_flow();
+        exact_flow_clone();
+        exact_unit();
+        let mut changes = List::new(alloc);
+        'units: for (unit, rows) in given {
+            let all = maps.rows_of(alloc, unit, rows)?;
+            changes.push((*unit, all))?;
+        }
+        let patch = self.store.prepare(changes)?;
+        Ok(TablePatch { patch })
+    }
+
     /// Makes all ready for some units to have their rows on the chassis of the maps. `everywhere` are these units, each with
     /// those of its rows that are the same on every chassis. What each unit has stays, and what was prepared before can still be
     /// applied.
@@ -91,16 +122,27 @@ impl UnitFlows {
         ensures prepared { IfOk result (λ patch. (before : FlowUnit → List Flow) → HaveRows before (rows_held self.old)
             → ChangeOnly (keys_of everywhere.now) before (unit_rows (basis_of maps.now)) → IsTablePatch before (unit_rows (basis_of maps.now)) self.new patch) }
     {
-        exact_flow();
-        exact_flow_clone();
-        exact_unit();
-        let mut changes = List::new(alloc);
-        'units: for (unit, rows) in everywhere {
-            let all = maps.rows_of(alloc, unit, rows)?;
-            changes.push((*unit, all))?;
-        }
-        let patch = self.store.prepare(changes)?;
-        Ok(TablePatch { patch })
+        self.prepare_given(alloc, maps, everywhere)
+    }
+
+    /// Makes all ready for some units to have their rows around the pipelines on the chassis of the maps. `everywhere` are these
+    /// units, each with those of these rows that are the same on every chassis. What each unit has stays, and what was prepared
+    /// before can still be applied.
+    pub fn prepare_around(
+        &mut self,
+        alloc: Global,
+        maps: &Maps<'_>,
+        everywhere: &[(FlowUnit, List<Flow>)],
+    ) -> Result<TablePatch, NoMemory>
+        requires switched { IsSwitched (basis_of maps.now).net (basis_of maps.now).keys }
+        requires once { EachOnce (keys_of everywhere.now) }
+        requires everywhere { AllByRecursion (λ e. e.1 ≡ around_everywhere (basis_of maps.now) e.0) everywhere.now }
+        ensures kept { rows_held self.new ≡ rows_held self.old }
+        ensures left { StayPrepared self.old self.new }
+        ensures prepared { IfOk result (λ patch. (before : FlowUnit → List Flow) → HaveRows before (rows_held self.old)
+            → ChangeOnly (keys_of everywhere.now) before (around_rows (basis_of maps.now)) → IsTablePatch before (around_rows (basis_of maps.now)) self.new patch) }
+    {
+        self.prepare_given(alloc, maps, everywhere)
     }
 
     /// Gives the units of a patch their rows, which was prepared for what is held. Answers the flows that come and that go. It

@@ -29,7 +29,7 @@ returns c =
     c.in_ok-push_ingress.ensures ∙ ap (λ n. c.args.flows.now ++ ingress_rows dp (nat_lt 0 n)) c.len.ensures in
     let rows : c.push_ingress.new.flows ++ egress_rows dp ≡ c.args.flows.now ++ switch_everywhere b a (at b.net.switches a) (datapath_number b.keys a) =
     ap (λ fs. fs ++ egress_rows dp) ingress
-    ∙ everywhere_are b c.requires.valid c.requires.keys a dp all c.args.flows.now ports unknown members
+    ∙ everywhere_are b c.requires.sorted c.requires.keys a dp all c.args.flows.now ports unknown members
     ∙ ap (λ (o : Option Switch). c.args.flows.now ++ switch_everywhere b a o (Some dp)) (sym switch.1)
     ∙ ap (λ (o : Option ℕ). c.args.flows.now ++ switch_everywhere b a (at b.net.switches a) o) number in
     on_ok_weaker c.push_egress.result (λ e. e ∙ rows) c.push_egress.ensures

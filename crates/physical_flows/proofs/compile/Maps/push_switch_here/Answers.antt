@@ -26,7 +26,7 @@ returns c =
     let flood : c.push_group.new.flows ≡ c.args.flows.now ++ rows_among b dp Flood (group_among b Flood all) = c.in_ok-push_group.ensures in
     let rows : c.push_group.new.flows ++ rows_among b dp Unknown (group_among b Unknown all) ≡ c.args.flows.now ++ switch_here b a (at b.net.switches a) (datapath_number b.keys a) =
     ap (λ fs. fs ++ rows_among b dp Unknown (group_among b Unknown all)) flood
-    ∙ groups_are b c.requires.valid c.requires.keys a dp all c.args.flows.now ports
+    ∙ groups_are b c.requires.sorted c.requires.keys a dp all c.args.flows.now ports
     ∙ ap (λ (o : Option Switch). c.args.flows.now ++ switch_here b a o (Some dp)) (sym switch.1)
     ∙ ap (λ (o : Option ℕ). c.args.flows.now ++ switch_here b a (at b.net.switches a) o) number in
     on_ok_weaker c.push_group-2.result (λ e. e ∙ rows) c.push_group-2.ensures

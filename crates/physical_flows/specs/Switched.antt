@@ -1,0 +1,19 @@
+-- Records and keys of which the tables around the pipelines are made.
+use Rattle.std.specs.Prelude.{◌≡◌, true, [], Some}
+use Rattle.nb_records.specs.Network.{Network}
+use Rattle.nb_records.specs.Switches.{is_virtual}
+use Rattle.nb_records.specs.declared.switch.SwitchPort.{SwitchPort}
+use Rattle.nb_rules.specs.Valid.{IsValid}
+use Rattle.ovn_base.specs.declared.name.Name.{Name}
+use Rattle.ovn_base.specs.names.ByName.{at}
+use Rattle.physical_flows.specs.RecordKeys.{HaveKeys}
+use Rattle.tunnel_keys.specs.Keys.{Keys}
+
+-- The network is a switched one: its records are valid, there is no router and no router port, all ports of switches are virtual, and each
+-- switch and each port has its key. Ports may be disabled or have port security, and there may be rules, sets and groups.
+pub record IsSwitched (net : Network) (keys : Keys) : Type 0 where
+  pub valid : IsValid net
+  pub no_routers : net.routers ≡ []
+  pub no_router_ports : net.router_ports ≡ []
+  pub virtual : (q : Name) (port : SwitchPort) → at net.switch_ports q ≡ Some port → is_virtual port ≡ true
+  pub keyed : HaveKeys net keys
