@@ -17,3 +17,4 @@ pub mod UnitLaws
 pub mod UnitStores
 pub mod TouchedUnits
 pub mod UnitReads
+pub mod VirtualPorts

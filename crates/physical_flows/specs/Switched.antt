@@ -9,11 +9,14 @@ use Rattle.ovn_base.specs.names.ByName.{at}
 use Rattle.physical_flows.specs.RecordKeys.{HaveKeys}
 use Rattle.tunnel_keys.specs.Keys.{Keys}
 
--- The network is a switched one: its records are valid, there is no router and no router port, all ports of switches are virtual, and each
--- switch and each port has its key. Ports may be disabled or have port security, and there may be rules, sets and groups.
+-- The network is a switched one: its records are valid, there is no router and no router port, and each switch and each port has its key.
+-- Ports may be disabled or have port security, and there may be rules, sets and groups.
 pub record IsSwitched (net : Network) (keys : Keys) : Type 0 where
   pub valid : IsValid net
   pub no_routers : net.routers ≡ []
   pub no_router_ports : net.router_ports ≡ []
-  pub virtual : (q : Name) (port : SwitchPort) → at net.switch_ports q ≡ Some port → is_virtual port ≡ true
   pub keyed : HaveKeys net keys
+
+-- Where records are valid and there is no router port, all ports of switches are virtual.
+abbrev pub VirtualPortsLaw : Type 0
+VirtualPortsLaw = (net : Network) → IsValid net → net.router_ports ≡ [] → (q : Name) (port : SwitchPort) → at net.switch_ports q ≡ Some port → is_virtual port ≡ true

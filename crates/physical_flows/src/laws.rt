@@ -5,6 +5,7 @@ ghost use Rattle.net_model.specs.Targets as targets;
 ghost use Rattle.physical_flows.specs.Around.{around_rows};
 ghost use Rattle.physical_flows.specs.AroundLaws.{AroundAlikeLaw, AroundProperLaw, AroundSetLaw, AroundUnitsLaw, UnitsOnceLaw};
 ghost use Rattle.physical_flows.specs.Homes.{ArePortsNamed, members};
+ghost use Rattle.physical_flows.specs.Switched.{VirtualPortsLaw};
 ghost use Rattle.physical_flows.specs.Touching.{BindTouches, ChassisTouches, EditTouches};
 
 use nb_records::switch::SwitchPort;
@@ -14,6 +15,11 @@ use ovn_base::name::Name;
 /// A group of a switch has the ports that it has in the network.
 pub fn groups_agree()
     ensures { (net : Network) (switch : Name) (group : Group) → ArePortsNamed net → members net switch group ≡ map (λ (q : SwitchPort). q.name) (targets.members net switch group) }
+{}
+
+/// All ports of switches are virtual where no router port is there for one to lead to.
+pub fn ports_are_virtual()
+    ensures { VirtualPortsLaw }
 {}
 
 /// The rows around the pipelines of all units are exactly the flows of those tables, which are proper.

@@ -125,24 +125,24 @@ impl UnitFlows {
         self.prepare_given(alloc, maps, everywhere)
     }
 
-    /// Makes all ready for some units to have their rows around the pipelines on the chassis of the maps. `everywhere` are these
-    /// units, each with those of these rows that are the same on every chassis. What each unit has stays, and what was prepared
-    /// before can still be applied.
+    /// Makes all ready for some units to have their rows around the pipelines on the chassis of the maps. `around` are these units,
+    /// each with those of these rows that are the same on every chassis. What each unit has stays, and what was prepared before
+    /// can still be applied.
     pub fn prepare_around(
         &mut self,
         alloc: Global,
         maps: &Maps<'_>,
-        everywhere: &[(FlowUnit, List<Flow>)],
+        around: &[(FlowUnit, List<Flow>)],
     ) -> Result<TablePatch, NoMemory>
         requires switched { IsSwitched (basis_of maps.now).net (basis_of maps.now).keys }
-        requires once { EachOnce (keys_of everywhere.now) }
-        requires everywhere { AllByRecursion (λ e. e.1 ≡ around_everywhere (basis_of maps.now) e.0) everywhere.now }
+        requires once { EachOnce (keys_of around.now) }
+        requires around { AllByRecursion (λ e. e.1 ≡ around_everywhere (basis_of maps.now) e.0) around.now }
         ensures kept { rows_held self.new ≡ rows_held self.old }
         ensures left { StayPrepared self.old self.new }
         ensures prepared { IfOk result (λ patch. (before : FlowUnit → List Flow) → HaveRows before (rows_held self.old)
-            → ChangeOnly (keys_of everywhere.now) before (around_rows (basis_of maps.now)) → IsTablePatch before (around_rows (basis_of maps.now)) self.new patch) }
+            → ChangeOnly (keys_of around.now) before (around_rows (basis_of maps.now)) → IsTablePatch before (around_rows (basis_of maps.now)) self.new patch) }
     {
-        self.prepare_given(alloc, maps, everywhere)
+        self.prepare_given(alloc, maps, around)
     }
 
     /// Gives the units of a patch their rows, which was prepared for what is held. Answers the flows that come and that go. It
