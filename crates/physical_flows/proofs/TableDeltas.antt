@@ -10,6 +10,8 @@ use Rattle.ovn_base.specs.lists.Once.{EachOnce}
 use Rattle.ovn_base.proofs.AmongLaws.{among_member, member_among, among_flat_map, flat_map_among}
 use Rattle.flow_table.specs.Change.{IsDeltaOf, IsReplaced}
 use Rattle.flow_table.specs.declared.flow.Flow.{Flow}
+use Rattle.physical_flows.specs.Around.{around_rows}
+use Rattle.physical_flows.specs.AroundLaws.{AroundDecidedLaw}
 use Rattle.physical_flows.specs.ChassisFlows.{AreExactly}
 use Rattle.physical_flows.specs.RecordKeys.{HaveKeys}
 use Rattle.physical_flows.specs.Stages.{Basis}
@@ -17,8 +19,10 @@ use Rattle.physical_flows.specs.Tables.{TableFlow}
 use Rattle.physical_flows.specs.UnitFlows.{IsRowChange, same_flow}
 use Rattle.physical_flows.specs.Units.{unit_rows, all_units, HasRow}
 use Rattle.physical_flows.specs.Valid.{IsValid}
+use Rattle.physical_flows.specs.declared.unit.FlowUnit.{FlowUnit}
+use Rattle.physical_flows.proofs.AroundSets.{around_set}
 use Rattle.physical_flows.proofs.TableSets.{units_have_all}
-use Rattle.physical_flows.proofs.UnitLaws.{unit_there}
+use Rattle.physical_flows.proofs.UnitLaws.{around_there, unit_there}
 
 module _ (exact : (f g : Flow) → (same_flow f g ≡ true) ↔ (f ≡ g)) where
   -- a flow stands in a list or doesn't
@@ -29,11 +33,17 @@ module _ (exact : (f g : Flow) → (same_flow f g ≡ true) ↔ (f ≡ g)) where
       by true is = inl (member_among same_flow (λ g h e. (exact g h).0 e) f fs is)
       by false is = inr (λ m. false≢true (sym is ∙ among_member same_flow (λ g. (exact g g).1 refl) f fs m))
 
-  -- and is a row of a unit or isn't, since only the units of the records have rows
-  row_or_not : (b : Basis) (f : Flow) → HasRow (unit_rows b) f ⊎ (¬ HasRow (unit_rows b) f)
-  row_or_not b f = elim (listed_or_not f (flat_map (unit_rows b) (all_units b.net))) [
-    | inl m ↦ let r = flat_map_among (unit_rows b) f (all_units b.net) m in inl (record { unit = r.0; among = r.2 })
-    | inr none ↦ inr (λ h. none (among_flat_map (unit_rows b) h.unit f (all_units b.net) (unit_there b h.unit f h.among) h.among))
+  -- and is a row of a unit or isn't, where only the units of the records have rows
+  row_or_not : (b : Basis) (rows : FlowUnit → List Flow) → ((u : FlowUnit) (f : Flow) → Among f (rows u) → Among u (all_units b.net)) → (f : Flow) → HasRow rows f ⊎ (¬ HasRow rows f)
+  row_or_not b rows there f = elim (listed_or_not f (flat_map rows (all_units b.net))) [
+    | inl m ↦ let r = flat_map_among rows f (all_units b.net) m in inl (record { unit = r.0; among = r.2 })
+    | inr none ↦ inr (λ h. none (among_flat_map rows h.unit f (all_units b.net) (there h.unit f h.among) h.among))
+  ]
+
+  pub around_or_not : AroundDecidedLaw
+  around_or_not b have f = elim (row_or_not b (around_rows b) (around_there b) f) [
+    | inl row ↦ inl ((around_set b have f).0 row)
+    | inr none ↦ inr (λ r. none ((around_set b have f).1 r))
   ]
 
 module _ (before : Basis) (valid : IsValid before.net) (keys : HaveKeys before.net before.keys) (after : Basis) (valid_after : IsValid after.net) (keys_after : HaveKeys after.net after.keys)
@@ -53,7 +63,7 @@ module _ (before : Basis) (valid : IsValid before.net) (keys : HaveKeys before.n
       is_row : (f : Flow) → Among f others → HasRow (unit_rows after) f
       is_row f m = elim ((replaced f).0 m) [
         | inl a ↦ ((change.come f).0 a).1
-        | inr k ↦ elim (row_or_not exact after f) [ inl r ↦ r | inr none ↦ absurd (k.1 ((change.go f).1 ((was_row f).0 k.0, none))) ]
+        | inr k ↦ elim (row_or_not exact after (unit_rows after) (unit_there after) f) [ inl r ↦ r | inr none ↦ absurd (k.1 ((change.go f).1 ((was_row f).0 k.0, none))) ]
       ]
 
       is_listed : (f : Flow) → HasRow (unit_rows after) f → Among f others

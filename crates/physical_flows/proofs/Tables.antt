@@ -1,8 +1,10 @@
 -- A flow of a chassis is a row of the stage that its table names.
-use Rattle.std.specs.Prelude.{◌≡◌, ℕ, Bool, true, false}
-use mathlib.Core.Path.{sym, ap, subst}
+use Rattle.std.specs.Prelude.{◌≡◌, ℕ, Bool, true, false, refl}
+use mathlib.Core.Path.{sym, ap, subst, ◌∙◌}
 use Rattle.std.proofs.Math.Dec.{eqb as nat_eq}
 use Rattle.flow_table.specs.declared.flow.Flow.{Flow}
+use Rattle.physical_flows.specs.Around.{AroundFlow, is_around}
+use Rattle.physical_flows.specs.AroundLaws.{AroundTablesLaw}
 use Rattle.physical_flows.specs.Stages.{Basis, EntryRow, AdmitRow, PortSecRow, TrackRow, AclInRow, StateInRow, ArpRow, LookupRow, RemoteRow, HomeRow, ReturnRow, TrackOutRow, AclOutRow, StateOutRow, SecOutRow, OutputRow}
 use Rattle.physical_flows.specs.Tables.{TableFlow}
 
@@ -147,3 +149,17 @@ module _ (b : Basis) (f : Flow) where
 
   pub at_64 : TableFlow b f → f.table ≡ 64 → OutputRow b f
   at_64 t is = subst (RowAt b f) is (row_at t)
+
+  -- and one around the pipelines is of one of those tables
+  around_at : (table : ℕ) → is_around table ≡ true → f.table ≡ table → is_around f.table ≡ true
+  around_at table is same = ap is_around same ∙ is
+
+  around_of : AroundFlow b f → is_around f.table ≡ true
+  around_of (AroundFlow.in_entry r) = around_at 0 refl (table_of_entry r)
+  around_of (AroundFlow.in_remote r) = around_at 32 refl (table_of_remote r)
+  around_of (AroundFlow.in_home r) = around_at 33 refl (table_of_home r)
+  around_of (AroundFlow.in_back r) = around_at 34 refl (table_of_return r)
+  around_of (AroundFlow.in_output r) = around_at 64 refl (table_of_output r)
+
+pub around_tables : AroundTablesLaw
+around_tables b f r = around_of b f r

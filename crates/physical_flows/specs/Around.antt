@@ -1,8 +1,9 @@
 -- The flows of the tables around the pipelines: as a set, and by unit.
-use Rattle.std.specs.Prelude.{◌++◌, ℕ, List, [], ◌∷◌, Option, Some, None}
+use Rattle.std.specs.Prelude.{◌++◌, ◌||◌, ℕ, nat_eq, Bool, List, [], ◌∷◌, Option, Some, None}
 use Rattle.flow_table.specs.declared.flow.Flow.{Flow}
 use Rattle.nb_records.specs.declared.switch.SwitchPort.{SwitchPort}
 use Rattle.ovn_base.specs.declared.name.Name.{Name}
+use Rattle.ovn_base.specs.declared.stages.TheConstants.{ENTRY_TABLE, REMOTE_TABLE, LOCAL_TABLE, LOOPBACK_TABLE, OUTPUT_TABLE}
 use Rattle.ovn_base.specs.names.ByName.{at}
 use Rattle.physical_flows.specs.Numbers.{datapath_number, port_number}
 use Rattle.physical_flows.specs.Rows.{return_row, output_row}
@@ -19,6 +20,10 @@ pub data AroundFlow (b : Basis) (f : Flow) : Type 0 where
   in_home : HomeRow b f → AroundFlow b f
   in_back : ReturnRow b f → AroundFlow b f
   in_output : OutputRow b f → AroundFlow b f
+
+-- the table is one of these
+abbrev pub is_around : ℕ → Bool
+is_around table = nat_eq table ENTRY_TABLE || nat_eq table REMOTE_TABLE || nat_eq table LOCAL_TABLE || nat_eq table LOOPBACK_TABLE || nat_eq table OUTPUT_TABLE
 
 -- ---- by unit, the rows that are the same on every chassis
 

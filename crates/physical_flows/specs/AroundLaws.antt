@@ -1,12 +1,12 @@
 -- What holds of the rows around the pipelines.
-use Rattle.std.specs.Prelude.{◌≡◌, ◌↔◌}
+use Rattle.std.specs.Prelude.{◌≡◌, ◌↔◌, ◌⊎◌, true}
 use Rattle.conn_zones.specs.Zoning.{Zoned}
 use Rattle.flow_table.specs.declared.flow.Flow.{Flow}
 use Rattle.nb_records.specs.Network.{Network}
 use Rattle.net_model.specs.State.{State}
 use Rattle.ovn_base.specs.declared.name.Name.{Name}
 use Rattle.ovn_base.specs.lists.Once.{EachOnce}
-use Rattle.physical_flows.specs.Around.{AroundFlow, around_everywhere, around_rows}
+use Rattle.physical_flows.specs.Around.{AroundFlow, is_around, around_everywhere, around_rows}
 use Rattle.physical_flows.specs.Bindings.{AreBound}
 use Rattle.physical_flows.specs.ChassisFlows.{basis_at}
 use Rattle.physical_flows.specs.RecordKeys.{HaveKeys}
@@ -21,7 +21,14 @@ use Rattle.tunnel_keys.specs.Keys.{Keys}
 abbrev pub AroundSetLaw : Type 0
 AroundSetLaw = (b : Basis) → HaveKeys b.net b.keys → (f : Flow) → HasRow (around_rows b) f ↔ AroundFlow b f
 
--- These are proper: each number lies within its register, and each flow goes on at later tables.
+-- Each flow is one of them or isn't, and those that are have one of the tables.
+abbrev pub AroundDecidedLaw : Type 0
+AroundDecidedLaw = (b : Basis) → HaveKeys b.net b.keys → (f : Flow) → AroundFlow b f ⊎ (¬ AroundFlow b f)
+
+abbrev pub AroundTablesLaw : Type 0
+AroundTablesLaw = (b : Basis) (f : Flow) → AroundFlow b f → is_around f.table ≡ true
+
+-- They are proper: each number lies within its register, and each flow goes on at later tables.
 abbrev pub AroundProperLaw : Type 0
 AroundProperLaw =
     (m : State) (zones : Zoned) (chassis : Name) → HaveKeys m.config.net m.keys → AreBound m.config zones

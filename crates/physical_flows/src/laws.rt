@@ -3,11 +3,12 @@ ghost use Rattle.std.specs.Prelude.{◌≡◌, map};
 ghost use Rattle.nb_records.specs.Network.{Network};
 ghost use Rattle.net_model.specs.Targets as targets;
 ghost use Rattle.physical_flows.specs.Around.{around_rows};
-ghost use Rattle.physical_flows.specs.AroundLaws.{AroundAlikeLaw, AroundProperLaw, AroundSetLaw, AroundUnitsLaw, UnitsOnceLaw};
+ghost use Rattle.physical_flows.specs.AroundLaws.{AroundAlikeLaw, AroundDecidedLaw, AroundProperLaw, AroundSetLaw, AroundTablesLaw, AroundUnitsLaw, UnitsOnceLaw};
 ghost use Rattle.physical_flows.specs.Homes.{ArePortsNamed, members};
 ghost use Rattle.physical_flows.specs.Switched.{VirtualPortsLaw};
 ghost use Rattle.physical_flows.specs.Touching.{BindTouches, ChassisTouches, EditTouches};
 
+use flow_table::exact::exact_flow;
 use nb_records::switch::SwitchPort;
 use net_model::crossing::Group;
 use ovn_base::name::Name;
@@ -22,11 +23,16 @@ pub fn ports_are_virtual()
     ensures { VirtualPortsLaw }
 {}
 
-/// The rows around the pipelines of all units are exactly the flows of those tables, which are proper.
+/// The rows around the pipelines of all units are exactly the flows of those tables, which are proper. Each flow is one of them
+/// or isn't.
 pub fn flows_around()
     ensures set { AroundSetLaw }
+    ensures decided { AroundDecidedLaw }
+    ensures tables { AroundTablesLaw }
     ensures proper { AroundProperLaw }
-{}
+{
+    exact_flow();
+}
 
 /// The units of the records alone have rows around the pipelines, and each stands once. Those of the rows that are the same on every
 /// chassis don't follow from it.
