@@ -1,6 +1,7 @@
 -- What the simulated chassis do with packets, over rows and connection lists: journeys of the network.
 pub mod InState
 pub mod UnderWay
+pub mod Tables
 pub mod Holding
 pub mod Premises
 pub mod Moves

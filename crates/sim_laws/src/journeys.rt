@@ -17,7 +17,9 @@ pub fn premises_of_sound()
     ensures amidst { AmidstLaw }
     ensures sound { SoundOnLaw }
     ensures ready { ReadyLaw }
-{}
+{
+    tables_filled();
+}
 
 /// What the simulated chassis do with a packet, and with a frame that arrives, is a journey of the network, with the effects and the choices of
 /// which its ends tell; they hold the state that it leaves. So they do with a packet and all frames that wait, one after another.
@@ -28,6 +30,7 @@ pub fn journeys_refine()
     ensures all_arrive { AllArriveLaw }
     ensures goes_through { GoesThroughLaw }
 {
+    tables_filled();
     switch_passes();
 }
 
@@ -46,7 +49,7 @@ pub fn events_end()
     ensures finishes { FinishesLaw }
 {}
 
-/// Flows that are exactly the lowered rows of the network and those of the tables around the pipelines are those of a chassis.
+/// Flows that are exactly those of a chassis, the lowered rows of the network and those around the pipelines, are in its tables.
 pub fn tables_filled()
     ensures { FillingLaw }
 {

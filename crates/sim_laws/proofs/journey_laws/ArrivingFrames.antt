@@ -65,6 +65,7 @@ use Rattle.sim_laws.specs.Held.{frame_of_crossing}
 use Rattle.sim_laws.specs.Naming.{IsNumbered}
 use Rattle.sim_laws.specs.Sound.{AreCrossings, MayWait, IsAimOnLive}
 use Rattle.sim_laws.specs.WalkLaw.{tunnel_entry_of}
+use Rattle.sim_laws.specs.journeys.Filling.{FillingLaw}
 use Rattle.sim_laws.specs.journeys.Holding.{HoldsNetwork}
 use Rattle.sim_laws.specs.journeys.InState.{chassis_at, zones_on}
 use Rattle.sim_laws.specs.journeys.Moves.{journey_in}
@@ -144,7 +145,7 @@ module _ (m : State) (zones : Zoned) (sets : Sets) (more : ℕ) (s new : sim.Sim
 
   -- ---- through the tables
 
-  module _ (arrives : ArrivingLaw) (whole_walk : WholeWalkLaw) (by : Choosing) (x : Crossing) (waits : sim.numbered m.waiting n ≡ Some x) (virtual : HasVirtualPorts m.config.net x.datapath.name) (flows : List Flow) (there : at_name s.chassis x.home ≡ Some flows)
+  module _ (fills : FillingLaw) (arrives : ArrivingLaw) (whole_walk : WholeWalkLaw) (by : Choosing) (x : Crossing) (waits : sim.numbered m.waiting n ≡ Some x) (virtual : HasVirtualPorts m.config.net x.datapath.name) (flows : List Flow) (there : at_name s.chassis x.home ≡ Some flows)
       (lists left : ZoneLists) (listed : at_name s.zones x.home ≡ Some lists) (steps : List Step) (effects : List Effect) (walk : IsWalkBy by flows (tunnel_entry_of m.keys x) m.clock x.packet lists steps effects left)
       (told : IsTold (record (arrived s n keep) { zones = with_lists s.zones x.home left }) x.home (start_of.Frame n) steps effects before after new) where
     abbrev k : Chassis
@@ -157,7 +158,7 @@ module _ (m : State) (zones : Zoned) (sets : Sets) (more : ℕ) (s new : sim.Sim
     way t = arrival scene n x t
 
     ready : IsReady k zones.numbers
-    ready = is_ready m zones more sets s u h x.home flows there by (tunnel_entry_of m.keys x)
+    ready = is_ready fills m zones more sets s u h x.home flows there by (tunnel_entry_of m.keys x)
 
     may_wait : MayWait m x
     may_wait = u.crossings.may n x (numbered_among m.waiting n x waits)
@@ -194,17 +195,17 @@ module _ (m : State) (zones : Zoned) (sets : Sets) (more : ℕ) (s new : sim.Sim
       came x waits (is_lost n ∷ []) m.lists s.zones h.zones [] (effect.Lost ∷ []) (IsNumbered.lost, tt) (refl, tt) refl
       (λ choices. ap (λ o. arrive_at o n x (trail_with m.lists choices [])) (no_scene m x.home gone)) told
 
-  pub arrives_by : ArrivingLaw → WholeWalkLaw → (by : Choosing) → ((x : Crossing) → sim.numbered m.waiting n ≡ Some x → HasVirtualPorts m.config.net x.datapath.name) → passing.IsArrived by s n keep m.clock before after new → IsArrival
-  arrives_by arrives whole_walk by virtual (passing.IsArrived.through frame flows lists left vni in_key out_key packet steps effects waits held listed carries walk told) =
+  pub arrives_by : FillingLaw → ArrivingLaw → WholeWalkLaw → (by : Choosing) → ((x : Crossing) → sim.numbered m.waiting n ≡ Some x → HasVirtualPorts m.config.net x.datapath.name) → passing.IsArrived by s n keep m.clock before after new → IsArrival
+  arrives_by fills arrives whole_walk by virtual (passing.IsArrived.through frame flows lists left vni in_key out_key packet steps effects waits held listed carries walk told) =
       let c = crossing_of m zones.numbers sets s h n frame waits in
       let x = c.crossing in
       let may = u.crossings.may n x (numbered_among m.waiting n x c.waits) in
       let home : frame.to ≡ x.home = ap (λ (f : WaitingFrame). f.to) c.is in
       let read = read_so m u.keys x may vni in_key out_key packet (subst (λ (f : WaitingFrame). Carries f.bytes vni in_key out_key packet) c.is carries) in
-      comes_through arrives whole_walk by x c.waits (virtual x c.waits) flows (ap (at_name s.chassis) (sym home) ∙ held) lists left (ap (at_name s.zones) (sym home) ∙ listed) steps effects
+      comes_through fills arrives whole_walk by x c.waits (virtual x c.waits) flows (ap (at_name s.chassis) (sym home) ∙ held) lists left (ap (at_name s.zones) (sym home) ∙ listed) steps effects
       (subst (λ (e : Entry). IsWalkBy by flows e m.clock x.packet lists steps effects left) read.0 (subst (λ p. IsWalkBy by flows (Tunnel vni in_key out_key) m.clock p lists steps effects left) read.1 walk))
       (subst (λ d. IsTold (record (arrived s n keep) { zones = with_lists s.zones d left }) d (start_of.Frame n) steps effects before after new) home told)
-  arrives_by arrives whole_walk by virtual (passing.IsArrived.gone frame waits none told) =
+  arrives_by fills arrives whole_walk by virtual (passing.IsArrived.gone frame waits none told) =
       let c = crossing_of m zones.numbers sets s h n frame waits in
       let x = c.crossing in
       let home : frame.to ≡ x.home = ap (λ (f : WaitingFrame). f.to) c.is in
@@ -213,5 +214,5 @@ module _ (m : State) (zones : Zoned) (sets : Sets) (more : ℕ) (s new : sim.Sim
       none-some f.0 (sym (ap (at_name s.chassis) (sym home) ∙ none) ∙ f.1))
       (subst (λ d. IsTold (arrived s n keep) d (start_of.Frame n) [] (effect.Lost ∷ []) before after new) home told)
 
-pub arrives_so : ArrivingLaw → WholeWalkLaw → ArrivalJourneyLaw
-arrives_so arrives whole_walk m zones sets more s new by n keep before after u h virtual told = arrives_by m zones sets more s new n keep before after u h arrives whole_walk by virtual told
+pub arrives_so : FillingLaw → ArrivingLaw → WholeWalkLaw → ArrivalJourneyLaw
+arrives_so fills arrives whole_walk m zones sets more s new by n keep before after u h virtual told = arrives_by m zones sets more s new n keep before after u h fills arrives whole_walk by virtual told

@@ -43,6 +43,7 @@ use Rattle.sim_laws.proofs.journey_laws.VisitWays.{visit_sends}
 use Rattle.sim_laws.proofs.journey_laws.Walked.{IsWalked, walked}
 use Rattle.sim_laws.proofs.journey_laws.WholePackets.{enter_whole}
 use Rattle.sim_laws.proofs.pipelines.HeldLists.{list_is}
+use Rattle.sim_laws.specs.journeys.Filling.{FillingLaw}
 use Rattle.sim_laws.specs.journeys.Holding.{HoldsNetwork}
 use Rattle.sim_laws.specs.journeys.InState.{chassis_at, zones_on}
 use Rattle.sim_laws.specs.journeys.Moves.{journey_in}
@@ -60,7 +61,7 @@ pub scene_there : (m : State) (chassis : Name) → Among chassis m.config.chassi
 scene_there m chassis is =
     ap (λ b. cond b (Some (scene_at m chassis)) None) (among_any (λ c. same_name c chassis) chassis m.config.chassis is ((bytes_decides chassis chassis).1 refl))
 
-module _ (visits : VisitLaw) (whole_walk : WholeWalkLaw) (m : State) (zones : Zoned) (sets : Sets) (more : ℕ) (s new : sim.SimState) (by : Choosing) (before after : SimOut) (u : IsUnderWay m zones more) (h : HoldsNetwork m zones.numbers sets s)
+module _ (fills : FillingLaw) (visits : VisitLaw) (whole_walk : WholeWalkLaw) (m : State) (zones : Zoned) (sets : Sets) (more : ℕ) (s new : sim.SimState) (by : Choosing) (before after : SimOut) (u : IsUnderWay m zones more) (h : HoldsNetwork m zones.numbers sets s)
     (i : SwitchPort) (there : at m.config.net.switch_ports i.name ≡ Some i) (virtual : HasVirtualPorts m.config.net i.switch) (packet : Packet) (whole : IsWhole packet) where
   abbrev Entry : Type 0
   Entry = IsEntry m zones sets more i.name packet before after new
@@ -77,7 +78,7 @@ module _ (visits : VisitLaw) (whole_walk : WholeWalkLaw) (m : State) (zones : Zo
     way t = visit scene i t packet
 
     ready : IsReady k zones.numbers
-    ready = is_ready m zones more sets s u h chassis flows held by (Vif i.name)
+    ready = is_ready fills m zones more sets s u h chassis flows held by (Vif i.name)
 
     hold : HoldLists k.number lists m.lists
     hold = h.zones chassis lists listed
@@ -136,10 +137,10 @@ bound_of : (by : Choosing) (s new : sim.SimState) (p : Name) (now : ℕ) (packet
 bound_of by s new p now packet before after (passing.IsInjected.through chassis flows lists left steps effects bound held listed walk told) = (chassis, bound)
 bound_of by s new p now packet before after (passing.IsInjected.nowhere chassis bound none told) = (chassis, bound)
 
-pub enters_so : VisitLaw → WholeWalkLaw → EntryJourneyLaw
-enters_so visits whole_walk m zones sets more s new by p packet before after u h virtual whole injected =
+pub enters_so : FillingLaw → VisitLaw → WholeWalkLaw → EntryJourneyLaw
+enters_so fills visits whole_walk m zones sets more s new by p packet before after u h virtual whole injected =
     let b = bound_of by s new p m.clock packet before after injected in
     let i = found (at m.config.net.switch_ports p) (u.bound.port_there p b.0 (sym (h.bindings p) ∙ b.1)) in
     let named = port_named m.config.net u.valid p i.0 i.1 in
     subst (λ q. passing.IsInjected by s q m.clock packet before after new → IsEntry m zones sets more q packet before after new) named
-    (enters_at visits whole_walk m zones sets more s new by before after u h i.0 (own_place m.config.net u.valid p i.0 i.1) (virtual i.0 i.1) packet whole) injected
+    (enters_at fills visits whole_walk m zones sets more s new by before after u h i.0 (own_place m.config.net u.valid p i.0 i.1) (virtual i.0 i.1) packet whole) injected

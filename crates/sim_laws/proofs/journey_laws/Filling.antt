@@ -13,14 +13,14 @@ use Rattle.net_model.specs.State.{State}
 use Rattle.ovn_base.proofs.AmongLaws.{map_among}
 use Rattle.ovn_base.specs.declared.name.Name.{Name}
 use Rattle.ovn_base.specs.declared.stages.TheConstants.{ENTRY_TABLE, REMOTE_TABLE, LOCAL_TABLE, LOOPBACK_TABLE, OUTPUT_TABLE}
-use Rattle.physical_flows.specs.ChassisFlows.{basis_at}
+use Rattle.physical_flows.specs.ChassisFlows.{AreExactly, basis_at}
 use Rattle.physical_flows.specs.Stages.{Basis, EntryRow, RemoteRow, HomeRow, ReturnRow, OutputRow}
 use Rattle.row_laws.specs.BestRow.{IsLoweredRow, HoldsRows}
 use Rattle.row_laws.specs.CanLower.{CanLower, CanLowerLaw}
 use Rattle.sim_laws.proofs.journey_laws.Premises.{owners_live}
-use Rattle.sim_laws.specs.journeys.Filling.{AroundFlow, AreAllFlows, FillingLaw}
-use Rattle.sim_laws.specs.journeys.Filling.AroundFlow.{in_entry, in_remote, in_home, in_back, in_output}
-use Rattle.sim_laws.specs.journeys.Holding.{HoldIn, AreTablesOf}
+use Rattle.sim_laws.specs.journeys.Filling.{FillingLaw}
+use Rattle.sim_laws.specs.journeys.Tables.{AroundFlow, ChassisFlow, HoldIn, AreTablesOf}
+use Rattle.sim_laws.specs.journeys.Tables.AroundFlow.{in_entry, in_remote, in_home, in_back, in_output}
 
 -- ---- tables
 
@@ -152,7 +152,7 @@ module _ (b : Basis) (f : Flow) where
 
 -- ---- a chassis
 
-module _ (m : State) (zones : Zoned) (sets : Sets) (chassis : Name) (flows : List Flow) (can : CanLower m.config.net m.keys) (all : AreAllFlows m zones sets chassis flows) where
+module _ (m : State) (zones : Zoned) (sets : Sets) (chassis : Name) (flows : List Flow) (can : CanLower m.config.net m.keys) (all : AreExactly (ChassisFlow m zones.numbers sets chassis) flows) where
   abbrev b : Basis
   b = basis_at m zones.numbers chassis
 
@@ -166,7 +166,7 @@ module _ (m : State) (zones : Zoned) (sets : Sets) (chassis : Name) (flows : Lis
   around_is f r = ap is_around (table_is b f r) ∙ around_so b f r
 
   stage_holds : (s : Stage) → HoldsRows m.config.net m.keys sets flows (stage_table s)
-  stage_holds s = record { can_lower = can; exactly = λ f is. (λ among. lowered f is ((all f).0 among), λ row. (all f).1 (inl row)) }
+  stage_holds s = record { can_lower = can; exactly = λ f is. (λ among. lowered f is ((all.same f).0 among), λ row. (all.same f).1 (inl row)) }
     where
       lowered : (f : Flow) → f.table ≡ stage_table s → IsLoweredRow m.config.net m.keys sets f ⊎ AroundFlow b f → IsLoweredRow m.config.net m.keys sets f
       lowered f is (inl row) = row
@@ -179,7 +179,7 @@ module _ (m : State) (zones : Zoned) (sets : Sets) (chassis : Name) (flows : Lis
     taken f is (inr r) = take f is r
 
     holds : HoldIn flows table Row
-    holds f is = (λ among. taken f is ((all f).0 among), λ row. (all f).1 (inr (put f row)))
+    holds f is = (λ among. taken f is ((all.same f).0 among), λ row. (all.same f).1 (inr (put f row)))
 
   fills : AreTablesOf m zones.numbers sets chassis flows
   fills = record {

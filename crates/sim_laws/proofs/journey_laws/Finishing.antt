@@ -1,6 +1,6 @@
 -- An event begins and is over: it is counted, and where nothing waits no key is retired.
 use Rattle.std.specs.Prelude.{◌≡◌, ◌≤◌, ◌<◌, ◌+◌, ◌*◌, ◌^◌, ℕ, List, [], ◌∷◌, map, refl}
-use Rattle.std.proofs.Common.{sym, ap, ◌∙◌, subst, arith}
+use Rattle.std.proofs.Common.{sym, ap, ◌∙◌, subst, arith, inl, inr}
 use Rattle.chassis_sim.specs.State.{SimState}
 use Rattle.conn_zones.specs.Zoning.{Zoned, GivenNumbers}
 use Rattle.flow_table.specs.declared.flow.Flow.{Flow}
@@ -10,21 +10,18 @@ use Rattle.net_model.specs.declared.crossing.Crossing.{Crossing}
 use Rattle.ovn_base.proofs.AmongLaws.{among_none}
 use Rattle.ovn_base.specs.declared.name.Name.{Name}
 use Rattle.ovn_base.specs.lists.Among.{Among}
-use Rattle.physical_flows.specs.ChassisFlows.{basis_at}
+use Rattle.physical_flows.specs.ChassisFlows.{AreExactly, basis_at}
 use Rattle.physical_flows.specs.RecordKeys.{HaveKeys}
-use Rattle.row_laws.specs.BestRow.{HoldsRows}
-use Rattle.row_laws.specs.StageLaws.{OfEachStage}
-use Rattle.logical_flows.specs.Stages.{stage_table}
-use Rattle.logical_flows.specs.declared.stage.Stage.{Stage}
-use Rattle.logical_flows.specs.declared.stage.Stage.TheVariants as stage
+use Rattle.physical_flows.specs.Stages.{Basis}
 use Rattle.tunnel_keys.proofs.Births.{born_later, settled_born}
 use Rattle.tunnel_keys.proofs.Invariant.{settled_hold}
 use Rattle.tunnel_keys.specs.Keys.{Keys, settled}
-use Rattle.sim_laws.proofs.journey_laws.RetiredRows.{entry_stays, remote_stays, home_stays, back_stays, output_stays, row_stays}
+use Rattle.sim_laws.proofs.journey_laws.RetiredRows.{around_stays, row_stays}
 use Rattle.sim_laws.specs.Held.{frame_of_crossing}
 use Rattle.sim_laws.specs.Sound.{AreBorn, MayWait}
 use Rattle.sim_laws.specs.journeys.AtRest.{IsAtRest, BeginsLaw, FinishesLaw}
-use Rattle.sim_laws.specs.journeys.Holding.{AreTablesOf, HoldsNetwork}
+use Rattle.sim_laws.specs.journeys.Holding.{HoldsNetwork}
+use Rattle.sim_laws.specs.journeys.Tables.{ChassisFlow}
 use Rattle.sim_laws.specs.journeys.UnderWay.{IsUnderWay}
 
 -- the state with other keys, and one event more
@@ -51,48 +48,19 @@ may_then m x w = record {
 
 -- ---- where no key is retired any more
 
-rows_settle : (m : State) (sets : Sets) (flows : List Flow) (table : ℕ) → HoldsRows m.config.net m.keys sets flows table → HoldsRows m.config.net (settled m.keys) sets flows table
-rows_settle m sets flows table h = record {
-  can_lower = record { hold = settled_hold m.keys h.can_lower.hold; live = h.can_lower.live; suited = h.can_lower.suited };
-  exactly = λ f is. (
-    λ among. row_stays m.keys [] [] m.config.net sets f ((h.exactly f is).0 among),
-    λ row. (h.exactly f is).1 (row_stays (settled m.keys) m.keys.retired_datapaths m.keys.retired_ports m.config.net sets f row),
-  );
-}
+flows_settle : (m : State) (numbers : GivenNumbers) (sets : Sets) (c : Name) (flows : List Flow) → AreExactly (ChassisFlow m numbers sets c) flows → AreExactly (ChassisFlow (counted m (settled m.keys)) numbers sets c) flows
+flows_settle m numbers sets c flows t = record { same = λ f. (λ among. settles f ((t.same f).0 among), λ r. (t.same f).1 (unsettles f r)); once = t.once }
+  where
+    b : Basis
+    b = basis_at m numbers c
 
-module _ (m : State) (numbers : GivenNumbers) (sets : Sets) (c : Name) (flows : List Flow) (t : AreTablesOf m numbers sets c flows) where
-  settle_stage : (s : Stage) → HoldsRows m.config.net m.keys sets flows (stage_table s) → HoldsRows m.config.net (settled m.keys) sets flows (stage_table s)
-  settle_stage s h = rows_settle m sets flows (stage_table s) h
+    settles : (f : Flow) → ChassisFlow m numbers sets c f → ChassisFlow (counted m (settled m.keys)) numbers sets c f
+    settles f (inl row) = inl (row_stays m.keys [] [] m.config.net sets f row)
+    settles f (inr r) = inr (around_stays b [] [] f r)
 
-  stages_settle : OfEachStage (λ s. HoldsRows m.config.net (settled m.keys) sets flows (stage_table s))
-  stages_settle = record {
-    admit = settle_stage stage.SwitchAdmit t.stages.admit;
-    port_security = settle_stage stage.SwitchPortSecurity t.stages.port_security;
-    track = settle_stage stage.SwitchTrack t.stages.track;
-    acl_in = settle_stage stage.SwitchAclIn t.stages.acl_in;
-    state_in = settle_stage stage.SwitchStateIn t.stages.state_in;
-    arp = settle_stage stage.SwitchArp t.stages.arp;
-    lookup = settle_stage stage.SwitchLookup t.stages.lookup;
-    track_out = settle_stage stage.SwitchTrackOut t.stages.track_out;
-    acl_out = settle_stage stage.SwitchAclOut t.stages.acl_out;
-    state_out = settle_stage stage.SwitchStateOut t.stages.state_out;
-    security_out = settle_stage stage.SwitchSecurityOut t.stages.security_out;
-  }
-
-  pub tables_settle : AreTablesOf (counted m (settled m.keys)) numbers sets c flows
-  tables_settle =
-      let b = basis_at m numbers c in
-      let then = basis_at (counted m (settled m.keys)) numbers c in
-      let datapaths = m.keys.retired_datapaths in
-      let ports = m.keys.retired_ports in
-      record {
-        stages = stages_settle;
-        entry = λ f is. (λ among. entry_stays b [] [] f ((t.entry f is).0 among), λ row. (t.entry f is).1 (entry_stays then datapaths ports f row));
-        remote = λ f is. (λ among. remote_stays b [] [] f ((t.remote f is).0 among), λ row. (t.remote f is).1 (remote_stays then datapaths ports f row));
-        home = λ f is. (λ among. home_stays b [] [] f ((t.home f is).0 among), λ row. (t.home f is).1 (home_stays then datapaths ports f row));
-        back = λ f is. (λ among. back_stays b [] [] f ((t.back f is).0 among), λ row. (t.back f is).1 (back_stays then datapaths ports f row));
-        output = λ f is. (λ among. output_stays b [] [] f ((t.output f is).0 among), λ row. (t.output f is).1 (output_stays then datapaths ports f row));
-      }
+    unsettles : (f : Flow) → ChassisFlow (counted m (settled m.keys)) numbers sets c f → ChassisFlow m numbers sets c f
+    unsettles f (inl row) = inl (row_stays (settled m.keys) m.keys.retired_datapaths m.keys.retired_ports m.config.net sets f row)
+    unsettles f (inr r) = inr (around_stays (basis_at (counted m (settled m.keys)) numbers c) m.keys.retired_datapaths m.keys.retired_ports f r)
 
 -- ---- the event is over
 
@@ -124,7 +92,7 @@ module _ (m : State) (zones : Zoned) (sets : Sets) (more : ℕ) (s : SimState) (
       names = record { datapaths = h.names.datapaths; ports = h.names.ports };
       held = h.held;
       members = h.members;
-      tables = λ c flows is. let t = h.tables c flows is in record { stages = t.stages; entry = t.entry; remote = t.remote; home = t.home; back = t.back; output = t.output };
+      tables = h.tables;
       zones = h.zones;
       waiting = h.waiting;
       next = h.next;
@@ -169,7 +137,7 @@ module _ (m : State) (zones : Zoned) (sets : Sets) (more : ℕ) (s : SimState) (
           names = record { datapaths = h.names.datapaths; ports = h.names.ports };
           held = h.held;
           members = h.members;
-          tables = λ c flows is. tables_settle m zones.numbers sets c flows (h.tables c flows is);
+          tables = λ c flows is. flows_settle m zones.numbers sets c flows (h.tables c flows is);
           zones = h.zones;
           waiting = h.waiting ∙ ap (λ ws. map (frame_of_crossing m.keys) ws) e ∙ sym (ap (λ ws. map (frame_of_crossing (settled m.keys)) ws) e);
           next = h.next;

@@ -1,11 +1,12 @@
 -- Each chassis that is held has what the laws of passes ask.
 use Rattle.sim_laws.proofs.journey_laws.Premises.{sound_on}
+use Rattle.sim_laws.specs.journeys.Filling.{FillingLaw}
 use Rattle.sim_laws.specs.journeys.Premises.{ReadyLaw}
 
-pub is_ready : ReadyLaw
-is_ready m zones more sets s u h chassis flows held by entry =
+pub is_ready : FillingLaw → ReadyLaw
+is_ready fills m zones more sets s u h chassis flows held by entry =
     let sound = sound_on m zones more u sets by flows entry chassis in
-    let tables = h.tables chassis flows held in
+    let tables = fills m zones more sets chassis flows u (h.tables chassis flows held) in
     record {
       laid = record {
         valid = u.valid;

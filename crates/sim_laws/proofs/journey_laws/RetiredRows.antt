@@ -16,6 +16,8 @@ use Rattle.row_laws.specs.BestRow.{IsLoweredRow}
 use Rattle.tunnel_keys.specs.Keys.{Keys}
 use Rattle.tunnel_keys.specs.declared.owner.HeldDatapath.{HeldDatapath}
 use Rattle.tunnel_keys.specs.declared.owner.HeldPort.{HeldPort}
+use Rattle.sim_laws.specs.journeys.Tables.{AroundFlow}
+use Rattle.sim_laws.specs.journeys.Tables.AroundFlow.{in_entry, in_remote, in_home, in_back, in_output}
 
 -- the same live keys, with these that are retired
 abbrev pub retiring : Keys → List HeldDatapath → List HeldPort → Keys
@@ -36,25 +38,32 @@ module _ (b : Basis) (datapaths : List HeldDatapath) (ports : List HeldPort) whe
   here_stays : (q : Name) (zone : ℕ) → IsHere b q zone → IsHere then_basis q zone
   here_stays q zone h = record { bound = h.bound; zoned = h.zoned }
 
-  pub entry_stays : (f : Flow) → EntryRow b f → EntryRow then_basis f
+  entry_stays : (f : Flow) → EntryRow b f → EntryRow then_basis f
   entry_stays f (EntryRow.entry q port dp key zone of is e) = EntryRow.entry q port dp key zone (port_stays q port dp key of) (here_stays q zone is) e
   entry_stays f (EntryRow.arrival e) = EntryRow.arrival e
 
-  pub remote_stays : (f : Flow) → RemoteRow b f → RemoteRow then_basis f
+  remote_stays : (f : Flow) → RemoteRow b f → RemoteRow then_basis f
   remote_stays f (RemoteRow.remote q port dp key home of bound apart e) = RemoteRow.remote q port dp key home (port_stays q port dp key of) bound apart e
   remote_stays f (RemoteRow.spread d dp group on e) = RemoteRow.spread d dp group (datapath_stays d dp on) e
   remote_stays f (RemoteRow.stay e) = RemoteRow.stay e
 
-  pub home_stays : (f : Flow) → HomeRow b f → HomeRow then_basis f
+  home_stays : (f : Flow) → HomeRow b f → HomeRow then_basis f
   home_stays f (HomeRow.home q port dp key zone of is e) = HomeRow.home q port dp key zone (port_stays q port dp key of) (here_stays q zone is) e
   home_stays f (HomeRow.copies d dp group arrived on e) = HomeRow.copies d dp group arrived (datapath_stays d dp on) e
 
-  pub back_stays : (f : Flow) → ReturnRow b f → ReturnRow then_basis f
+  back_stays : (f : Flow) → ReturnRow b f → ReturnRow then_basis f
   back_stays f (ReturnRow.back q port dp key of e) = ReturnRow.back q port dp key (port_stays q port dp key of) e
   back_stays f (ReturnRow.leave e) = ReturnRow.leave e
 
-  pub output_stays : (f : Flow) → OutputRow b f → OutputRow then_basis f
+  output_stays : (f : Flow) → OutputRow b f → OutputRow then_basis f
   output_stays f (OutputRow.output q port dp key of e) = OutputRow.output q port dp key (port_stays q port dp key of) e
+
+  pub around_stays : (f : Flow) → AroundFlow b f → AroundFlow then_basis f
+  around_stays f (in_entry row) = in_entry (entry_stays f row)
+  around_stays f (in_remote row) = in_remote (remote_stays f row)
+  around_stays f (in_home row) = in_home (home_stays f row)
+  around_stays f (in_back row) = in_back (back_stays f row)
+  around_stays f (in_output row) = in_output (output_stays f row)
 
 -- ---- lowered rows
 

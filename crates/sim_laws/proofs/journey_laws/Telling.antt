@@ -27,7 +27,7 @@ use Rattle.sim_laws.specs.Effects.{effects_of}
 use Rattle.sim_laws.specs.Held.{HaveOwnersNames, frame_of_crossing}
 use Rattle.sim_laws.specs.Naming.{IsNumbered}
 use Rattle.sim_laws.specs.Sound.{AreCrossings, MayWait}
-use Rattle.sim_laws.specs.journeys.Holding.{AreTablesOf, HoldsNetwork}
+use Rattle.sim_laws.specs.journeys.Holding.{HoldsNetwork}
 use Rattle.sim_laws.specs.journeys.InState.{zones_on}
 use Rattle.sim_laws.specs.journeys.UnderWay.{IsUnderWay}
 use Rattle.sim_laws.specs.pipelines.HeldLists.{HoldLists}
@@ -88,9 +88,6 @@ led_sound m zones more most lists waiting ends u c may few = record {
 -- ---- what is told
 
 module _ (m : State) (numbers : GivenNumbers) (sets : Sets) (s : sim.SimState) (h : HoldsNetwork m numbers sets s) where
-  tables_still : (lists : Lists) (waiting : List (ℕ × Crossing)) (next : ℕ) (c : Name) (flows : List Flow) → AreTablesOf m numbers sets c flows → AreTablesOf (other m lists waiting next) numbers sets c flows
-  tables_still lists waiting next c flows t = record { stages = t.stages; entry = t.entry; remote = t.remote; home = t.home; back = t.back; output = t.output }
-
   -- with zones that hold the lists, and with the frames of the crossings
   pub held_with : (lists : Lists) (waiting : List (ℕ × Crossing)) (next : ℕ) (zones : List (Name × ZoneLists)) (frames : List (ℕ × WaitingFrame)) (then : ℕ)
       → ((c : Name) (held : ZoneLists) → at_name zones c ≡ Some held → HoldLists (zones_on numbers c) held lists) → frames ≡ map (frame_of_crossing m.keys) waiting → then ≡ next
@@ -100,7 +97,7 @@ module _ (m : State) (numbers : GivenNumbers) (sets : Sets) (s : sim.SimState) (
     names = record { datapaths = h.names.datapaths; ports = h.names.ports };
     held = h.held;
     members = h.members;
-    tables = λ c flows held. tables_still lists waiting next c flows (h.tables c flows held);
+    tables = h.tables;
     zones = hold;
     waiting = waits;
     next = is;

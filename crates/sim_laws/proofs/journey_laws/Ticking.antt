@@ -89,7 +89,7 @@ ticks m zones sets more s seconds u h = (
     names = record { datapaths = h.names.datapaths; ports = h.names.ports };
     held = h.held;
     members = h.members;
-    tables = λ c flows is. let t = h.tables c flows is in record { stages = t.stages; entry = t.entry; remote = t.remote; home = t.home; back = t.back; output = t.output };
+    tables = h.tables;
     zones = all_hold (m.clock + seconds) zones.numbers s.zones m.lists h.zones;
     waiting = h.waiting;
     next = h.next;

@@ -5,18 +5,18 @@ use Rattle.sim_laws.proofs.journey_laws.Losing.{loses_so}
 use Rattle.sim_laws.proofs.journeys.journeys_refine.Goals as goal
 
 pub returns-clause-enters : goal.returns-clause-enters
-returns-clause-enters c = enters_so c.switch_passes.ensures.visits c.switch_passes.ensures.whole
+returns-clause-enters c = enters_so c.tables_filled.ensures c.switch_passes.ensures.visits c.switch_passes.ensures.whole
 
 pub returns-clause-arrives : goal.returns-clause-arrives
-returns-clause-arrives c = arrives_so c.switch_passes.ensures.arrives c.switch_passes.ensures.whole
+returns-clause-arrives c = arrives_so c.tables_filled.ensures c.switch_passes.ensures.arrives c.switch_passes.ensures.whole
 
 pub returns-clause-loses : goal.returns-clause-loses
 returns-clause-loses c = loses_so
 
 pub returns-clause-all_arrive : goal.returns-clause-all_arrive
 returns-clause-all_arrive c =
-    all_arrives (enters_so c.switch_passes.ensures.visits c.switch_passes.ensures.whole) (arrives_so c.switch_passes.ensures.arrives c.switch_passes.ensures.whole)
+    all_arrives (enters_so c.tables_filled.ensures c.switch_passes.ensures.visits c.switch_passes.ensures.whole) (arrives_so c.tables_filled.ensures c.switch_passes.ensures.arrives c.switch_passes.ensures.whole)
 
 pub returns-clause-goes_through : goal.returns-clause-goes_through
 returns-clause-goes_through c =
-    goes_all (enters_so c.switch_passes.ensures.visits c.switch_passes.ensures.whole) (arrives_so c.switch_passes.ensures.arrives c.switch_passes.ensures.whole)
+    goes_all (enters_so c.tables_filled.ensures c.switch_passes.ensures.visits c.switch_passes.ensures.whole) (arrives_so c.tables_filled.ensures c.switch_passes.ensures.arrives c.switch_passes.ensures.whole)

@@ -9,4 +9,4 @@ pub returns-clause-sound : goal.returns-clause-sound
 returns-clause-sound c = sound_on
 
 pub returns-clause-ready : goal.returns-clause-ready
-returns-clause-ready c = is_ready
+returns-clause-ready c = is_ready c.tables_filled.ensures
