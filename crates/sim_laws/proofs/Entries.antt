@@ -64,7 +64,7 @@ module _ (law : EntryLaw) (walks : PlainWalks) (are_proper : PlainIsProper) (m :
         held = told_held m zones t new still chassis (start.Port p) steps ends effects v.numbered (e.2 0) before after told;
       }
 
-  enters : GoesIn s p frame before after new → IsRefined zones (more + 64) before after new (λ es mid. Enters m p frame es mid)
+  enters : GoesIn clock s p frame before after new → IsRefined zones (more + 64) before after new (λ es mid. Enters m p frame es mid)
   enters g = by g.injected
     where
       by : passing.IsInjected any_legal s p clock g.packet before after new → IsRefined zones (more + 64) before after new (λ es mid. Enters m p frame es mid)

@@ -6,8 +6,7 @@ use Rattle.std.specs.Cmp.{first_so, second_so}
 use Rattle.std.specs.List.{filter, find, list_any}
 use Rattle.std.specs.Map.{values_of}
 use Rattle.nb_records.specs.Network.{Network}
-use Rattle.nb_records.specs.Switches.{is_virtual_kind, is_virtual, has_some, takes_unknown, switch_ports_of, enabled_ports}
-use Rattle.nb_records.specs.declared.switch.PortKind.{PortKind}
+use Rattle.nb_records.specs.Switches.{is_virtual, has_some, takes_unknown, switch_ports_of, enabled_ports}
 use Rattle.nb_records.specs.declared.switch.PortKind.TheVariants as port_kind
 use Rattle.nb_records.specs.declared.switch.SwitchPort.{SwitchPort}
 use Rattle.net_model.specs.Targets.{members}

@@ -11,7 +11,7 @@ use Rattle.chassis_sim.specs.declared.out.SimOut.{SimOut}
 use Rattle.chassis_sim.specs.declared.underlay.WaitingFrame.{WaitingFrame}
 use Rattle.sim_laws.specs.PacketSteps.{most_arrivals}
 
--- the time of every event: no event moves the clock yet
+-- the time of every event of today's program, in which no event moves the clock yet
 abbrev pub clock : ℕ
 clock = 0
 
@@ -19,32 +19,32 @@ clock = 0
 abbrev pub no_out : SimOut
 no_out = record { effects = []; walks = [] }
 
--- the packet of the frame goes in at the port
-pub record GoesIn (s : sim.SimState) (p : Name) (frame : List ℕ) (before after : SimOut) (new : sim.SimState) : Type 0 where
+-- at the time, the packet of the frame goes in at the port
+pub record GoesIn (now : ℕ) (s : sim.SimState) (p : Name) (frame : List ℕ) (before after : SimOut) (new : sim.SimState) : Type 0 where
   pub packet : inet.Packet
   pub whole : IsWhole packet
   pub frame_is : frame_of packet ≡ frame
-  pub injected : IsInjected any_legal s p clock packet before after new
+  pub injected : IsInjected any_legal s p now packet before after new
 
 -- the frame of the lowest number arrives, and then the others do
-pub record ArrivesFirst (s : sim.SimState) (before : SimOut) (Others : sim.SimState → SimOut → Type 0) : Type 0 where
+pub record ArrivesFirst (now : ℕ) (s : sim.SimState) (before : SimOut) (Others : sim.SimState → SimOut → Type 0) : Type 0 where
   pub n : ℕ
   pub frame : WaitingFrame
   pub behind : List (ℕ × WaitingFrame)
   pub first : s.waiting ≡ (n, frame) ∷ behind
   pub between : SimOut
   pub mid : sim.SimState
-  pub arrives : IsArrived any_legal s n false clock before between mid
+  pub arrives : IsArrived any_legal s n false now before between mid
   pub others : Others mid between
 
 -- the lowest frame arrives again and again, until none waits or so many arrived
-abbrev pub AreDrained : ℕ → sim.SimState → SimOut → SimOut → sim.SimState → Type 0
-AreDrained zero s before after new = (after ≡ before) × (new ≡ s)
-AreDrained (suc k) s before after new = ((s.waiting ≡ []) × (after ≡ before) × (new ≡ s)) ⊎ ArrivesFirst s before (λ mid between. AreDrained k mid between after new)
+abbrev pub AreDrained : ℕ → ℕ → sim.SimState → SimOut → SimOut → sim.SimState → Type 0
+AreDrained now zero s before after new = (after ≡ before) × (new ≡ s)
+AreDrained now (suc k) s before after new = ((s.waiting ≡ []) × (after ≡ before) × (new ≡ s)) ⊎ ArrivesFirst now s before (λ mid between. AreDrained now k mid between after new)
 
 -- the packet goes in, and then all that wait arrive
-pub record GoesThrough (s : sim.SimState) (p : Name) (frame : List ℕ) (after : SimOut) (new : sim.SimState) : Type 0 where
+pub record GoesThrough (now : ℕ) (s : sim.SimState) (p : Name) (frame : List ℕ) (after : SimOut) (new : sim.SimState) : Type 0 where
   pub between : SimOut
   pub mid : sim.SimState
-  pub goes_in : GoesIn s p frame no_out between mid
-  pub drained : AreDrained most_arrivals mid between after new
+  pub goes_in : GoesIn now s p frame no_out between mid
+  pub drained : AreDrained now most_arrivals mid between after new

@@ -45,7 +45,7 @@ EntryRefines =
     (m : State) (zones : Zoned) (more : ℕ) (s new : held.SimState) (p : Name) (frame : List ℕ) (before after : SimOut)
     → IsAmidst m zones more
     → AreHeld m zones.numbers s
-    → GoesIn s p frame before after new
+    → GoesIn clock s p frame before after new
     → IsRefined zones (more + 64) before after new (λ effects mid. Enters m p frame effects mid)
 
 -- a frame that arrives is its crossing, that arrives; no frame is sent for it

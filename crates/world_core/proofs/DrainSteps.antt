@@ -10,7 +10,7 @@ use Rattle.switch_engine.specs.declared.effect.NetEffect.{NetEffect}
 use Rattle.net_model.specs.declared.crossing.Crossing.{Crossing}
 use Rattle.world_core.proofs.WaitingNames.{own_number}
 use Rattle.world_core.specs.Packets.{AreGone, HasArrived, most_sent}
-use Rattle.sim_laws.specs.Passing.{AreDrained}
+use Rattle.sim_laws.specs.Passing.{AreDrained, clock}
 use Rattle.sim_laws.specs.Refinement.{IsAmidst}
 use Rattle.world_core.specs.WorldView.{WorldView}
 use Rattle.sim_laws.specs.Held.{AreHeld, frame_of_crossing}
@@ -22,7 +22,7 @@ use Rattle.physical_flows.proofs.FlowSearch.{is_some_of}
 pub record AreDraining (old : WorldView) (before : SimOut) (left : ℕ) (now : WorldView) (told : SimOut) : Type 0 where
   pub own : List NetEffect
   pub all : told.effects ≡ before.effects ++ own
-  pub drained : (after : SimOut) (s : sim.SimState) → AreDrained left now.sim told after s → AreDrained most_arrivals old.sim before after s
+  pub drained : (after : SimOut) (s : sim.SimState) → AreDrained clock left now.sim told after s → AreDrained clock most_arrivals old.sim before after s
   pub drains : (effects : List NetEffect) (m : State) → Drains left now.state effects m → Drains most_arrivals old.state (own ++ effects) m
   pub amidst : IsAmidst now.state now.zones most_sent
   pub held : AreHeld now.state now.zones.numbers now.sim
@@ -75,7 +75,7 @@ drain_goes_on old before left now next told more n x behind d first p = record {
   rest = p.rest ∙ ap (λ (w : WorldView). record w { state = next.state; sim = next.sim }) d.rest;
 }
 
-over_sim : (left : ℕ) (s : sim.SimState) (told : SimOut) → (left ≡ 0) ⊎ (s.waiting ≡ []) → AreDrained left s told told s
+over_sim : (left : ℕ) (s : sim.SimState) (told : SimOut) → (left ≡ 0) ⊎ (s.waiting ≡ []) → AreDrained clock left s told told s
 over_sim zero s told e = (refl, refl)
 over_sim (suc left) s told (inl z) = absurd (omega (arith, z))
 over_sim (suc left) s told (inr none) = inl (none, refl, refl)

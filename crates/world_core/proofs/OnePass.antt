@@ -186,7 +186,7 @@ module _ (a b : sim.SimState) (alike : AreAlike a b) where
       let same : c ≡ d = same_Some c d (sym home ∙ alike.bindings p ∙ there) in
       told_alike a b alike c (start_at.Port p) [] [] before then after later new other walks told (told_as a b alike c d (start_at.Port p) [] [] [] [] then later other same (refl, refl) said)
 
-  goes_in_alike : (p : Name) (frame : List ℕ) (before then after later : SimOut) (new other : sim.SimState) → before.walks ≡ then.walks → GoesIn a p frame before after new → GoesIn b p frame then later other → Same after later new other
+  goes_in_alike : (p : Name) (frame : List ℕ) (before then after later : SimOut) (new other : sim.SimState) → before.walks ≡ then.walks → GoesIn clock a p frame before after new → GoesIn clock b p frame then later other → Same after later new other
   goes_in_alike p frame before then after later new other walks h k =
       let packet : h.packet ≡ k.packet = one_packet_at_most h.packet k.packet h.whole k.whole (h.frame_is ∙ sym k.frame_is) in
       injected_alike p k.packet before then after later new other walks (subst (λ x. IsInjected any_legal a p clock x before after new) packet h.injected) k.injected
@@ -246,7 +246,7 @@ module _ (a b : sim.SimState) (alike : AreAlike a b) (n : ℕ) (keep : Bool) whe
 
 -- ---- all that wait
 
-drained_alike : (most : ℕ) (a b : sim.SimState) → AreAlike a b → (before then after later : SimOut) (new other : sim.SimState) → before.walks ≡ then.walks → AreDrained most a before after new → AreDrained most b then later other → after.walks ≡ later.walks
+drained_alike : (most : ℕ) (a b : sim.SimState) → AreAlike a b → (before then after later : SimOut) (new other : sim.SimState) → before.walks ≡ then.walks → AreDrained clock most a before after new → AreDrained clock most b then later other → after.walks ≡ later.walks
 drained_alike zero a b alike before then after later new other walks h k = ap (λ (o : SimOut). o.walks) h.0 ∙ walks ∙ ap (λ (o : SimOut). o.walks) (sym k.0)
 drained_alike (suc most) a b alike before then after later new other walks (inl h) (inl k) = ap (λ (o : SimOut). o.walks) h.1 ∙ walks ∙ ap (λ (o : SimOut). o.walks) (sym k.1)
 drained_alike (suc most) a b alike before then after later new other walks (inl h) (inr k) = absurd (some_wait (k.n, k.frame) k.behind a.waiting (alike.waiting ∙ k.first) h.0)
@@ -256,8 +256,8 @@ drained_alike (suc most) a b alike before then after later new other walks (inr 
     let first = arrives_alike a b alike k.n false before then h.between k.between h.mid k.mid walks (subst (λ n. IsArrived any_legal a n false clock before h.between h.mid) number h.arrives) k.arrives in
     drained_alike most h.mid k.mid first.alike h.between k.between after later new other first.walks h.others k.others
 
-through_alike : (most : ℕ) (a b : sim.SimState) → AreAlike a b → (p : Name) (frame : List ℕ) (between amid after later : SimOut) (mid half new other : sim.SimState) → GoesIn a p frame no_out between mid → AreDrained most mid between after new
-    → GoesIn b p frame no_out amid half → AreDrained most half amid later other → after.walks ≡ later.walks
+through_alike : (most : ℕ) (a b : sim.SimState) → AreAlike a b → (p : Name) (frame : List ℕ) (between amid after later : SimOut) (mid half new other : sim.SimState) → GoesIn clock a p frame no_out between mid → AreDrained clock most mid between after new
+    → GoesIn clock b p frame no_out amid half → AreDrained clock most half amid later other → after.walks ≡ later.walks
 through_alike most a b alike p frame between amid after later mid half new other h d k e =
     let first = goes_in_alike a b alike p frame no_out no_out between amid mid half refl h k in
     drained_alike most mid half first.alike between amid after later new other first.walks d e

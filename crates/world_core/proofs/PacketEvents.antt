@@ -83,7 +83,7 @@ pub entry_done : (old : WorldView) (p : Name) (frame : List ℕ) (before after :
 entry_done old p frame before after mid new count built t room none h then counts =
     let own : after.effects ≡ h.effects = h.all ∙ ap (λ l. l ++ h.effects) none.effects in
     finish_done old (event_of.Inject p frame) after.effects after.walks mid new count t room (enters_events old.state p frame h.effects mid.state h.happens) (enters_moves old.state (plain_valid old.state.config.net t.consistent.valid t.consistent.built) p frame after.effects mid.state built (subst (λ es. Enters old.state p frame es mid.state) (sym own) h.happens) (entered_there old t p frame after.effects mid.state (subst (λ es. Enters old.state p frame es mid.state) (sym own) h.happens)))
-    (subst (λ b. GoesIn old.sim p frame b after mid.sim) (nothing before none) h.passed) h.amidst h.held h.rest then refl counts
+    (subst (λ b. GoesIn clock old.sim p frame b after mid.sim) (nothing before none) h.passed) h.amidst h.held h.rest then refl counts
 
 pub arrival_done : (old : WorldView) (n : ℕ) (keep : Bool) (before after : SimOut) (mid new : WorldView) (count : ℕ) → IsTaken old → event_count old.state < 2 ^ 42 → IsNothing before → HasArrived old n keep before after mid
     → new ≡ record mid { state = finished mid.state } → count ≡ matched after.walks → IsDone old (cond keep (event_of.Repeat n) (event_of.Deliver n)) after.effects after.walks count new
@@ -101,7 +101,7 @@ pub drain_done : (old : WorldView) (before after : SimOut) (mid new : WorldView)
 drain_done old before after mid new count t room none h then counts =
     let own : after.effects ≡ h.effects = h.all ∙ ap (λ l. l ++ h.effects) none.effects in
     finish_done old event_of.Drain after.effects after.walks mid new count t room (drains_events most_arrivals old.state h.effects mid.state h.happens) (drains_moves old.state after.effects mid.state (plain_valid old.state.config.net t.consistent.valid t.consistent.built) (subst (λ es. Drains most_arrivals old.state es mid.state) (sym own) h.happens))
-    (subst (λ b. AreDrained most_arrivals old.sim b after mid.sim) (nothing before none) h.passed) h.amidst h.held h.rest then refl counts
+    (subst (λ b. AreDrained clock most_arrivals old.sim b after mid.sim) (nothing before none) h.passed) h.amidst h.held h.rest then refl counts
 
 pub packet_done : (old : WorldView) (p : Name) (frame : List ℕ) (before between after : SimOut) (first mid new : WorldView) (count : ℕ) → carries_arp frame ≡ false → IsTaken old → event_count old.state < 2 ^ 42 → IsNothing before → HasEntered old p frame before between first
     → AreGone most_arrivals first between after mid → new ≡ record mid { state = finished mid.state } → count ≡ matched after.walks → IsDone old (event_of.Packet p frame) after.effects after.walks count new
@@ -112,7 +112,7 @@ packet_done old p frame before between after first mid new count built t room no
     let rest : mid ≡ record old { state = mid.state; sim = mid.sim } = d.rest ∙ ap (λ (w : WorldView). record w { state = mid.state; sim = mid.sim }) e.rest in
     finish_done old (event_of.Packet p frame) after.effects after.walks mid new count t room events
     (sends_moves old.state p frame after.effects mid.state (plain_valid old.state.config.net t.consistent.valid t.consistent.built) built (record { own = e.effects; more = d.effects; all = all; mid = first.state; enters = e.happens; drains = d.happens }) (entered_there old t p frame e.effects first.state e.happens))
-    (record { between = between; mid = first.sim; goes_in = subst (λ b. GoesIn old.sim p frame b between first.sim) (nothing before none) e.passed; drained = d.passed }) d.amidst d.held rest then refl counts
+    (record { between = between; mid = first.sim; goes_in = subst (λ b. GoesIn clock old.sim p frame b between first.sim) (nothing before none) e.passed; drained = d.passed }) d.amidst d.held rest then refl counts
 
 -- what is handed on is what came
 pub handed_on : (old new : WorldView) (event : Event) (out : SimOut) (effects : List NetEffect) (walks : List Walk) (count : ℕ) → effects ≡ out.effects → walks ≡ out.walks → IsDone old event out.effects out.walks count new

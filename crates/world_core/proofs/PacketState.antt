@@ -121,7 +121,7 @@ sent_also m next p to bytes x f = record {
 }
 
 pub goes_on : (old : WorldView) (p : Name) (frame : List ℕ) (before after : SimOut) (s : sim.SimState) (effects : List NetEffect) → IsAmidst old.state old.zones 0 → AreHeld old.state old.zones.numbers old.sim → IsSome (at old.state.config.bindings p)
-    → GoesIn old.sim p frame before after s → effects ≡ drop (length before.effects) after.effects → GoesOn old p frame before after s effects
+    → GoesIn clock old.sim p frame before after s → effects ≡ drop (length before.effects) after.effects → GoesOn old p frame before after s effects
 goes_on old p frame before after s effects a h bound g are =
     let r = entry_refines law.entry walks_are_plain plain_proper old.state old.zones 0 old.sim s p frame before after a h g in
     let own = r.happens in

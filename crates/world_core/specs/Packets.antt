@@ -54,7 +54,7 @@ pub record HasPassed (old : WorldView) (before after : SimOut) (new : WorldView)
 
 -- a packet went in at a port
 abbrev pub HasEntered : WorldView → Name → List ℕ → SimOut → SimOut → WorldView → Type 0
-HasEntered old p frame before after new = HasPassed old before after new (λ s b a t. GoesIn s p frame b a t) (λ m effects k. Enters m p frame effects k)
+HasEntered old p frame before after new = HasPassed old before after new (λ s b a t. GoesIn clock s p frame b a t) (λ m effects k. Enters m p frame effects k)
 
 -- a frame arrived
 abbrev pub HasArrived : WorldView → ℕ → Bool → SimOut → SimOut → WorldView → Type 0
@@ -62,7 +62,7 @@ HasArrived old n keep before after new = HasPassed old before after new (λ s b 
 
 -- the waiting frames arrived, up to so many
 abbrev pub AreGone : ℕ → WorldView → SimOut → SimOut → WorldView → Type 0
-AreGone most old before after new = HasPassed old before after new (λ s b a t. AreDrained most s b a t) (λ m effects k. Drains most m effects k)
+AreGone most old before after new = HasPassed old before after new (λ s b a t. AreDrained clock most s b a t) (λ m effects k. Drains most m effects k)
 
 -- these crossings, each with its number, are those of the frames among the effects of a packet from the port
 pub record AreSentBy (m : State) (p : Name) (effects : List NetEffect) (crossings : List (ℕ × Crossing)) : Type 0 where

@@ -1,7 +1,6 @@
 -- Frames that arrive on the simulated chassis one after another, and a packet that goes in before.
 use Rattle.std.specs.Prelude.{◌≡◌, ◌+◌, ◌++◌, ℕ, zero, suc, false, List, [], ◌∷◌, length, map, refl}
 use Rattle.std.proofs.Common.{sym, ap, ◌∙◌, subst, append_assoc, append-nil, arith, inl, inr}
-use Rattle.chassis_sim.specs.Passing.{IsArrived, IsInjected}
 use Rattle.chassis_sim.specs.State.{SimState}
 use Rattle.chassis_sim.specs.declared.out.SimOut.{SimOut}
 use Rattle.chassis_sim.specs.declared.underlay.WaitingFrame.{WaitingFrame}
@@ -19,7 +18,7 @@ use Rattle.sim_laws.proofs.journey_laws.Moving.{all_drain, enters_and_drains}
 use Rattle.sim_laws.specs.Effects.{effects_of, spelled}
 use Rattle.sim_laws.specs.Held.{frame_of_crossing}
 use Rattle.sim_laws.specs.PacketSteps.{most_arrivals}
-use Rattle.sim_laws.specs.Passing.{AreDrained, clock, no_out}
+use Rattle.sim_laws.specs.Passing.{AreDrained, no_out}
 use Rattle.sim_laws.specs.journeys.Events.{AllArriveLaw, GoesThroughLaw}
 use Rattle.sim_laws.specs.journeys.Holding.{HoldsNetwork}
 use Rattle.sim_laws.specs.journeys.Moves.{AreMoved}
@@ -89,8 +88,8 @@ behind_effects m mid own more first second third keys next is also =
     ∙ ap (λ es. first ++ es) (sym (effects_append m.keys m.next own more))
 
 module _ (entry : EntryJourneyLaw) (arrival : ArrivalJourneyLaw) (zones : Zoned) (sets : Sets) (more : ℕ) where
-  drained : (k : ℕ) (m : State) (s new : SimState) (before after : SimOut) → m.clock ≡ clock → IsUnderWay m zones more → HaveVirtualPorts m.config.net → HoldsNetwork m zones.numbers sets s → AreDrained k s before after new → IsDrained k m zones sets more before after new
-  drained zero m s new before after now u virtual h d = record {
+  drained : (k : ℕ) (m : State) (s new : SimState) (before after : SimOut) → IsUnderWay m zones more → HaveVirtualPorts m.config.net → HoldsNetwork m zones.numbers sets s → AreDrained m.clock k s before after new → IsDrained k m zones sets more before after new
+  drained zero m s new before after u virtual h d = record {
     ends = [];
     effects = ap (λ (o : SimOut). o.effects) d.0 ∙ sym (append-nil before.effects);
     left = m;
@@ -98,7 +97,7 @@ module _ (entry : EntryJourneyLaw) (arrival : ArrivalJourneyLaw) (zones : Zoned)
     sound = u;
     held = subst (λ (z : SimState). HoldsNetwork m zones.numbers sets z) (sym d.1) h;
   }
-  drained (suc k) m s new before after now u virtual h (inl d) = record {
+  drained (suc k) m s new before after u virtual h (inl d) = record {
     ends = [];
     effects = ap (λ (o : SimOut). o.effects) d.1 ∙ sym (append-nil before.effects);
     left = m;
@@ -106,12 +105,12 @@ module _ (entry : EntryJourneyLaw) (arrival : ArrivalJourneyLaw) (zones : Zoned)
     sound = u;
     held = subst (λ (z : SimState). HoldsNetwork m zones.numbers sets z) (sym d.2) h;
   }
-  drained (suc k) m s new before after now u virtual h (inr f) =
+  drained (suc k) m s new before after u virtual h (inr f) =
       let first = first_of m f.n f.frame f.behind (sym h.waiting ∙ f.first) in
-      let a = arrival m zones sets more s f.mid any_legal f.n false before f.between u h (λ x waits. virtual x.datapath.name) (subst (λ t. IsArrived any_legal s f.n false t before f.between f.mid) (sym now) f.arrives) in
+      let a = arrival m zones sets more s f.mid any_legal f.n false before f.between u h (λ x waits. virtual x.datapath.name) f.arrives in
       let still = a.moves.rest in
       let r =
-      drained k a.left f.mid new f.between after (ap (λ (l : State). l.clock) still ∙ now) a.sound (subst (λ (n : Network). HaveVirtualPorts n) (sym (ap (λ (l : State). l.config.net) still)) virtual) a.held f.others in
+      drained k a.left f.mid new f.between after a.sound (subst (λ (n : Network). HaveVirtualPorts n) (sym (ap (λ (l : State). l.config.net) still)) virtual) a.held (subst (λ t. AreDrained t k f.mid f.between after new) (sym (ap (λ (l : State). l.clock) still)) f.others) in
       record {
         ends = a.ends ++ r.ends;
         effects = behind_effects m a.left a.ends r.ends before.effects f.between.effects after.effects (ap (λ (l : State). l.keys) still) (ap (λ (l : State). l.next) still) a.effects r.effects;
@@ -121,21 +120,21 @@ module _ (entry : EntryJourneyLaw) (arrival : ArrivalJourneyLaw) (zones : Zoned)
         held = r.held;
       }
 
-  pub all_arrive : (m : State) (s new : SimState) (before after : SimOut) → m.clock ≡ clock → IsUnderWay m zones more → HaveVirtualPorts m.config.net → HoldsNetwork m zones.numbers sets s → AreDrained most_arrivals s before after new → IsDrained most_arrivals m zones sets more before after new
-  all_arrive m s new before after now u virtual h d = drained most_arrivals m s new before after now u virtual h d
+  pub all_arrive : (m : State) (s new : SimState) (before after : SimOut) → IsUnderWay m zones more → HaveVirtualPorts m.config.net → HoldsNetwork m zones.numbers sets s → AreDrained m.clock most_arrivals s before after new → IsDrained most_arrivals m zones sets more before after new
+  all_arrive m s new before after u virtual h d = drained most_arrivals m s new before after u virtual h d
 
 pub all_arrives : EntryJourneyLaw → ArrivalJourneyLaw → AllArriveLaw
-all_arrives entry arrival m zones sets more s new before after now u virtual h d =
-    let r = all_arrive entry arrival zones sets more m s new before after now u virtual h d in
+all_arrives entry arrival m zones sets more s new before after u virtual h d =
+    let r = all_arrive entry arrival zones sets more m s new before after u virtual h d in
     record { ends = r.ends; effects = r.effects; left = r.left; moves = all_drain m r.ends r.left r.moved; sound = r.sound; held = r.held }
 
 pub goes_through : EntryJourneyLaw → ArrivalJourneyLaw → GoesThroughLaw
-goes_through entry arrival m zones sets more s new port frame after now u virtual h through =
+goes_through entry arrival m zones sets more s new port frame after u virtual h through =
     let g = through.goes_in in
-    let a = (entry m zones sets more s through.mid any_legal port g.packet no_out through.between u h (λ i there. virtual i.switch) g.whole (subst (λ t. IsInjected any_legal s port t g.packet no_out through.between through.mid) (sym now) g.injected)).journey in
+    let a = (entry m zones sets more s through.mid any_legal port g.packet no_out through.between u h (λ i there. virtual i.switch) g.whole g.injected).journey in
     let still = a.moves.rest in
     let r =
-    all_arrive entry arrival zones sets (more + 64) a.left through.mid new through.between after (ap (λ (l : State). l.clock) still ∙ now) a.sound (subst (λ (n : Network). HaveVirtualPorts n) (sym (ap (λ (l : State). l.config.net) still)) virtual) a.held through.drained in
+    all_arrive entry arrival zones sets (more + 64) a.left through.mid new through.between after a.sound (subst (λ (n : Network). HaveVirtualPorts n) (sym (ap (λ (l : State). l.config.net) still)) virtual) a.held (subst (λ t. AreDrained t most_arrivals through.mid through.between after new) (sym (ap (λ (l : State). l.clock) still)) through.drained) in
     record {
       ends = a.ends ++ r.ends;
       effects = behind_effects m a.left a.ends r.ends no_out.effects through.between.effects after.effects (ap (λ (l : State). l.keys) still) (ap (λ (l : State). l.next) still) a.effects r.effects;

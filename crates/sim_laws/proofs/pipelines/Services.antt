@@ -1,5 +1,5 @@
 -- A packet that enters a switch and begins a connection, also one to a virtual address.
-use Rattle.std.specs.Prelude.{◌≡◌, ◌==◌, ◌&&◌, ◌<◌, ◌^◌, ℕ, Bool, true, false, cond, List, [], ◌∷◌, Option, Some, None, option_map, refl}
+use Rattle.std.specs.Prelude.{◌≡◌, ◌==◌, ◌<◌, ◌^◌, ℕ, Bool, true, false, cond, List, [], ◌∷◌, Option, Some, None, option_map, refl}
 use Rattle.std.specs.List.{filter, find}
 use Rattle.std.specs.Map.{values_of}
 use Rattle.std.specs.Option.{option_and_then}

@@ -1,5 +1,5 @@
 -- The packets of an event, one after another: on the simulated chassis as in the network.
-use Rattle.std.specs.Prelude.{◌≡◌, ◌++◌, ◌+◌, ℕ, List}
+use Rattle.std.specs.Prelude.{◌++◌, ◌+◌, ℕ, List}
 use Rattle.chassis_sim.specs.State.{SimState}
 use Rattle.chassis_sim.specs.declared.out.SimOut.{SimOut}
 use Rattle.conn_zones.specs.Zoning.{Zoned}
@@ -11,7 +11,7 @@ use Rattle.net_model.specs.Trail.{End}
 use Rattle.ovn_base.specs.declared.limits.TheConstants.{MAX_ARRIVALS}
 use Rattle.ovn_base.specs.declared.name.Name.{Name}
 use Rattle.sim_laws.specs.PacketSteps.{most_arrivals}
-use Rattle.sim_laws.specs.Passing.{AreDrained, GoesThrough, clock, no_out}
+use Rattle.sim_laws.specs.Passing.{AreDrained, GoesThrough, no_out}
 use Rattle.sim_laws.specs.journeys.Holding.{HoldsNetwork}
 use Rattle.sim_laws.specs.journeys.Moves.{MovesFor, AreMoved}
 use Rattle.sim_laws.specs.journeys.Premises.{HaveVirtualPorts}
@@ -40,14 +40,14 @@ EnterAndDrainLaw =
 abbrev pub AllArriveLaw : Type 0
 AllArriveLaw =
     (m : State) (zones : Zoned) (sets : Sets) (more : ℕ) (s new : SimState) (before after : SimOut)
-    → m.clock ≡ clock → IsUnderWay m zones more → HaveVirtualPorts m.config.net → HoldsNetwork m zones.numbers sets s
-    → AreDrained most_arrivals s before after new
+    → IsUnderWay m zones more → HaveVirtualPorts m.config.net → HoldsNetwork m zones.numbers sets s
+    → AreDrained m.clock most_arrivals s before after new
     → IsJourney m zones sets more arrive_all before after new
 
 -- The packet of a frame goes in at a port, and then all frames arrive that wait.
 abbrev pub GoesThroughLaw : Type 0
 GoesThroughLaw =
     (m : State) (zones : Zoned) (sets : Sets) (more : ℕ) (s new : SimState) (port : Name) (frame : List ℕ) (after : SimOut)
-    → m.clock ≡ clock → IsUnderWay m zones more → HaveVirtualPorts m.config.net → HoldsNetwork m zones.numbers sets s
-    → (through : GoesThrough s port frame after new)
+    → IsUnderWay m zones more → HaveVirtualPorts m.config.net → HoldsNetwork m zones.numbers sets s
+    → (through : GoesThrough m.clock s port frame after new)
     → IsJourney m zones sets (more + 64) (enter_and_arrive port through.goes_in.packet) no_out after new

@@ -8,7 +8,7 @@ use Rattle.switch_engine.specs.declared.effect.NetEffect.{NetEffect}
 use Rattle.world_core.specs.Inside.{seen_of}
 use Rattle.net_model.specs.State.{State}
 use Rattle.world_core.specs.Packets.{CanBeKept, HasEntered}
-use Rattle.sim_laws.specs.Passing.{GoesIn}
+use Rattle.sim_laws.specs.Passing.{GoesIn, clock}
 use Rattle.sim_laws.specs.Refinement.{IsAmidst}
 use Rattle.world_core.specs.WorldView.{WorldView}
 use Rattle.sim_laws.specs.Held.{AreHeld}
@@ -26,7 +26,7 @@ keep_crossings-requires-clause-sent c =
     let amidst : IsAmidst old.state old.zones 0 = subst (λ (v : WorldView). IsAmidst v.state v.zones 0) (sym c.self.view_is) c.requires.amidst in
     let held : AreHeld old.state old.zones.numbers old.sim = subst (λ (v : WorldView). AreHeld v.state v.zones.numbers v.sim) (sym c.self.view_is) c.requires.held in
     let bound : IsSome (at old.state.config.bindings c.args.port.now) = subst (λ (v : WorldView). IsSome (at v.state.config.bindings c.args.port.now)) (sym c.self.view_is) c.requires.bound in
-    let in' : GoesIn old.sim c.args.port.now (frame_of c.args.packet) c.args.out.now c.inject.new.out c.inject.new.self.state =
+    let in' : GoesIn clock old.sim c.args.port.now (frame_of c.args.packet) c.args.out.now c.inject.new.out c.inject.new.self.state =
     record { packet = c.args.packet; whole = c.requires.whole; frame_is = refl; injected = c.in-Ok.ensures.answer.0 } in
     let after = c.inject.new.out.effects in
     let slice = take_rest c.as_slice.result.now c.len-before.result ∙ ap (λ l. drop c.len-before.result l) c.as_slice.ensures ∙ ap (λ n. drop n after) c.len-before.ensures in
@@ -42,7 +42,7 @@ keep_crossings-requires-clause-waiting c =
     let amidst : IsAmidst old.state old.zones 0 = subst (λ (v : WorldView). IsAmidst v.state v.zones 0) (sym c.self.view_is) c.requires.amidst in
     let held : AreHeld old.state old.zones.numbers old.sim = subst (λ (v : WorldView). AreHeld v.state v.zones.numbers v.sim) (sym c.self.view_is) c.requires.held in
     let bound : IsSome (at old.state.config.bindings c.args.port.now) = subst (λ (v : WorldView). IsSome (at v.state.config.bindings c.args.port.now)) (sym c.self.view_is) c.requires.bound in
-    let in' : GoesIn old.sim c.args.port.now (frame_of c.args.packet) c.args.out.now c.inject.new.out c.inject.new.self.state =
+    let in' : GoesIn clock old.sim c.args.port.now (frame_of c.args.packet) c.args.out.now c.inject.new.out c.inject.new.self.state =
     record { packet = c.args.packet; whole = c.requires.whole; frame_is = refl; injected = c.in-Ok.ensures.answer.0 } in
     let after = c.inject.new.out.effects in
     let slice = take_rest c.as_slice.result.now c.len-before.result ∙ ap (λ l. drop c.len-before.result l) c.as_slice.ensures ∙ ap (λ n. drop n after) c.len-before.ensures in
@@ -56,7 +56,7 @@ returns c =
     let amidst : IsAmidst old.state old.zones 0 = subst (λ (v : WorldView). IsAmidst v.state v.zones 0) (sym c.self.view_is) c.requires.amidst in
     let held : AreHeld old.state old.zones.numbers old.sim = subst (λ (v : WorldView). AreHeld v.state v.zones.numbers v.sim) (sym c.self.view_is) c.requires.held in
     let bound : IsSome (at old.state.config.bindings c.args.port.now) = subst (λ (v : WorldView). IsSome (at v.state.config.bindings c.args.port.now)) (sym c.self.view_is) c.requires.bound in
-    let in' : GoesIn old.sim c.args.port.now (frame_of c.args.packet) c.args.out.now c.inject.new.out c.inject.new.self.state =
+    let in' : GoesIn clock old.sim c.args.port.now (frame_of c.args.packet) c.args.out.now c.inject.new.out c.inject.new.self.state =
     record { packet = c.args.packet; whole = c.requires.whole; frame_is = refl; injected = c.in-Ok.ensures.answer.0 } in
     let after = c.inject.new.out.effects in
     let slice = take_rest c.as_slice.result.now c.len-before.result ∙ ap (λ l. drop c.len-before.result l) c.as_slice.ensures ∙ ap (λ n. drop n after) c.len-before.ensures in
