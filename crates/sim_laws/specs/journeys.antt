@@ -1,5 +1,6 @@
 -- What the simulated chassis do with packets, over rows and connection lists: journeys of the network.
 pub mod InState
+pub mod AtHome
 pub mod UnderWay
 pub mod Tables
 pub mod Holding

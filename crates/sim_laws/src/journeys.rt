@@ -4,7 +4,7 @@ ghost use Rattle.sim_laws.specs.journeys.AtRest.{BeginsLaw, FinishesLaw};
 ghost use Rattle.sim_laws.specs.journeys.Events.{AllArriveLaw, DrainLaw, EnterAndDrainLaw, GoesThroughLaw, TravelLaw};
 ghost use Rattle.sim_laws.specs.journeys.Filling.{FillingLaw};
 ghost use Rattle.sim_laws.specs.journeys.First.{FirstLaw};
-ghost use Rattle.sim_laws.specs.journeys.Premises.{AmidstLaw, ReadyLaw, SoundOnLaw};
+ghost use Rattle.sim_laws.specs.journeys.Premises.{ReadyLaw, SoundOnLaw};
 ghost use Rattle.sim_laws.specs.journeys.Refining.{ArrivalJourneyLaw, EntryJourneyLaw, LossJourneyLaw};
 ghost use Rattle.sim_laws.specs.journeys.Ticking.{TickLaw};
 
@@ -14,7 +14,6 @@ use row_laws::rows::rows_can_be_lowered;
 /// A sound state of the network gives what the laws of passes ask of keys, zones and crossings, on each of its chassis; and each chassis that is
 /// held has all that they ask.
 pub fn premises_of_sound()
-    ensures amidst { AmidstLaw }
     ensures sound { SoundOnLaw }
     ensures ready { ReadyLaw }
 {

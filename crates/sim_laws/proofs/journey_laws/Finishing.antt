@@ -79,6 +79,7 @@ module _ (m : State) (zones : Zoned) (sets : Sets) (more : ℕ) (s : SimState) (
       no_router = u.no_router;
       keys = u.keys;
       bound = u.bound;
+      at_home = u.at_home;
       born = births_then m u.born;
       on_the_way = record {
         crossings = record { in_order = u.crossings.in_order; below = u.crossings.below; may = λ n x w. may_then m x (u.crossings.may n x w) };
@@ -124,6 +125,7 @@ module _ (m : State) (zones : Zoned) (sets : Sets) (more : ℕ) (s : SimState) (
           no_router = u.no_router;
           keys = keys_settled;
           bound = u.bound;
+          at_home = u.at_home;
           born = record { records = b.records; keys = settled_born m.keys (event_count (counted m m.keys)) b.keys; none = b.none };
           on_the_way = record {
             crossings = record { in_order = u.crossings.in_order; below = u.crossings.below; may = λ n x w. absurd (none_waits e n x w) };
@@ -157,6 +159,7 @@ begins m zones r = record {
   no_router = r.no_router;
   keys = r.keys;
   bound = r.bound;
+  at_home = r.at_home;
   born = r.born;
   crossings = r.on_the_way.crossings;
   few = r.few;

@@ -24,9 +24,7 @@ use Rattle.match_cubes.specs.Points.{members_of}
 use Rattle.tunnel_keys.proofs.HeldKeys.{found}
 use Rattle.tunnel_keys.proofs.Invariant.{none_hold}
 use Rattle.sim_laws.specs.Sound.{AreBorn, AreOnTheWay}
-use Rattle.sim_laws.specs.journeys.AtRest.{IsAtRest}
 use Rattle.sim_laws.specs.journeys.First.{nobody_home, no_sets, FirstLaw}
-use Rattle.sim_laws.specs.journeys.Holding.{HoldsNetwork}
 
 -- ---- records and keys
 
@@ -132,7 +130,7 @@ no_members = record { entries = λ name. refl; ports = λ name. refl }
 
 pub first : FirstLaw
 first = (
-  record { valid = no_records; no_router = record { routers = refl; router_ports = refl }; keys = no_keys_held; bound = nothing_bound; born = nobody_born; on_the_way = nothing_waits; few = omega arith },
+  record { valid = no_records; no_router = record { routers = refl; router_ports = refl }; keys = no_keys_held; bound = nothing_bound; at_home = record { ports = refl; dnats = refl; snats = refl }; born = nobody_born; on_the_way = nothing_waits; few = omega arith },
   record {
     bindings = λ q. refl;
     names = record { datapaths = λ a k e. absurd (none-some k e); ports = λ q p k e f. absurd (none-some p e) };

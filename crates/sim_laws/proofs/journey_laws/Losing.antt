@@ -23,6 +23,7 @@ loses_so m zones sets more s n u h = (
     no_router = u.no_router;
     keys = u.keys;
     bound = u.bound;
+    at_home = u.at_home;
     born = record { records = u.born.records; keys = u.born.keys; none = u.born.none };
     crossings = crossings_kept false m n u.crossings;
     few = u.few;

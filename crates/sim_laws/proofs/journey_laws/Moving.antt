@@ -1,10 +1,10 @@
 -- Moves one after another, and what they are in the network's own words.
-use Rattle.std.specs.Prelude.{◌≡◌, ◌+◌, ◌++◌, ℕ, zero, suc, false, List, [], ◌∷◌, length, refl}
+use Rattle.std.specs.Prelude.{◌≡◌, ◌+◌, ◌++◌, ℕ, zero, suc, false, List, [], ◌∷◌, length}
 use Rattle.std.proofs.Common.{sym, ap, ◌∙◌, subst, append_assoc, append-nil, arith, inl, inr}
 use Rattle.conn_table.specs.Picks.{Choice}
 use Rattle.net_model.specs.Journey.{Journey, Scenes, begin_journey, ended_journey, comes, drain, drain_from, travel, places_of, scenes_of, enter_one, arrive_one}
 use Rattle.net_model.specs.State.{State}
-use Rattle.net_model.specs.Trail.{End, leaves, is_dropped, crosses, picks_backend, picks_port, is_lost, choice_in, choices_in, crossings_in}
+use Rattle.net_model.specs.Trail.{End, choices_in, crossings_in}
 use Rattle.net_model.specs.declared.crossing.Crossing.{Crossing}
 use Rattle.ovn_base.specs.declared.limits.TheConstants.{MAX_ARRIVALS}
 use Rattle.sim_laws.proofs.PlainTravels.{choices_append}

@@ -40,7 +40,7 @@ use Rattle.sim_laws.specs.Sound.{MayWait, IsOnLive, IsAimOnLive}
 use Rattle.sim_laws.specs.Visit as old
 use Rattle.sim_laws.specs.Visit.{has_birth}
 use Rattle.sim_laws.specs.journeys.InState.{use_of, zones_on, chassis_at}
-use Rattle.sim_laws.specs.journeys.Premises.{SoundOnLaw, AmidstLaw}
+use Rattle.sim_laws.specs.journeys.Premises.{SoundOnLaw}
 use Rattle.sim_laws.specs.journeys.UnderWay.{HasNoRouter}
 use Rattle.sim_laws.specs.passes.Arriving.{IsOnSwitch, IsAimOnSwitch, MayArrive}
 use Rattle.sim_laws.specs.pipelines.HeldLists.{AreApart}
@@ -138,16 +138,4 @@ sound_on m zones more u sets by flows entry chassis = record {
   zoned = λ q home. (u.bound.zoned.at_home chassis (zone.Port q)).0 (ap (λ (h : KnownHomes). home_for h (zone.Port q)) u.bound.homes ∙ home);
   in_range = λ q z is. (u.bound.zoned.in_range chassis (zone.Port q) z is).1;
   arrive = λ n x waits. may_arrive m zones.numbers sets by flows entry chassis x (u.crossings.may n x waits);
-}
-
-pub amidst_under_way : AmidstLaw
-amidst_under_way m zones more a = record {
-  valid = a.valid;
-  no_router = record { routers = ap (λ (n : Network). n.routers) a.built.others; router_ports = ap (λ (n : Network). n.router_ports) a.built.others };
-  keys = a.keys;
-  bound = a.bound;
-  born = a.born;
-  crossings = a.crossings;
-  few = a.few;
-  few_sent = a.few_sent;
 }

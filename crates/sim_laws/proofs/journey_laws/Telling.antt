@@ -9,9 +9,10 @@ use Rattle.chassis_sim.specs.State.{at_name}
 use Rattle.chassis_sim.specs.declared.out.SimOut.{SimOut}
 use Rattle.chassis_sim.specs.declared.underlay.WaitingFrame.{WaitingFrame}
 use Rattle.conn_zones.specs.Zoning.{Zoned, GivenNumbers}
-use Rattle.flow_table.specs.declared.flow.Flow.{Flow}
 use Rattle.match_cubes.specs.declared.sets.Sets.{Sets}
+use Rattle.net_model.specs.Config.{Config}
 use Rattle.net_model.specs.Journey.{numbered_from}
+use Rattle.net_model.specs.Leads.{list_owners}
 use Rattle.net_model.specs.State.{State, event_count}
 use Rattle.net_model.specs.Trail.{Lists, End, crossings_in}
 use Rattle.net_model.specs.declared.crossing.Crossing.{Crossing}
@@ -27,6 +28,7 @@ use Rattle.sim_laws.specs.Effects.{effects_of}
 use Rattle.sim_laws.specs.Held.{HaveOwnersNames, frame_of_crossing}
 use Rattle.sim_laws.specs.Naming.{IsNumbered}
 use Rattle.sim_laws.specs.Sound.{AreCrossings, MayWait}
+use Rattle.sim_laws.specs.journeys.AtHome.{AreAtHome}
 use Rattle.sim_laws.specs.journeys.Holding.{HoldsNetwork}
 use Rattle.sim_laws.specs.journeys.InState.{zones_on}
 use Rattle.sim_laws.specs.journeys.UnderWay.{IsUnderWay}
@@ -56,15 +58,24 @@ may_still m lists waiting next x w = record {
   no_return = w.no_return;
 }
 
+-- the same owners have lists
+pub at_home_still : (c : Config) (before after : Lists) → list_owners after ≡ list_owners before → AreAtHome c before → AreAtHome c after
+at_home_still c before after same h = record {
+  ports = ap (λ (o : List Name × List Name × List Name). o.0) same ∙ h.ports;
+  dnats = ap (λ (o : List Name × List Name × List Name). o.1) same ∙ h.dnats;
+  snats = ap (λ (o : List Name × List Name × List Name). o.2) same ∙ h.snats;
+}
+
 -- a state with these crossings that wait, and others of the ends, is sound
-pub led_sound : (m : State) (zones : Zoned) (more most : ℕ) (lists : Lists) (waiting : List (ℕ × Crossing)) (ends : List End) → IsUnderWay m zones more
+pub led_sound : (m : State) (zones : Zoned) (more most : ℕ) (lists : Lists) (waiting : List (ℕ × Crossing)) (ends : List End) → IsUnderWay m zones more → AreAtHome m.config lists
     → AreCrossings (other m m.lists waiting m.next) → ((x : Crossing) → Among x (crossings_in ends) → MayWait m x)
     → m.next + length (crossings_in ends) ≤ 1 + 2 ^ 64 * event_count m + most → IsUnderWay (led m lists waiting ends) zones most
-led_sound m zones more most lists waiting ends u c may few = record {
+led_sound m zones more most lists waiting ends u at_home c may few = record {
   valid = u.valid;
   no_router = u.no_router;
   keys = u.keys;
   bound = u.bound;
+  at_home = at_home;
   born = record { records = u.born.records; keys = u.born.keys; none = u.born.none };
   crossings = crossings_behind k ends (record { in_order = c.in_order; below = c.below; may = λ n x w. still x (c.may n x w) }) (λ x w. may_still m lists waiting m.next x (may x w));
   few = u.few;

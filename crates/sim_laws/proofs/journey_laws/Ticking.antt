@@ -2,15 +2,15 @@
 use Rattle.std.specs.Prelude.{◌≡◌, ◌+◌, ℕ, nat_eq, Bool, true, false, cond, List, [], ◌∷◌, map, Option, Some, None, option_map, refl}
 use Rattle.std.specs.BTreeMap.{is_at}
 use Rattle.std.specs.Cmp.Lexicographic.{slice_cmp}
-use Rattle.std.specs.Map.{lookup}
+use Rattle.std.specs.Map.{keys_of, lookup}
 use Rattle.std.specs.Ordering.{nat_cmp}
 use Rattle.std.proofs.Common.{sym, ap, ◌∙◌, subst}
 use Rattle.std.proofs.lemmas.Option.{none-some, same_Some}
 use Rattle.chassis_sim.specs.State.{at_name}
 use Rattle.chassis_sim.specs.Tables.{seen_by}
-use Rattle.conn_table.specs.Connections.{expired}
+use Rattle.conn_table.specs.Connections.{ConnectionList, expired}
 use Rattle.conn_zones.specs.Zoning.{GivenNumbers}
-use Rattle.net_model.specs.State.{State, clocked, expired_lists}
+use Rattle.net_model.specs.State.{State, clocked, expired_in, expired_lists}
 use Rattle.net_model.specs.Trail.{Lists, ListOwner, of_port, dnat_of, snat_of}
 use Rattle.net_model.specs.declared.crossing.Crossing.{Crossing}
 use Rattle.ovn_base.specs.declared.name.Name.{Name}
@@ -33,6 +33,10 @@ looked_over {K} {X} f test (e ∷ es) = by (test e.0) (looked_over f test es)
     by false rest = rest
 
 module _ (now : ℕ) where
+  owners_then : (lists : List (Name × ConnectionList)) → keys_of (expired_in now lists) ≡ keys_of lists
+  owners_then [] = refl
+  owners_then (e ∷ lists) = ap (λ (ns : List Name). e.0 ∷ ns) (owners_then lists)
+
   list_then : (lists : Lists) (owner : ListOwner) → list_there (expired_lists now lists) owner ≡ option_map (expired now) (list_there lists owner)
   list_then lists (of_port q) = looked_over (expired now) (is_at (slice_cmp nat_cmp q)) lists.ports
   list_then lists (dnat_of r) = looked_over (expired now) (is_at (slice_cmp nat_cmp r)) lists.dnats
@@ -79,6 +83,11 @@ ticks m zones sets more s seconds u h = (
     no_router = u.no_router;
     keys = u.keys;
     bound = u.bound;
+    at_home = record {
+      ports = owners_then (m.clock + seconds) m.lists.ports ∙ u.at_home.ports;
+      dnats = owners_then (m.clock + seconds) m.lists.dnats ∙ u.at_home.dnats;
+      snats = owners_then (m.clock + seconds) m.lists.snats ∙ u.at_home.snats;
+    };
     born = record { records = u.born.records; keys = u.born.keys; none = u.born.none };
     crossings = record { in_order = u.crossings.in_order; below = u.crossings.below; may = λ n x w. may_then m seconds x (u.crossings.may n x w) };
     few = u.few;

@@ -3,6 +3,7 @@ use Rattle.std.specs.Prelude.{◌≡◌, ◌++◌, ℕ, true, List, [], ◌∷�
 use Rattle.std.specs.List.{AllZip}
 use Rattle.std.proofs.Common.{sym, ap, ◌∙◌, subst}
 use Rattle.conn_table.specs.Picks.{Choice, to_backend, to_port}
+use Rattle.net_model.specs.Leads.{list_owners}
 use Rattle.net_model.specs.Trail.{Trail, Lists, ListOwner, End, choices_in, crossings_in}
 use Rattle.net_model.specs.declared.crossing.Crossing.{Crossing}
 use Rattle.switch_engine.specs.Outcome.{picks_in}
@@ -49,6 +50,7 @@ module _ (s : Chassis) (n : ℕ) (Q : List Crossing → Type 0) where
     pub on : AreEndsOn s.scene.here n own
     pub crossings : Q (crossings_in own)
     pub others : (owner : ListOwner) → ¬ IsHere s.scene.config s.scene.here owner → list_there after owner ≡ list_there lists owner
+    pub owners : list_owners after ≡ list_owners lists
 
   -- the way leaves such crossings
   pub record Leads (t u : Trail) : Type 0 where
@@ -75,4 +77,5 @@ module _ (s : Chassis) (n : ℕ) (Q : List Crossing → Type 0) where
         on = subst (λ (es : List End). AreEndsOn s.scene.here n es) same w.way.on;
         crossings = subst Q (sym (ap crossings_in (sym same) ∙ w.way.crossing)) w.such;
         others = λ owner away. ap (λ (t : Trail). list_there t.lists owner) (sym is) ∙ w.way.others owner away;
+        owners = ap (λ (t : Trail). list_owners t.lists) (sym is) ∙ w.way.owners;
       }

@@ -4,19 +4,21 @@ use Rattle.std.proofs.Common.{sym, ap, ◌∙◌, subst, append_assoc, append-ni
 use Rattle.std.specs.BTreeMap.{is_at}
 use Rattle.std.specs.Cmp.{first_so}
 use Rattle.std.specs.Cmp.Lexicographic.{slice_cmp}
+use Rattle.std.specs.Map.{keys_of}
 use Rattle.std.specs.Ordering.{nat_cmp}
 use Rattle.conn_table.specs.Connections.{ConnectionList}
 use Rattle.conn_table.specs.Picks.{Chosen}
 use Rattle.flow_table.specs.declared.flow.Cause.{Cause}
 use Rattle.inet_packet.specs.declared.packet.Packet.{Packet}
 use Rattle.net_model.specs.Config.{Config}
+use Rattle.net_model.specs.Leads.{list_owners}
 use Rattle.net_model.specs.Trail.{Trail, Lists, ListOwner, of_port, dnat_of, snat_of, with_list, with_list_at, write_list, End, leaves, is_dropped, crosses, picks_backend, picks_port, is_lost, crossing_in, crossings_in, tell, after_choice, Spot, Point, goes, stops, then, finally, unless}
 use Rattle.net_model.specs.declared.crossing.Crossing.{Crossing}
 use Rattle.ovn_base.proofs.ByNameLaws.{same_name, other_name}
 use Rattle.ovn_base.specs.declared.name.Name.{Name}
 use Rattle.ovn_base.specs.names.ByName.{at}
 use Rattle.sim_laws.proofs.EffectNames.{IsEndOn, AreEndsOn}
-use Rattle.sim_laws.proofs.pipelines.SetValues.{set_apart}
+use Rattle.sim_laws.proofs.pipelines.SetValues.{set_apart, set_keys}
 use Rattle.sim_laws.specs.pipelines.HeldLists.{list_there}
 
 -- ---- lists
@@ -65,10 +67,11 @@ module _ (c : Config) (here : Name) (n : ℕ) where
     pub on : AreEndsOn here n more
     pub crossing : crossings_in more ≡ xs
     pub others : (owner : ListOwner) → ¬ IsHere c here owner → list_there u.lists owner ≡ list_there t.lists owner
+    pub owners : list_owners u.lists ≡ list_owners t.lists
     pub legal : u.legal ≡ true → t.legal ≡ true
 
   pub stays : (t : Trail) → WayOn [] t t
-  stays t = record { more = []; ends = sym (append-nil t.ends); on = tt; crossing = refl; others = λ owner away. refl; legal = λ h. h }
+  stays t = record { more = []; ends = sym (append-nil t.ends); on = tt; crossing = refl; others = λ owner away. refl; owners = refl; legal = λ h. h }
 
   pub both : (xs ys : List Crossing) (t u v : Trail) → WayOn xs t u → WayOn ys u v → WayOn (xs ++ ys) t v
   both xs ys t u v a b = record {
@@ -77,11 +80,12 @@ module _ (c : Config) (here : Name) (n : ℕ) where
     on = ends_both here n a.more b.more a.on b.on;
     crossing = crossings_append a.more b.more ∙ ap (λ (zs : List Crossing). zs ++ crossings_in b.more) a.crossing ∙ ap (λ (zs : List Crossing). xs ++ zs) b.crossing;
     others = λ owner away. b.others owner away ∙ a.others owner away;
+    owners = b.owners ∙ a.owners;
     legal = λ h. a.legal (b.legal h);
   }
 
   pub told : (e : End) (t : Trail) → IsEndOn here n e → WayOn (crossing_in e []) t (tell e t)
-  told e t on = record { more = e ∷ []; ends = refl; on = (on, tt); crossing = refl; others = λ owner away. refl; legal = λ h. h }
+  told e t on = record { more = e ∷ []; ends = refl; on = (on, tt); crossing = refl; others = λ owner away. refl; owners = refl; legal = λ h. h }
 
   pub written : (q : Name) (list : ConnectionList) (t : Trail) → at c.bindings q ≡ Some here → WayOn [] t (write_list (of_port q) list t)
   written q list t home = record {
@@ -90,11 +94,12 @@ module _ (c : Config) (here : Name) (n : ℕ) where
     on = tt;
     crossing = refl;
     others = λ owner away. other_list list t.lists q owner (λ same. away (subst (IsHere c here) same home));
+    owners = ap (λ (ks : List Name). (ks, keys_of t.lists.dnats, keys_of t.lists.snats)) (set_keys (is_at (slice_cmp nat_cmp q)) t.lists.ports list);
     legal = λ h. h;
   }
 
   pub chosen : {X : Type 0} (choice : Chosen X) (t : Trail) → WayOn [] t (after_choice choice t)
-  chosen choice t = record { more = []; ends = sym (append-nil t.ends); on = tt; crossing = refl; others = λ owner away. refl; legal = λ h. first_so t.legal choice.legal h }
+  chosen choice t = record { more = []; ends = sym (append-nil t.ends); on = tt; crossing = refl; others = λ owner away. refl; owners = refl; legal = λ h. first_so t.legal choice.legal h }
 
   -- ---- pieces, on which nothing crosses
 

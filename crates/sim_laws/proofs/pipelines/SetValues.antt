@@ -1,10 +1,19 @@
 -- What is found in a list once the value at a key was set.
 use Rattle.std.specs.Prelude.{◌≡◌, Bool, true, false, cond, List, [], ◌∷◌, Some, is_some, refl}
-use Rattle.std.specs.Map.{lookup, set_value}
+use Rattle.std.specs.Map.{keys_of, lookup, set_value}
 use Rattle.std.proofs.Common.{sym, ap, ◌∙◌}
 use Rattle.std.proofs.lemmas.Bool.{cond-true, cond-false, false≢true}
 
 module _ {K X : Type 0} (test : K → Bool) where
+  -- the keys stay
+  pub set_keys : (es : List (K × X)) (w : X) → keys_of (set_value test es w) ≡ keys_of es
+  set_keys [] w = refl
+  set_keys (e ∷ es) w = by (set_keys es w) (test e.0)
+    where
+      by : keys_of (set_value test es w) ≡ keys_of es → (b : Bool) → keys_of (cond b ((e.0, w) ∷ es) (e ∷ set_value test es w)) ≡ e.0 ∷ keys_of es
+      by later true = refl
+      by later false = ap (λ (ks : List K). e.0 ∷ ks) later
+
   -- the value is found, where the key was there
   pub set_same : (es : List (K × X)) (w : X) → is_some (lookup test es) ≡ true → lookup test (set_value test es w) ≡ Some w
   set_same [] w h = absurd (false≢true h)

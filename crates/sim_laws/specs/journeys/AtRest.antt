@@ -8,6 +8,7 @@ use Rattle.net_model.specs.State.{State, event_count, finished}
 use Rattle.physical_flows.specs.Bindings.{AreBound}
 use Rattle.physical_flows.specs.RecordKeys.{HaveKeys}
 use Rattle.sim_laws.specs.Sound.{AreBorn, AreOnTheWay}
+use Rattle.sim_laws.specs.journeys.AtHome.{AreAtHome}
 use Rattle.sim_laws.specs.journeys.Holding.{HoldsNetwork}
 use Rattle.sim_laws.specs.journeys.UnderWay.{HasNoRouter, IsUnderWay}
 
@@ -17,6 +18,7 @@ pub record IsAtRest (m : State) (zones : Zoned) : Type 0 where
   pub no_router : HasNoRouter m.config.net
   pub keys : HaveKeys m.config.net m.keys
   pub bound : AreBound m.config zones
+  pub at_home : AreAtHome m.config m.lists
   pub born : AreBorn m
   pub on_the_way : AreOnTheWay m
   pub few : event_count m ≤ 2 ^ 42

@@ -21,7 +21,6 @@ use Rattle.switch_engine.specs.Outcome.{Choosing}
 use Rattle.switch_engine.specs.declared.effect.Entry.{Entry}
 use Rattle.tunnel_keys.specs.Edits.{IsLive}
 use Rattle.tunnel_keys.specs.declared.owner.KeyOwner.{KeyOwner}
-use Rattle.sim_laws.specs.Refinement.{IsAmidst}
 use Rattle.sim_laws.specs.journeys.Holding.{HoldsNetwork}
 use Rattle.sim_laws.specs.journeys.InState.{chassis_at}
 use Rattle.sim_laws.specs.journeys.UnderWay.{IsUnderWay}
@@ -46,10 +45,6 @@ abbrev pub SoundOnLaw : Type 0
 SoundOnLaw =
     (m : State) (zones : Zoned) (more : ℕ) → IsUnderWay m zones more
     → (sets : Sets) (by : Choosing) (flows : List Flow) (entry : Entry) (chassis : Name) → IsSoundOn m zones.numbers (chassis_at m zones.numbers sets by flows entry chassis)
-
--- In the midst of an event of today's program a state is sound so.
-abbrev pub AmidstLaw : Type 0
-AmidstLaw = (m : State) (zones : Zoned) (more : ℕ) → IsAmidst m zones more → IsUnderWay m zones more
 
 -- no port of the switch leads to a router
 abbrev pub HasVirtualPorts : Network → Name → Type 0

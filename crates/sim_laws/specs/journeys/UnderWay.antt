@@ -7,6 +7,7 @@ use Rattle.net_model.specs.State.{State, event_count}
 use Rattle.physical_flows.specs.Bindings.{AreBound}
 use Rattle.physical_flows.specs.RecordKeys.{HaveKeys}
 use Rattle.sim_laws.specs.Sound.{AreBorn, AreCrossings}
+use Rattle.sim_laws.specs.journeys.AtHome.{AreAtHome}
 
 -- there is no router and no router port: those have no keys yet
 pub record HasNoRouter (net : Network) : Type 0 where
@@ -20,6 +21,7 @@ pub record IsUnderWay (m : State) (zones : Zoned) (more : ℕ) : Type 0 where
   pub no_router : HasNoRouter m.config.net
   pub keys : HaveKeys m.config.net m.keys
   pub bound : AreBound m.config zones
+  pub at_home : AreAtHome m.config m.lists
   pub born : AreBorn m
   pub crossings : AreCrossings m
   pub few : event_count m ≤ 2 ^ 42

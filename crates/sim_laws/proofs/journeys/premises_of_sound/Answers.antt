@@ -1,9 +1,6 @@
-use Rattle.sim_laws.proofs.journey_laws.Premises.{amidst_under_way, sound_on}
+use Rattle.sim_laws.proofs.journey_laws.Premises.{sound_on}
 use Rattle.sim_laws.proofs.journey_laws.Ready.{is_ready}
 use Rattle.sim_laws.proofs.journeys.premises_of_sound.Goals as goal
-
-pub returns-clause-amidst : goal.returns-clause-amidst
-returns-clause-amidst c = amidst_under_way
 
 pub returns-clause-sound : goal.returns-clause-sound
 returns-clause-sound c = sound_on
