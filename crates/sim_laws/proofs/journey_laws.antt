@@ -22,3 +22,4 @@ pub mod First
 pub mod Filling
 pub mod Expiring
 pub mod Ticking
+pub mod ListsSeen

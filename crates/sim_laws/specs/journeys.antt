@@ -12,3 +12,4 @@ pub mod AtRest
 pub mod First
 pub mod Filling
 pub mod Ticking
+pub mod SeenLists

@@ -6,6 +6,7 @@ ghost use Rattle.sim_laws.specs.journeys.Filling.{FillingLaw};
 ghost use Rattle.sim_laws.specs.journeys.First.{FirstLaw};
 ghost use Rattle.sim_laws.specs.journeys.Premises.{ReadyLaw, SoundOnLaw};
 ghost use Rattle.sim_laws.specs.journeys.Refining.{ArrivalJourneyLaw, EntryJourneyLaw, LossJourneyLaw};
+ghost use Rattle.sim_laws.specs.journeys.SeenLists.{SeenListsLaw};
 ghost use Rattle.sim_laws.specs.journeys.Ticking.{TickLaw};
 
 use crate::switches::switch_passes;
@@ -54,6 +55,11 @@ pub fn tables_filled()
 {
     rows_can_be_lowered();
 }
+
+/// The connection lists of the network are those in the zones of the chassis.
+pub fn lists_are_in_zones()
+    ensures { SeenListsLaw }
+{}
 
 /// The clock goes on in the network as on the simulated chassis: idle connections go in both.
 pub fn clock_ticks()

@@ -1,0 +1,115 @@
+-- The zones of the chassis have the connection lists of the network.
+use Rattle.std.specs.Prelude.{◌≡◌, Bool, List, [], ◌∷◌, map, Option, Some, None, IsSome, is_some, option_map, unwrap_or, refl}
+use Rattle.std.specs.List.{filter, list_any}
+use Rattle.std.specs.BTreeMap.{is_at}
+use Rattle.std.specs.Cmp.Lexicographic.{slice_cmp}
+use Rattle.std.specs.List.Sorted.{IsStrictlySortedBy}
+use Rattle.std.specs.Map.{keys_of}
+use Rattle.std.specs.Ordering.{nat_cmp}
+use Rattle.std.proofs.Common.{sym, ap, ◌∙◌, subst, inl, inr}
+use Rattle.std.proofs.lemmas.Map.Made.{is_some-lookup}
+use Rattle.std.proofs.lemmas.Option.{none-some, same_Some}
+use Rattle.chassis_sim.specs.State as sim
+use Rattle.chassis_sim.specs.State.{at_name}
+use Rattle.conn_table.specs.Connections.{ConnectionList}
+use Rattle.conn_zones.specs.Zoning.{Zoned, KnownHomes, number_on}
+use Rattle.conn_zones.specs.declared.numbers.ZoneUse.{ZoneUse}
+use Rattle.conn_zones.specs.declared.numbers.ZoneUse.TheVariants as zone
+use Rattle.nb_records.specs.declared.router.Router.{Router}
+use Rattle.net_model.specs.Config.{home_of_router, is_on_one}
+use Rattle.net_model.specs.ListOwners.{homed_routers}
+use Rattle.net_model.specs.Trail.{of_port}
+use Rattle.ovn_base.proofs.ByNameLaws.{one_or_two, at_head, at_tail}
+use Rattle.ovn_base.proofs.SameEntries.{same_found}
+use Rattle.ovn_base.specs.declared.name.Name.{Name}
+use Rattle.ovn_base.specs.names.ByName.{at, IsByName}
+use Rattle.physical_flows.proofs.FlowSearch.{is_some_of}
+use Rattle.switch_engine.specs.Zones.{ZoneLists}
+use Rattle.tunnel_keys.proofs.HeldKeys.{found}
+use Rattle.sim_laws.specs.journeys.SeenLists.{list_in, lists_at, SeenListsLaw}
+
+-- ---- entries
+
+module _ {X Y : Type 0} (f : Name → X → Y) where
+  abbrev named_so : Name × X → Name × Y
+  named_so e = (e.0, f e.0 e.1)
+
+  keys_same : (es : List (Name × X)) → keys_of (map named_so es) ≡ keys_of es
+  keys_same [] = refl
+  keys_same (e ∷ es) = ap (λ (ns : List Name). e.0 ∷ ns) (keys_same es)
+
+  -- what is found under a name
+  found_under : (es : List (Name × X)) (n : Name) → at (map named_so es) n ≡ option_map (f n) (at es n)
+  found_under [] n = refl
+  found_under (e ∷ es) n = elim (one_or_two n e.0) [
+    | inl same ↦
+        subst (λ k. at (map named_so (e ∷ es)) k ≡ option_map (f k) (at (e ∷ es) k)) (sym same)
+        (at_head (named_so e) (map named_so es) ∙ ap (option_map (f e.0)) (sym (at_head e es)))
+    | inr apart ↦ at_tail (named_so e) (map named_so es) n apart ∙ found_under es n ∙ ap (option_map (f n)) (sym (at_tail e es n apart))
+  ]
+
+-- where the lists of a kind are those of who is at home, and each is the one in its zone, they are as they are seen
+module _ (s : sim.SimState) (zones : Zoned) (whose : Name → ZoneUse) (lists : List (Name × ConnectionList)) (homes : List (Name × Name)) (owners : keys_of lists ≡ keys_of homes) (sorted : IsByName homes)
+    (each : (q c : Name) (list : ConnectionList) → at homes q ≡ Some c → at lists q ≡ Some list → list_in (at_name s.zones c) (number_on zones.numbers c (whose q)) ≡ list) where
+  abbrev seen : Name → Name → ConnectionList
+  seen q c = list_in (at_name s.zones c) (number_on zones.numbers c (whose q))
+
+  abbrev all_seen : List (Name × ConnectionList)
+  all_seen = lists_at zones.numbers s.zones whose homes
+
+  is_home : (q : Name) → is_some (at lists q) ≡ is_some (at homes q)
+  is_home q =
+      let test : Name → Bool = is_at (slice_cmp nat_cmp q) in
+      is_some-lookup test lists ∙ ap (list_any test) owners ∙ sym (is_some-lookup test homes)
+
+  seen_too : (q : Name) (list : ConnectionList) → at lists q ≡ Some list → at all_seen q ≡ Some list
+  seen_too q list is =
+      let home = found (at homes q) (sym (is_home q) ∙ is_some_of (at lists q) list is) in
+      found_under seen homes q ∙ ap (option_map (seen q)) home.1 ∙ ap (λ (l : ConnectionList). Some l) (each q home.0 list home.1 is)
+
+  listed_too : (q : Name) (list : ConnectionList) → at all_seen q ≡ Some list → at lists q ≡ Some list
+  listed_too q list is =
+      let home = found (at homes q) (home_of (at homes q) (sym (found_under seen homes q) ∙ is)) in
+      let own = found (at lists q) (is_home q ∙ is_some_of (at homes q) home.0 home.1) in
+      own.1 ∙ sym (seen_too q own.0 own.1) ∙ is
+    where
+      home_of : (o : Option Name) → option_map (seen q) o ≡ Some list → IsSome o
+      home_of None e = absurd (none-some list e)
+      home_of (Some c) e = refl
+
+  pub are_seen : lists ≡ all_seen
+  are_seen =
+      same_found lists all_seen (subst (IsStrictlySortedBy (slice_cmp nat_cmp)) (sym owners) sorted) (subst (IsStrictlySortedBy (slice_cmp nat_cmp)) (sym (keys_same seen homes)) sorted)
+      seen_too listed_too
+
+pub lists_are_seen : SeenListsLaw
+lists_are_seen m zones sets more s u h zoned = λ i. record { ports = ports_seen i; dnats = routers_seen zone.Dnat m.lists.dnats u.at_home.dnats i; snats = routers_seen zone.Snat m.lists.snats u.at_home.snats i }
+  where
+    home_at : (q c : Name) → at zones.homes.ports q ≡ Some c → at m.config.bindings q ≡ Some c
+    home_at q c home = ap (λ (k : KnownHomes). at k.ports q) (sym u.bound.homes) ∙ home
+
+    -- a port's list is the one in its zone
+    in_zone : (q c : Name) (list : ConnectionList) → at zones.homes.ports q ≡ Some c → at m.lists.ports q ≡ Some list → list_in (at_name s.zones c) (number_on zones.numbers c (zone.Port q)) ≡ list
+    in_zone q c list home own =
+        let z = found (number_on zones.numbers c (zone.Port q)) ((u.bound.zoned.at_home c (zone.Port q)).0 home) in
+        let lists = found (at_name s.zones c) (zoned c ∙ (h.held c).1 (u.bound.chassis_there q c (home_at q c home))) in
+        let held = h.zones c lists.0 lists.1 (of_port q) z.0 z.1 in
+        ap (λ (o : Option ZoneLists). list_in o (number_on zones.numbers c (zone.Port q))) lists.1
+        ∙ ap (list_in (Some lists.0)) z.1
+        ∙ ap (λ (o : Option ConnectionList). unwrap_or o []) held.held
+        ∙ same_Some held.list list (sym held.has ∙ own)
+
+    ports_seen : m.lists.ports ≡ lists_at zones.numbers s.zones zone.Port zones.homes.ports
+    ports_seen =
+        are_seen s zones zone.Port m.lists.ports zones.homes.ports (u.at_home.ports ∙ sym (ap (λ (k : KnownHomes). keys_of k.ports) u.bound.homes)) u.bound.zoned.ports_in_order in_zone
+
+    -- no router is at home
+    nobody : homed_routers m.config ≡ []
+    nobody = ap (λ (rs : List (Name × Router)). keys_of (filter (λ (e : Name × Router). is_on_one (home_of_router m.config e.1)) rs)) u.no_router.routers
+
+    routers_seen : (whose : Name → ZoneUse) (lists : List (Name × ConnectionList)) → keys_of lists ≡ homed_routers m.config → lists ≡ lists_at zones.numbers s.zones whose zones.homes.routers
+    routers_seen whose lists owners = none_listed lists (owners ∙ nobody) ∙ sym (ap (λ (k : KnownHomes). lists_at zones.numbers s.zones whose k.routers) u.bound.homes)
+      where
+        none_listed : (lists : List (Name × ConnectionList)) → keys_of lists ≡ [] → lists ≡ []
+        none_listed [] e = refl
+        none_listed (e ∷ es) is = cc is
