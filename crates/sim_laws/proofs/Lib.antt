@@ -2,6 +2,7 @@
 pub mod journey_laws
 pub mod passes
 pub mod pipelines
+pub mod told
 pub mod ArrivalWalk
 pub mod Arrivals
 pub mod Crossings

@@ -4,6 +4,7 @@ pub mod passes
 pub mod pipelines
 pub mod Consistent
 pub mod Effects
+pub mod EndNames
 pub mod Held
 pub mod Naming
 pub mod PacketSteps
