@@ -8,17 +8,12 @@ ghost use Rattle.sim_laws.specs.EndNames.{AreNamedEnds, HasNames, OffersNoChoice
 
 use net_model::laws::choices_determine_ends;
 
-/// All names in the ends are names of the grammar, and all picks are in their ranges: a backend is one of its virtual address, and a port
-/// one from 1,024 on. The crossings that wait afterwards go to chassis and ports with names too.
+/// Where the records are valid, and chassis and crossings have names, so have the ends of all packets of an event: each name in them is one
+/// of the grammar, each backend and virtual address is one too, and each port that is picked is one of 1 to 65,535. The crossings that
+/// wait afterwards have names too.
 pub fn ends_are_named()
     ensures { (m : State) (traffic : Traffic) (ends : List End) (after : State)
         → IsValid m.config.net → HasNames m → Travels m traffic ends after → AreNamedEnds ends × HasNames after }
-{}
-
-/// In a network without NAT rows and balancers no end tells of a choice.
-pub fn nothing_to_choose()
-    ensures { (m : State) (traffic : Traffic) (ends : List End) (after : State)
-        → OffersNoChoice m.config.net → Travels m traffic ends after → choices_in ends ≡ [] }
 {}
 
 /// The choices of which ends tell determine the ends and the state that is left.
@@ -27,4 +22,15 @@ pub fn choices_determine_all()
         → Travels m traffic es a → Travels m traffic fs b → choices_in es ≡ choices_in fs → (es ≡ fs) × (a ≡ b) }
 {
     choices_determine_ends();
+}
+
+/// In a network without NAT rows and balancers, with routers or without, no end tells of a choice; so what an event asks of packets
+/// determines their ends and the state that is left.
+pub fn nothing_to_choose()
+    ensures none { (m : State) (traffic : Traffic) (ends : List End) (after : State)
+        → OffersNoChoice m.config.net → Travels m traffic ends after → choices_in ends ≡ [] }
+    ensures determined { (m : State) (traffic : Traffic) (es fs : List End) (a b : State)
+        → OffersNoChoice m.config.net → Travels m traffic es a → Travels m traffic fs b → (es ≡ fs) × (a ≡ b) }
+{
+    choices_determine_all();
 }

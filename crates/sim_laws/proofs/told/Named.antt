@@ -116,7 +116,7 @@ module _ (m : State) (valid : IsValid m.config.net) (names : HasNames m) where
   end_named : (e : End) → IsTold m.config e → IsNamedEnd e
   end_named _ (IsTold.leaves_by q p has) = (port_fits m.config.net valid q has).name
   end_named _ (IsTold.drops_at spot why has) = spot_named m.config.net valid spot has
-  end_named _ (IsTold.crosses_to here' home from aim p here_is home_is aimed) = (chassis_named here' here_is, (chassis_named home home_is, aim_named m.config.net valid aim aimed))
+  end_named _ (IsTold.crosses_to chassis home from aim p is_there has_home aimed) = (chassis_named chassis is_there, (chassis_named home has_home, aim_named m.config.net valid aim aimed))
   end_named _ (IsTold.picks_one spot tuple s b has serves among) =
       let vip = vip_fits m.config.net valid spot.datapath tuple s serves in
       ((spot_named m.config.net valid spot has).0, vip.0, among_all IsBackend b s.vip.backends vip.1 among)
@@ -147,7 +147,7 @@ module _ (m : State) (none : OffersNoChoice m.config.net) where
   not_chosen : (e : End) (choices : List Choice) → IsTold m.config e → choice_in e choices ≡ choices
   not_chosen _ choices (IsTold.leaves_by q p has) = refl
   not_chosen _ choices (IsTold.drops_at spot why has) = refl
-  not_chosen _ choices (IsTold.crosses_to here' home from aim p here_is home_is aimed) = refl
+  not_chosen _ choices (IsTold.crosses_to chassis home from aim p is_there has_home aimed) = refl
   not_chosen _ choices (IsTold.picks_one spot tuple s b has serves among) = absurd (no_service spot.datapath tuple s serves)
   not_chosen _ choices (IsTold.picks_from out ip row n has is low high) = absurd (no_row out.router ip row is)
   not_chosen _ choices (IsTold.loses n) = refl

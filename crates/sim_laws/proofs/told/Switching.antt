@@ -130,9 +130,9 @@ module _ (s : Scene) where
       here_tells false o has t p h = drop_tells s.config cause.Loopback (spot_of o) t (spotted o has) h
 
       over_tells : (b : Bool) (o : SwitchPort) (home : Name) → HasPort s.config.net o → HasChassis s.config home → WayTells s.config (send_over b onward s from o home)
-      over_tells true o home has there' t p h = here_tells (is_other from.port o) o has t p h
-      over_tells false o home has there' t p h =
-          tell_tells s.config (crosses s.here (crossing_to from (ToPort (port_identity o)) home p)) t (crosses_to s.here home from (ToPort (port_identity o)) p chassis there' (o, has, refl)) h
+      over_tells true o home has has_home t p h = here_tells (is_other from.port o) o has t p h
+      over_tells false o home has has_home t p h =
+          tell_tells s.config (crosses s.here (crossing_to from (ToPort (port_identity o)) home p)) t (crosses_to s.here home from (ToPort (port_identity o)) p chassis has_home (o, has, refl)) h
 
       home_tells : (a : Home) (o : SwitchPort) → HasPort s.config.net o → home_of s.config o ≡ a → WayTells s.config (send_home a onward s from o)
       home_tells nowhere o has is t p h = drop_tells s.config cause.Unbound (spot_of o) t (spotted o has) h
@@ -140,10 +140,10 @@ module _ (s : Scene) where
       home_tells everywhere o has is t p h = here_tells (is_other from.port o) o has t p h
 
       cross_tells : (g : Group) (p : Packet) (homes : List Name) → ((home : Name) → Among home homes → HasChassis s.config home) → (t : Trail) → TellsSo s.config t → TellsSo s.config (cross_to_each s.here from g p homes t)
-      cross_tells g p [] there' t h = h
-      cross_tells g p (home ∷ homes) there' t h =
+      cross_tells g p [] each t h = h
+      cross_tells g p (home ∷ homes) each t h =
           let e = crosses s.here (crossing_to from (ToGroup g) home p) in
-          cross_tells g p homes (λ a m. there' a (there m)) (tell e t) (tell_tells s.config e t (crosses_to s.here home from (ToGroup g) p chassis (there' home here) tt) h)
+          cross_tells g p homes (λ a m. each a (there m)) (tell e t) (tell_tells s.config e t (crosses_to s.here home from (ToGroup g) p chassis (each home here) tt) h)
 
       spread_tells : (g : Group) (qs : List SwitchPort) → ((q : SwitchPort) → Among q qs → HasPort s.config.net q) → WayTells s.config (spread onward s from g qs)
       spread_tells g qs has t p h =

@@ -51,11 +51,14 @@ HasChassis c chassis = Among chassis c.chassis ⊎ Among chassis (values_of c.bi
 
 -- ---- ends
 
+-- By the records a packet leaves by a port that is there, or is dropped at one; it crosses from a chassis to another one, to a port that
+-- is there or to a group; a backend is picked of a virtual address that is served there, and a port where a row translates sources on
+-- the router; a crossing of any number is lost.
 pub data IsTold (c : Config) : End → Type 0 where
   leaves_by : (q : SwitchPort) (p : Packet) → HasPort c.net q → IsTold c (leaves q.name p)
   drops_at : (spot : Spot) (why : Cause) → HasSpot c.net spot → IsTold c (is_dropped spot.datapath spot.port why)
-  crosses_to : (here' home : Name) (from : SentFrom) (aim : Aim) (p : Packet) → HasChassis c here' → HasChassis c home → HasAim c.net aim
-      → IsTold c (crosses here' (crossing_to from aim home p))
+  crosses_to : (chassis home : Name) (from : SentFrom) (aim : Aim) (p : Packet) → HasChassis c chassis → HasChassis c home → HasAim c.net aim
+      → IsTold c (crosses chassis (crossing_to from aim home p))
   picks_one : (spot : Spot) (tuple : Tuple) (s : Service) (b : Backend) → HasSpot c.net spot → service_for c.net spot.datapath tuple ≡ Some s → Among b s.vip.backends
       → IsTold c (picks_backend spot.datapath s.vip.at b)
   picks_from : (out : RouterPort) (ip : Ip4) (row : Nat) (n : ℕ) → HasRouterPort c.net out → snat_row c.net out.router ip ≡ Some row → 1024 ≤ n → n ≤ 65535

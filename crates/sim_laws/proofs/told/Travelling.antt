@@ -1,4 +1,5 @@
--- Journeys tell of the records, and what their crossings are waits.
+-- With all packets of an event journeys tell of the records; what holds of the crossings that waited before, and of those of which such ends
+-- tell, holds of those that wait afterwards.
 use Rattle.std.specs.Prelude.{◌≡◌, ◌+◌, ℕ, zero, suc, Bool, true, false, cond, List, [], ◌∷◌, Option, Some, None, refl}
 use Rattle.std.specs.BTreeMap.{is_at}
 use Rattle.std.specs.List.{AllByRecursion}
@@ -26,7 +27,6 @@ use Rattle.sim_laws.proofs.told.Found.{value_at}
 use Rattle.sim_laws.proofs.told.Told.{HasChassis, IsTold, loses, TellsSo, tell_tells}
 use Rattle.sim_laws.proofs.told.Visiting.{visit_tells, arrival_tells}
 
--- the crossings of a state wait so, and so do those of which ends tell
 module _ (m : State) (Waits : ℕ × Crossing → Type 0) (told_waits : (n : ℕ) (chassis : Name) (x : Crossing) → IsTold m.config (crosses chassis x) → Waits (n, x)) where
   -- ---- journeys
 
@@ -112,10 +112,10 @@ module _ (m : State) (Waits : ℕ × Crossing → Type 0) (told_waits : (n : ℕ
 
   -- ---- what an event asks
 
-  enter_by_tells : (chassis port : Name) (there' : HasChassis m.config chassis) (o : Option SwitchPort) → at m.config.net.switch_ports port ≡ o → (p : Packet) (j : Journey) → TellsWell j → TellsWell (enter_by (scene_at m chassis) o p j)
-  enter_by_tells chassis port there' None is p j h = h
-  enter_by_tells chassis port there' (Some i) is p j h =
-      go_tells (λ t. visit (scene_at m chassis) i t p) (λ t. (visit_later (scene_at m chassis) i t p).legal) (λ t g. visit_tells (scene_at m chassis) there' i (value_at m.config.net.switch_ports port i is) t p g) j h
+  enter_by_tells : (chassis port : Name) → HasChassis m.config chassis → (o : Option SwitchPort) → at m.config.net.switch_ports port ≡ o → (p : Packet) (j : Journey) → TellsWell j → TellsWell (enter_by (scene_at m chassis) o p j)
+  enter_by_tells chassis port is_there None is p j h = h
+  enter_by_tells chassis port is_there (Some i) is p j h =
+      go_tells (λ t. visit (scene_at m chassis) i t p) (λ t. (visit_later (scene_at m chassis) i t p).legal) (λ t g. visit_tells (scene_at m chassis) is_there i (value_at m.config.net.switch_ports port i is) t p g) j h
 
   enter_scene_tells : (chassis port : Name) (p : Packet) (j : Journey) → TellsWell j → TellsWell (enter_on (scenes_of m chassis) port p j)
   enter_scene_tells chassis port p j h = by (is_chassis m.config chassis) refl

@@ -33,11 +33,11 @@ module _ (s : Scene) (chassis : HasChassis s.config s.here) where
       on_tells u q g = send_to_tells s onward tells chassis (record { switch = switch_named s.config.net i.switch; port = i }) has (target_of s.config.net i q) (target_there s.config.net i q) u q g
 
   passing_tells : (left : ℕ) → OnwardTells s.config (passing left s)
-  passing_tells zero spot None has there' t p h = drop_tells s.config cause.NoPeer spot t has h
-  passing_tells (suc left) spot None has there' t p h = drop_tells s.config cause.NoPeer spot t has h
-  passing_tells zero spot (Some partner) has there' t p h = drop_tells s.config cause.HopLimit spot t has h
-  passing_tells (suc left) spot (Some (switch_side q)) has there' t p h = into_switch_tells (passing left s) (passing_tells left) q there' t p h
-  passing_tells (suc left) spot (Some (router_side r)) has there' t p h = into_router_tells s (passing left s) (passing_tells left) r there' t p h
+  passing_tells zero spot None has partnered t p h = drop_tells s.config cause.NoPeer spot t has h
+  passing_tells (suc left) spot None has partnered t p h = drop_tells s.config cause.NoPeer spot t has h
+  passing_tells zero spot (Some partner) has partnered t p h = drop_tells s.config cause.HopLimit spot t has h
+  passing_tells (suc left) spot (Some (switch_side q)) has partnered t p h = into_switch_tells (passing left s) (passing_tells left) q partnered t p h
+  passing_tells (suc left) spot (Some (router_side r)) has partnered t p h = into_router_tells s (passing left s) (passing_tells left) r partnered t p h
 
   pub visit_tells : (i : SwitchPort) → HasPort s.config.net i → WayTells s.config (visit s i)
   visit_tells i has t p h = into_switch_tells (passing_on s) (passing_tells MAX_HOPS) i has t p h
@@ -64,9 +64,9 @@ module _ (s : Scene) (chassis : HasChassis s.config s.here) where
   reach_tells n x (ToPort id) t h = reach_port_tells n x (port_reached s id (at s.config.net.switch_ports id.name)) (reached_there id (at s.config.net.switch_ports id.name) refl) t h
   reach_tells n x (ToGroup g) t h =
       let all = members s.config.net x.datapath.name g in
-      let there' : (q : SwitchPort) → Among q (members_reached s x.in_port all) → HasPort s.config.net q =
+      let each : (q : SwitchPort) → Among q (members_reached s x.in_port all) → HasPort s.config.net q =
       λ q m. members_there s.config.net x.datapath.name g q (filter_among (λ (o : SwitchPort). is_reached s o && not (same_identity (port_identity o) x.in_port)) q all m).0 in
-      copies_tell s (passing_on s) (passing_tells MAX_HOPS) x.in_port (members_reached s x.in_port all) there' t x.packet h
+      copies_tell s (passing_on s) (passing_tells MAX_HOPS) x.in_port (members_reached s x.in_port all) each t x.packet h
 
   reach_if_tells : (b : Bool) (n : ℕ) (x : Crossing) (t : Trail) → TellsSo s.config t → TellsSo s.config (reach_if b s n x t)
   reach_if_tells true n x t h = reach_tells n x x.aim t h
