@@ -3,6 +3,7 @@ pub mod journey_laws
 pub mod passes
 pub mod pipelines
 pub mod told
+pub mod turn_laws
 pub mod ArrivalWalk
 pub mod Arrivals
 pub mod Crossings

@@ -13,3 +13,6 @@ pub mod First
 pub mod Filling
 pub mod Ticking
 pub mod SeenLists
+pub mod TurnedTables
+pub mod TurnedZones
+pub mod Turning

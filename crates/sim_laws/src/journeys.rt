@@ -8,8 +8,13 @@ ghost use Rattle.sim_laws.specs.journeys.Premises.{ReadyLaw, SoundOnLaw};
 ghost use Rattle.sim_laws.specs.journeys.Refining.{ArrivalJourneyLaw, EntryJourneyLaw, LossJourneyLaw};
 ghost use Rattle.sim_laws.specs.journeys.SeenLists.{SeenListsLaw};
 ghost use Rattle.sim_laws.specs.journeys.Ticking.{TickLaw};
+ghost use Rattle.sim_laws.specs.journeys.Turning.{DeltaLaw, TurnLaw};
+ghost use Rattle.sim_laws.specs.journeys.TurnedZones.{BindingLaw, KeepingLaw, TurnedAtHomeLaw};
+ghost use Rattle.flow_table.specs.declared.flow.Flow.{Flow};
+ghost use Rattle.std.specs.Prelude.{List};
 
 use crate::switches::switch_passes;
+use flow_table::exact::exact_flow;
 use row_laws::rows::rows_can_be_lowered;
 
 /// A sound state of the network gives what the laws of passes ask of keys, zones and crossings, on each of its chassis; and each chassis that is
@@ -64,4 +69,21 @@ pub fn lists_are_in_zones()
 /// The clock goes on in the network as on the simulated chassis: idle connections go in both.
 pub fn clock_ticks()
     ensures { TickLaw }
+{}
+
+/// A turn of the configuration changes what the chassis hold, whatever their tables `T` are: once it is made, they hold the state after it. The deltas
+/// of which it tells them are ones of the flows that they hold.
+pub fn turns_hold<T>()
+    ensures holds { (flows_of : T → List Flow) → TurnLaw flows_of }
+    ensures deltas { (flows_of : T → List Flow) → DeltaLaw flows_of }
+{
+    exact_flow();
+}
+
+/// After a turn of the configuration who is at home has lists. A turn under which everyone stays at home leaves lists and zones as they are; a port that
+/// is bound begins with its zone.
+pub fn zones_turn()
+    ensures at_home { TurnedAtHomeLaw }
+    ensures keeps { KeepingLaw }
+    ensures binds { BindingLaw }
 {}

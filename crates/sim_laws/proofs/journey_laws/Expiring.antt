@@ -37,7 +37,7 @@ module _ {K X : Type 0} (test : K × X → Bool) where
       by true rest = (h.0, rest)
       by false rest = rest
 
-  kept_sorted : (cmp : K → K → Ordering) (es : List (K × X)) → IsStrictlySortedBy cmp (keys_of es) → IsStrictlySortedBy cmp (keys_of (filter test es))
+  pub kept_sorted : (cmp : K → K → Ordering) (es : List (K × X)) → IsStrictlySortedBy cmp (keys_of es) → IsStrictlySortedBy cmp (keys_of (filter test es))
   unfolding IsStrictlySortedBy
   kept_sorted cmp [] s = s
   kept_sorted cmp (e ∷ es) s = by (test e) (kept_sorted cmp es s.1)

@@ -1,0 +1,7 @@
+-- Lemmas on turns of the configuration, on the simulated chassis.
+pub mod SetEntries
+pub mod Differences
+pub mod TurnedChassis
+pub mod TurnedLists
+pub mod KeptHomes
+pub mod BoundPorts
