@@ -4,4 +4,5 @@ pub mod Differences
 pub mod TurnedChassis
 pub mod TurnedLists
 pub mod KeptHomes
+pub mod KeepingTurns
 pub mod BoundPorts

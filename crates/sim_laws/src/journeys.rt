@@ -9,7 +9,7 @@ ghost use Rattle.sim_laws.specs.journeys.Refining.{ArrivalJourneyLaw, EntryJourn
 ghost use Rattle.sim_laws.specs.journeys.SeenLists.{SeenListsLaw};
 ghost use Rattle.sim_laws.specs.journeys.Ticking.{TickLaw};
 ghost use Rattle.sim_laws.specs.journeys.Turning.{DeltaLaw, TurnLaw};
-ghost use Rattle.sim_laws.specs.journeys.TurnedZones.{BindingLaw, KeepingLaw, TurnedAtHomeLaw};
+ghost use Rattle.sim_laws.specs.journeys.TurnedZones.{BindingLaw, ComingChassisLaw, EditingLaw, KeepingLaw, TurnedAtHomeLaw};
 ghost use Rattle.flow_table.specs.declared.flow.Flow.{Flow};
 ghost use Rattle.std.specs.Prelude.{List};
 
@@ -80,10 +80,12 @@ pub fn turns_hold<T>()
     exact_flow();
 }
 
-/// After a turn of the configuration who is at home has lists. A turn under which everyone stays at home leaves lists and zones as they are; a port that
-/// is bound begins with its zone.
+/// After a turn of the configuration who is at home has lists. A turn under which everyone stays at home leaves lists and zones as they are: so do an
+/// edit under which bound ports stay, and a chassis that comes. A port that is bound begins with its zone.
 pub fn zones_turn()
     ensures at_home { TurnedAtHomeLaw }
     ensures keeps { KeepingLaw }
+    ensures edits { EditingLaw }
+    ensures chassis_come { ComingChassisLaw }
     ensures binds { BindingLaw }
 {}

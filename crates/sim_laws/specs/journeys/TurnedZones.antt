@@ -1,21 +1,23 @@
 -- How the zones of the chassis change where the configuration turns.
-use Rattle.std.specs.Prelude.{◌≡◌, ◌⊎◌, ℕ, false, List, [], ◌∷◌, Some}
+use Rattle.std.specs.Prelude.{◌≡◌, ◌⊎◌, ℕ, true, false, List, [], ◌∷◌, Some}
 use Rattle.std.specs.Map.{keys_of}
 use Rattle.conn_zones.specs.Rezoning.{IsRezoned}
 use Rattle.conn_zones.specs.Zoning.{Zoned, GivenNumbers, number_on}
 use Rattle.conn_zones.specs.declared.change.HomeChange.{HomeChange}
 use Rattle.conn_zones.specs.declared.numbers.ZoneUse.TheVariants.{Port}
+use Rattle.nb_records.specs.Network.{Network}
 use Rattle.nb_records.specs.Switches.{is_named}
 use Rattle.net_model.specs.ListOwners.{homed_routers, names_of}
 use Rattle.net_model.specs.State.{State}
 use Rattle.net_model.specs.Trail.{ListOwner}
-use Rattle.net_model.specs.Transition.{Turn, turned_by, bind}
+use Rattle.net_model.specs.Transition.{Turn, turned_by, bind, add_chassis, edit, identity_at, is_still_there}
 use Rattle.ovn_base.specs.declared.name.Name.{Name}
 use Rattle.ovn_base.specs.lists.Among.{Among}
+use Rattle.ovn_base.specs.names.ByName.{at}
 use Rattle.tunnel_keys.specs.Keys.{Keys}
 use Rattle.sim_laws.specs.journeys.AtHome.{AreAtHome}
 use Rattle.sim_laws.specs.journeys.InState.{zones_on}
-use Rattle.sim_laws.specs.journeys.UnderWay.{IsUnderWay}
+use Rattle.sim_laws.specs.journeys.UnderWay.{HasNoRouter, IsUnderWay}
 use Rattle.sim_laws.specs.pipelines.HeldLists.{list_there}
 
 -- the state after the turn, with these keys
@@ -61,6 +63,17 @@ KeepingLaw =
     (m : State) (zones : Zoned) (more : ℕ) (turn : Turn)
     → IsUnderWay m zones more → KeepsHomes m turn
     → ((turned_by turn m).lists ≡ m.lists) × IsTurnOfZones m turn zones.numbers zones.numbers []
+
+-- An edit is such a turn where each bound port stays and no router comes,
+abbrev pub EditingLaw : Type 0
+EditingLaw =
+    (m : State) (zones : Zoned) (more : ℕ) (net : Network)
+    → IsUnderWay m zones more → HasNoRouter net → ((q c : Name) → at m.config.bindings q ≡ Some c → is_still_there net (identity_at m.config.net q) ≡ true)
+    → KeepsHomes m (edit m.config net)
+
+-- and so is the coming of a chassis.
+abbrev pub ComingChassisLaw : Type 0
+ComingChassisLaw = (m : State) (zones : Zoned) (more : ℕ) (chassis : Name) → IsUnderWay m zones more → KeepsHomes m (add_chassis m.config chassis)
 
 -- the port is at home on the chassis from now on
 abbrev pub binding : Name → Name → HomeChange

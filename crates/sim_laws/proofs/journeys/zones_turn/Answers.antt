@@ -1,4 +1,5 @@
 use Rattle.sim_laws.proofs.turn_laws.BoundPorts.{binds_so}
+use Rattle.sim_laws.proofs.turn_laws.KeepingTurns.{chassis_keep, edits_keep}
 use Rattle.sim_laws.proofs.turn_laws.KeptHomes.{keeps_homes}
 use Rattle.sim_laws.proofs.turn_laws.TurnedLists.{turned_at_home}
 use Rattle.sim_laws.proofs.journeys.zones_turn.Goals as goal
@@ -8,6 +9,12 @@ returns-clause-at_home c = turned_at_home
 
 pub returns-clause-keeps : goal.returns-clause-keeps
 returns-clause-keeps c = keeps_homes
+
+pub returns-clause-edits : goal.returns-clause-edits
+returns-clause-edits c = edits_keep
+
+pub returns-clause-chassis_come : goal.returns-clause-chassis_come
+returns-clause-chassis_come c = chassis_keep
 
 pub returns-clause-binds : goal.returns-clause-binds
 returns-clause-binds c = binds_so
