@@ -7,7 +7,6 @@ use Rattle.chassis_sim.specs.Changing.{AllAreDeltas, IsApplied, IsProperChange}
 use Rattle.chassis_sim.specs.State as sim
 use Rattle.chassis_sim.specs.declared.change.SimChange.{SimChange}
 use Rattle.edit_reader.specs.Fitting.{IsEventInGrammar}
-use Rattle.edit_reader.specs.declared.event.Event.{Event}
 use Rattle.event_lines.specs.Lines.{accepted_lines}
 use Rattle.flow_table.specs.declared.flow.Flow.{Flow}
 use Rattle.net_model.specs.State.{State, event_count, finished, settled_where_none_waits}
@@ -19,22 +18,24 @@ use Rattle.switch_engine.specs.declared.effect.NetEffect.{NetEffect}
 use Rattle.switch_engine.specs.declared.walk.Walk.{Walk}
 use Rattle.tuple_space.specs.declared.space.TupleSpace.{TupleSpace}
 use Rattle.tunnel_keys.specs.Keys.{Keys, settled}
+use Rattle.world_core.specs.EventKinds.{event_of_turn}
 use Rattle.world_core.specs.Ground.{GroundView, changed, ground_of}
 use Rattle.world_core.specs.Inside.{seen_of}
 use Rattle.world_core.specs.Outcome.{IsAccepted}
 use Rattle.world_core.specs.Setup.{IsTurnOfTables, SetupView}
-use Rattle.world_core.specs.Turning.{IsTurn, IsTurned, is_turn}
+use Rattle.world_core.specs.Turning.{IsTurn, IsTurned}
 use Rattle.world_core.specs.Untracked.{untracked}
 use Rattle.world_core.specs.Waiting.{crossing_of, crossings_of, frame_under}
 use Rattle.world_core.specs.WorldView.{IsSound, WorldView}
+use Rattle.world_core.specs.declared.event_kinds.TurnEvent.{TurnEvent}
 use Rattle.world_core.specs.declared.setup.Turn.{Turn}
 use Rattle.world_core.specs.declared.world.World.TheInside.{Inside}
 use Rattle.world_core.proofs.HeldFlows.{flows_of}
 use Rattle.world_core.proofs.TurnEvents.{IsTurnedTo, given_up, kept_on, no_walks, same_settled, turns_to}
 use Rattle.world_core.proofs.Turned.{are_deltas, are_proper, held_then, tables_once}
 
-module _ (old : WorldView) (event : Event) (turn : is_turn event ≡ true) (sound : IsSound old) (lists : old.state.lists ≡ untracked old.state.config) (effects : List NetEffect) (change : SimChange TupleSpace)
-    (after : GroundView) (turned : IsTurned old.state old.zones event effects change after) (tables : IsTurnOfTables (ground_of old.state old.zones) after change) where
+module _ (old : WorldView) (event : TurnEvent) (sound : IsSound old) (lists : old.state.lists ≡ untracked old.state.config) (effects : List NetEffect) (change : SimChange TupleSpace)
+    (after : GroundView) (turned : IsTurned old.state old.zones (event_of_turn event) effects change after) (tables : IsTurnOfTables (ground_of old.state old.zones) after change) where
   abbrev m : State
   m = old.state
 
@@ -42,7 +43,7 @@ module _ (old : WorldView) (event : Event) (turn : is_turn event ≡ true) (soun
   end = finished turned.mid
 
   turned_to : IsTurnedTo m turned.mid
-  turned_to = turns_to m event effects turned.mid turn lists turned.does
+  turned_to = turns_to m event effects turned.mid lists turned.does
 
   -- no key is retired
   keys_are : end.keys ≡ turned.mid.keys
@@ -100,20 +101,20 @@ module _ (old : WorldView) (event : Event) (turn : is_turn event ≡ true) (soun
       held = subst (λ (w : State). AreHeld w after.zones.numbers s) (sym state_is) held;
     }
 
-    pub accepted_then : (before text : List ℕ) → text ≡ before ++ accepted_lines (event_count m + 1) effects 0 → IsAccepted old event before text then'
+    pub accepted_then : (before text : List ℕ) → text ≡ before ++ accepted_lines (event_count m + 1) effects 0 → IsAccepted old (event_of_turn event) before text then'
     accepted_then before text is = record {
       admitted = turned.allowed;
       effects = effects;
       step = record { mid = turned.mid; does = turned.does; state = state_is };
-      passed = no_walks old.sim event (record { effects = effects; walks = [] }) s turn refl;
+      passed = no_walks old.sim event (record { effects = effects; walks = [] }) s refl;
       zones = turned.zones;
       text = is;
     }
 
 -- ---- as the world is kept
 
-module _ (w : Inside) (now : WorldView) (view : seen_of w ≡ now) (event : Event) (turns : is_turn event ≡ true) (sound : IsSound now) (room : event_count now.state < 2 ^ 42) (grammar : IsEventInGrammar event)
-    (setup : SetupView) (turn : Turn) (prepared : IsTurn w.setup.ground setup (event_count (seen_of w).state + 1) event turn) where
+module _ (w : Inside) (now : WorldView) (view : seen_of w ≡ now) (event : TurnEvent) (sound : IsSound now) (room : event_count now.state < 2 ^ 42) (grammar : IsEventInGrammar (event_of_turn event))
+    (setup : SetupView) (turn : Turn) (prepared : IsTurn w.setup.ground setup (event_count (seen_of w).state + 1) (event_of_turn event) turn) where
   abbrev before : WorldView
   before = seen_of w
 
@@ -123,7 +124,7 @@ module _ (w : Inside) (now : WorldView) (view : seen_of w ≡ now) (event : Even
   sound_before : IsSound before
   sound_before = subst (λ v. IsSound v) (sym view) sound
 
-  turned_then : IsTurned before.state before.zones event turn.effects turn.sim ground_then
+  turned_then : IsTurned before.state before.zones (event_of_turn event) turn.effects turn.sim ground_then
   turned_then = prepared.turned before.state (record {
     ground = refl;
     number = refl;
@@ -134,13 +135,13 @@ module _ (w : Inside) (now : WorldView) (view : seen_of w ≡ now) (event : Even
   })
 
   pub tables_once_each : EachOnce (keys_of turn.sim.tables)
-  tables_once_each = each_once before event turns sound_before refl turn.effects turn.sim ground_then turned_then prepared.tables
+  tables_once_each = each_once before event sound_before refl turn.effects turn.sim ground_then turned_then prepared.tables
 
   pub deltas_of_held : AllAreDeltas w.sim.state.chassis turn.sim.tables
-  deltas_of_held = may_prepare before event turns sound_before refl turn.effects turn.sim ground_then turned_then prepared.tables
+  deltas_of_held = may_prepare before event sound_before refl turn.effects turn.sim ground_then turned_then prepared.tables
 
   pub proper_change : IsProperChange flows_of turn.sim
-  proper_change = may_apply before event turns sound_before refl turn.effects turn.sim ground_then turned_then prepared.tables
+  proper_change = may_apply before event sound_before refl turn.effects turn.sim ground_then turned_then prepared.tables
 
   -- so many frames wait as have names
   as_many : length before.state.waiting ≡ length w.crossings.entries
@@ -172,18 +173,18 @@ module _ (w : Inside) (now : WorldView) (view : seen_of w ≡ now) (event : Even
       whole = before.whole;
     }
 
-    is_end : end_world ≡ then' before event turns sound_before refl turn.effects turn.sim ground_then turned_then prepared.tables s made exact
+    is_end : end_world ≡ then' before event sound_before refl turn.effects turn.sim ground_then turned_then prepared.tables s made exact
     is_end =
         (λ i. record end_world { state = record end_world.state { waiting = crossings_of w.crossings.entries (made.waiting i) } })
-        ∙ ended before event turns sound_before refl turn.effects turn.sim ground_then turned_then prepared.tables s made exact ground walks ground_is none
+        ∙ ended before event sound_before refl turn.effects turn.sim ground_then turned_then prepared.tables s made exact ground walks ground_is none
 
     pub sound_end : IsSound end_world
-    sound_end = subst (λ v. IsSound v) (sym is_end) (sound_then before event turns sound_before refl turn.effects turn.sim ground_then turned_then prepared.tables s made exact)
+    sound_end = subst (λ v. IsSound v) (sym is_end) (sound_then before event sound_before refl turn.effects turn.sim ground_then turned_then prepared.tables s made exact)
 
-    pub accepted_end : (text more : List ℕ) → more ≡ text ++ accepted_lines (event_count before.state + 1) turn.effects 0 → IsAccepted now event text more end_world
+    pub accepted_end : (text more : List ℕ) → more ≡ text ++ accepted_lines (event_count before.state + 1) turn.effects 0 → IsAccepted now (event_of_turn event) text more end_world
     accepted_end text more is =
-        subst (λ v. IsAccepted v event text more end_world) view (subst (λ v. IsAccepted before event text more v) (sym is_end)
-        (accepted_then before event turns sound_before refl turn.effects turn.sim ground_then turned_then prepared.tables s made exact text more is))
+        subst (λ v. IsAccepted v (event_of_turn event) text more end_world) view (subst (λ v. IsAccepted before (event_of_turn event) text more v) (sym is_end)
+        (accepted_then before event sound_before refl turn.effects turn.sim ground_then turned_then prepared.tables s made exact text more is))
 
 -- the world as it is kept, with this ground and these chassis
 abbrev pub seen_with : Inside → GroundView → sim.SimState → WorldView

@@ -6,6 +6,7 @@ pub mod Counts
 pub mod CrossingStore
 pub mod DrainSteps
 pub mod EmptyWorld
+pub mod EventKinds
 pub mod FlowStores
 pub mod FrameCrossings
 pub mod FreedKeys

@@ -1,13 +1,11 @@
 -- What a turn of the configuration leaves: names, bindings, keys, and the rest of the state.
-use Rattle.std.specs.Prelude.{◌≡◌, ℕ, cond, List, [], ◌∷◌, Some, codes, length, true, unwrap_or, refl}
+use Rattle.std.specs.Prelude.{◌≡◌, ℕ, cond, List, [], ◌∷◌, Some, codes, length, unwrap_or, refl}
 use Rattle.std.proofs.Common.{arith, sym, ap, subst, ◌∙◌, inl, inr}
 use Rattle.std.proofs.lemmas.Bool.{cases_Bool, false≢true}
 use Rattle.chassis_sim.specs.Settings.{AreSet, set_in_turn}
 use Rattle.chassis_sim.specs.State as sim
 use Rattle.chassis_sim.specs.State.{same_pair}
 use Rattle.chassis_sim.specs.declared.out.SimOut.{SimOut}
-use Rattle.edit_reader.specs.declared.event.Event.{Event}
-use Rattle.edit_reader.specs.declared.event.Event.TheVariants as event_of
 use Rattle.net_model.specs.State.{State, settled_where_none_waits}
 use Rattle.net_model.specs.ListOwners.{lists_for}
 use Rattle.net_model.specs.Transition.{Turn, add_chassis, bind, edit, turned_by}
@@ -20,10 +18,12 @@ use Rattle.sim_laws.specs.Held.{HaveOwnersNames}
 use Rattle.switch_engine.specs.declared.effect.NetEffect.{NetEffect}
 use Rattle.tunnel_keys.specs.Keys.{Keys, settled}
 use Rattle.world_core.specs.Editing.{next_net}
+use Rattle.world_core.specs.EventKinds.{event_of_turn}
 use Rattle.world_core.specs.EventPasses.{Passes}
 use Rattle.world_core.specs.Step.{Does}
-use Rattle.world_core.specs.Turning.{is_turn}
 use Rattle.world_core.specs.Untracked.{untracked}
+use Rattle.world_core.specs.declared.event_kinds.TurnEvent.{TurnEvent}
+use Rattle.world_core.specs.declared.event_kinds.TurnEvent.TheVariants as turn_event
 use Rattle.world_core.proofs.Turns.{lists_still}
 
 -- names stay where none is given
@@ -74,37 +74,13 @@ turned_to m mid turn keys lists is =
     subst (λ (w : State). w ≡ record m { config = w.config; keys = w.keys; lists = untracked w.config }) (sym is) (λ i. record m { config = turn.next; keys = keys; lists = left i })
 
 -- that is what turns do
-pub turns_to : (m : State) (event : Event) (effects : List NetEffect) (mid : State) → is_turn event ≡ true → m.lists ≡ untracked m.config → Does m event effects mid → IsTurnedTo m mid
-turns_to m (event_of.Edit ops) effects mid is lists does = turned_to m mid (edit m.config (next_net m ops)) does.keys lists does.state
-turns_to m (event_of.Bind p c) effects mid is lists does = turned_to m mid (bind m.config p c) m.keys lists does.1
-turns_to m (event_of.AddChassis c) effects mid is lists does = turned_to m mid (add_chassis m.config c) m.keys lists does.1
-turns_to m (event_of.Unbind p) effects mid is lists does = absurd (false≢true is)
-turns_to m (event_of.RemoveChassis c) effects mid is lists does = absurd (false≢true is)
-turns_to m (event_of.Keys d q) effects mid is lists does = absurd (false≢true is)
-turns_to m (event_of.Health b backend online) effects mid is lists does = absurd (false≢true is)
-turns_to m (event_of.Clock seconds) effects mid is lists does = absurd (false≢true is)
-turns_to m (event_of.Inject p frame) effects mid is lists does = absurd (false≢true is)
-turns_to m (event_of.Deliver n) effects mid is lists does = absurd (false≢true is)
-turns_to m (event_of.Lose n) effects mid is lists does = absurd (false≢true is)
-turns_to m (event_of.Repeat n) effects mid is lists does = absurd (false≢true is)
-turns_to m event_of.Drain effects mid is lists does = absurd (false≢true is)
-turns_to m (event_of.Packet p frame) effects mid is lists does = absurd (false≢true is)
-turns_to m (event_of.Unread fault) effects mid is lists does = absurd (false≢true is)
+pub turns_to : (m : State) (event : TurnEvent) (effects : List NetEffect) (mid : State) → m.lists ≡ untracked m.config → Does m (event_of_turn event) effects mid → IsTurnedTo m mid
+turns_to m (turn_event.Edit ops) effects mid lists does = turned_to m mid (edit m.config (next_net m ops.now)) does.keys lists does.state
+turns_to m (turn_event.Bind p c) effects mid lists does = turned_to m mid (bind m.config p c) m.keys lists does.1
+turns_to m (turn_event.AddChassis c) effects mid lists does = turned_to m mid (add_chassis m.config c) m.keys lists does.1
 
 -- a turn has no packet
-pub no_walks : (s : sim.SimState) (event : Event) (out : SimOut) (new : sim.SimState) → is_turn event ≡ true → out.walks ≡ [] → Passes s event out new
-no_walks s (event_of.Edit ops) out new is none = none
-no_walks s (event_of.Bind p c) out new is none = none
-no_walks s (event_of.AddChassis c) out new is none = none
-no_walks s (event_of.Unbind p) out new is none = absurd (false≢true is)
-no_walks s (event_of.RemoveChassis c) out new is none = absurd (false≢true is)
-no_walks s (event_of.Keys d q) out new is none = absurd (false≢true is)
-no_walks s (event_of.Health b backend online) out new is none = absurd (false≢true is)
-no_walks s (event_of.Clock seconds) out new is none = absurd (false≢true is)
-no_walks s (event_of.Inject p frame) out new is none = absurd (false≢true is)
-no_walks s (event_of.Deliver n) out new is none = absurd (false≢true is)
-no_walks s (event_of.Lose n) out new is none = absurd (false≢true is)
-no_walks s (event_of.Repeat n) out new is none = absurd (false≢true is)
-no_walks s event_of.Drain out new is none = absurd (false≢true is)
-no_walks s (event_of.Packet p frame) out new is none = absurd (false≢true is)
-no_walks s (event_of.Unread fault) out new is none = absurd (false≢true is)
+pub no_walks : (s : sim.SimState) (event : TurnEvent) (out : SimOut) (new : sim.SimState) → out.walks ≡ [] → Passes s (event_of_turn event) out new
+no_walks s (turn_event.Edit ops) out new none = none
+no_walks s (turn_event.Bind p c) out new none = none
+no_walks s (turn_event.AddChassis c) out new none = none

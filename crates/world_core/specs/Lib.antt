@@ -1,6 +1,7 @@
 -- Definitions that contracts cite.
 pub mod Built
 pub mod Editing
+pub mod EventKinds
 pub mod EventPasses
 pub mod Ground
 pub mod Holding

@@ -1,5 +1,5 @@
 -- What is prepared for an event that is a turn of the configuration: an edit, a binding or a chassis.
-use Rattle.std.specs.Prelude.{◌≡◌, ◌+◌, ◌<◌, ◌^◌, ℕ, Bool, true, false, List, [], Option, None, Some, map}
+use Rattle.std.specs.Prelude.{◌≡◌, ◌+◌, ◌<◌, ◌^◌, ℕ, true, List, [], Option, None, Some, map}
 use Rattle.ovn_base.specs.declared.name.Name.{Name}
 use Rattle.ovn_base.specs.names.ByName.{at}
 use Rattle.ovn_base.specs.names.SameName.{same_name}
@@ -10,7 +10,6 @@ use Rattle.chassis_sim.specs.declared.change.SimChange.{SimChange}
 use Rattle.conn_zones.specs.Zoning.{Zoned}
 use Rattle.edit_reader.specs.Fitting.{IsEventInGrammar}
 use Rattle.edit_reader.specs.declared.event.Event.{Event}
-use Rattle.edit_reader.specs.declared.event.Event.TheVariants.{Edit, Bind, Unbind, AddChassis, RemoveChassis, Keys, Health, Clock, Inject, Deliver, Lose, Repeat, Drain, Packet, Unread}
 use Rattle.event_lines.specs.declared.refusal.Refusal.{Refusal}
 use Rattle.event_lines.specs.declared.refusal.StepFault.{StepFault}
 use Rattle.event_lines.specs.declared.refusal.StepFault.TheVariants.{Refused, Memory}
@@ -40,24 +39,6 @@ use Rattle.world_core.specs.Step.{Does}
 use Rattle.world_core.specs.Untracked.{untracked}
 use Rattle.world_core.specs.Zones.{Rezones}
 use Rattle.world_core.specs.declared.setup.Turn.{Turn}
-
--- the event is a turn of the configuration that is built
-abbrev pub is_turn : Event → Bool
-is_turn (Edit ops) = true
-is_turn (Bind port chassis) = true
-is_turn (Unbind port) = false
-is_turn (AddChassis chassis) = true
-is_turn (RemoveChassis chassis) = false
-is_turn (Keys datapaths ports) = false
-is_turn (Health balancer backend online) = false
-is_turn (Clock seconds) = false
-is_turn (Inject port frame) = false
-is_turn (Deliver n) = false
-is_turn (Lose n) = false
-is_turn (Repeat n) = false
-is_turn Drain = false
-is_turn (Packet port frame) = false
-is_turn (Unread fault) = false
 
 -- the event may turn the state, whose ground this is
 pub record MayTurn (g : GroundView) (n : ℕ) (event : Event) (m : State) : Type 0 where

@@ -4,6 +4,7 @@
 mod built;
 mod crossing_names;
 mod edited;
+mod event_kinds;
 mod frames;
 mod ground;
 pub mod held;

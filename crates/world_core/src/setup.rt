@@ -1,5 +1,5 @@
 //! The ground of the tables, the flows of each chassis by unit, and the turns of both.
-ghost use Rattle.std.specs.Prelude.{◌≡◌, true, IfErr, IfOk, None, [], ◌∷◌, option_map};
+ghost use Rattle.std.specs.Prelude.{◌≡◌, IfErr, IfOk, None, [], ◌∷◌, option_map};
 ghost use Rattle.std.specs.BTreeSet.{insert_key};
 ghost use Rattle.std.specs.Cmp.Lexicographic.{slice_cmp};
 ghost use Rattle.std.specs.Ordering.{nat_cmp};
@@ -24,19 +24,20 @@ ghost use Rattle.tunnel_keys.specs.Keys.{settled};
 ghost use Rattle.tunnel_keys.specs.Causes.{HasKeys};
 ghost use Rattle.tunnel_keys.specs.Edits.{IsAfter, IsKeyEdit};
 ghost use Rattle.tuple_space.specs.Bunches.{flows_in};
+ghost use Rattle.world_core.specs.EventKinds.{event_of_turn};
 ghost use Rattle.world_core.specs.Ground.{changed, ground_of, IsChangeOf};
 ghost use Rattle.world_core.specs.Setup.{AreTouched, ComesOver, HasTables, IsSetupPatch, IsTurnOfTables, units_of};
-ghost use Rattle.world_core.specs.Turning.{IsBare, IsNoTurn, IsPlannedEdit, IsTurn, LacksFor, MayTurn, Tells, fault_of_keys, is_turn};
+ghost use Rattle.world_core.specs.Turning.{IsBare, IsNoTurn, IsPlannedEdit, IsTurn, LacksFor, MayTurn, Tells, fault_of_keys};
 ghost use Rattle.world_core.specs.Zones.{home_change, no_zones};
 
 use crate::built::is_built_edit;
 use crate::edited::{key_effects, key_names, touched_units};
+use crate::event_kinds::TurnEvent;
 use crate::ground::{Ground, GroundChange};
 use crate::held::{Held, holding};
 use crate::stores::{Stores, apply_each, deltas_of, prepare_each};
 use chassis_sim::change::SimChange;
 use conn_zones::change::HomeChange;
-use edit_reader::event::Event;
 use event_lines::refusal::{Refusal, StepFault};
 use indexmap::IndexMap;
 use nb_edits::edit::plan;
@@ -395,35 +396,22 @@ impl Setup {
         Ok(turn)
     }
 
-    /// Prepares what an event of this number makes of the setup and of the simulated chassis, which may turn the configuration.
+    /// Prepares what a turn of the configuration, as the event of this number, makes of the setup and of the simulated chassis.
     pub(crate) fn turn(
         &mut self,
         alloc: Global,
         number: u64,
-        event: &Event,
+        event: &TurnEvent<'_>,
     ) -> Result<Turn, StepFault>
-        requires turn { is_turn event.now ≡ true }
-        requires may { (m : State) × MayTurn self.old.ground number event.now m }
+        requires may { (m : State) × MayTurn self.old.ground number (event_of_turn event.now) m }
         ensures kept { self.new.ground ≡ self.old.ground }
-        ensures turn { IfOk result (IsTurn self.old.ground self.new number event.now) }
-        ensures refused { IfErr result (IsNoTurn self.old.ground number event.now) }
+        ensures turn { IfOk result (IsTurn self.old.ground self.new number (event_of_turn event.now)) }
+        ensures refused { IfErr result (IsNoTurn self.old.ground number (event_of_turn event.now)) }
     {
         match event {
-            Event::Edit(ops) => self.edit(alloc, number, ops.as_slice()),
-            Event::Bind { port, chassis } => self.bind(alloc, number, *port, *chassis),
-            Event::AddChassis(chassis) => self.add_chassis(alloc, number, *chassis),
-            Event::Unbind { .. }
-            | Event::RemoveChassis(_)
-            | Event::Keys { .. }
-            | Event::Health { .. }
-            | Event::Clock { .. }
-            | Event::Inject { .. }
-            | Event::Deliver { .. }
-            | Event::Lose { .. }
-            | Event::Repeat { .. }
-            | Event::Drain
-            | Event::Packet { .. }
-            | Event::Unread(_) => unreachable!(),
+            TurnEvent::Edit(ops) => self.edit(alloc, number, ops.as_slice()),
+            TurnEvent::Bind { port, chassis } => self.bind(alloc, number, *port, *chassis),
+            TurnEvent::AddChassis(chassis) => self.add_chassis(alloc, number, *chassis),
         }
     }
 

@@ -7,15 +7,18 @@ ghost use Rattle.flow_table.specs.declared.flow.Flow.{Flow};
 ghost use Rattle.event_lines.specs.Lines.{refused_line};
 ghost use Rattle.event_lines.specs.Text.{StartsWith};
 ghost use Rattle.edit_reader.specs.Fitting.{IsEventInGrammar};
+ghost use Rattle.edit_reader.specs.declared.event.Event.{Event};
 ghost use Rattle.edit_reader.specs.declared.event.Event.TheVariants as event_of;
+ghost use Rattle.world_core.specs.EventKinds.{event_of_packets, event_of_turn};
 ghost use Rattle.world_core.specs.Outcome.{IsAccepted, moves_packets, Outcome};
 ghost use Rattle.world_core.specs.StepParts.{IsTaken, Leaves, new_world};
 ghost use Rattle.world_core.specs.Refusing.{refusal};
-ghost use Rattle.world_core.specs.Turning.{Tells, is_turn};
+ghost use Rattle.world_core.specs.Turning.{Tells};
 ghost use Rattle.world_core.specs.WorldView.{IsSound};
 ghost use Rattle.net_model.specs.State.{event_count, finished};
 
 use crate::crossing_names::CrossingNames;
+use crate::event_kinds::{PacketEvent, TurnEvent};
 use crate::held::Held;
 use crate::setup::Setup;
 use crate::world::texts::{write_accepted, write_refused};
@@ -74,16 +77,6 @@ impl Model for World {
     ghost view = { seen_of };
 
     ghost invariant = { IsSoundOnceWhole };
-}
-
-// Whether the event is an edit, a binding or a chassis.
-fn is_turn(event: &Event) -> bool
-    ensures { result ≡ is_turn event.now }
-{
-    matches!(
-        event,
-        Event::Edit(_) | Event::Bind { .. } | Event::AddChassis(_)
-    )
 }
 
 impl World {
@@ -181,15 +174,14 @@ impl World {
         Ok(())
     }
 
-    // Does what an edit, a binding or a chassis asks for, where it isn't refused. All that may want memory comes first.
-    fn turn(&mut self, event: &Event, text: &mut Vec<u8>) -> Result<(), StepFault>
-        requires turn { is_turn event.now ≡ true }
+    // Does what a turn of the configuration asks for, where it isn't refused. All that may want memory comes first.
+    fn turn(&mut self, event: &TurnEvent<'_>, text: &mut Vec<u8>) -> Result<(), StepFault>
         requires sound { IsSound self.old }
         requires room { event_count self.old.state < 2 ^ 42 }
-        requires admitted { IsEventInGrammar event.now }
-        ensures done { OnOk result (IsAccepted self.old event.now text.old.items text.new.items self.new) }
+        requires admitted { IsEventInGrammar (event_of_turn event.now) }
+        ensures done { OnOk result (IsAccepted self.old (event_of_turn event.now) text.old.items text.new.items self.new) }
         ensures sound { OnOk result (IsSound self.new) }
-        ensures told { IfErr result (λ fault. Tells fault (refusal self.old.state event.now)) }
+        ensures told { IfErr result (λ fault. Tells fault (refusal self.old.state (event_of_turn event.now))) }
         ensures same { OnErr result (self.new ≡ self.old) }
         ensures front { OnErr result (text.new.items ≡ text.old.items) }
     {
@@ -209,47 +201,39 @@ impl World {
         Ok(())
     }
 
-    // Takes an edit, a binding or a chassis.
-    fn take_turn(&mut self, event: &Event, text: &mut Vec<u8>) -> Result<(), StepFault>
-        requires turn { is_turn event.now ≡ true }
+    // Takes a turn of the configuration.
+    fn take_turn(&mut self, event: &TurnEvent<'_>, text: &mut Vec<u8>) -> Result<(), StepFault>
         requires sound { IsSound self.old }
         requires room { event_count self.old.state < 2 ^ 42 }
-        requires admitted { IsEventInGrammar event.now }
-        ensures { Outcome result self.old event.now text.old.items text.new.items self.new }
+        requires admitted { IsEventInGrammar (event_of_turn event.now) }
+        ensures { Outcome result self.old (event_of_turn event.now) text.old.items text.new.items self.new }
     {
         match self.turn(event, text) {
             Ok(()) => Ok(()),
-            Err(StepFault::Refused(why)) => self.take_refused(event, why, text),
+            Err(StepFault::Refused(why)) => self.take_refused(why, text),
             Err(StepFault::Memory) => Err(StepFault::Memory),
         }
     }
 
-    // Takes an event that is refused and moves no packets.
-    fn take_refused(
-        &mut self,
-        event: &Event,
-        why: Refusal,
-        text: &mut Vec<u8>,
-    ) -> Result<(), StepFault>
-        requires still { moves_packets event.now ≡ false }
+    // Takes an event that is refused and moves no packets, whichever it is.
+    fn take_refused(&mut self, why: Refusal, text: &mut Vec<u8>) -> Result<(), StepFault>
         requires sound { IsSound self.old }
         requires room { event_count self.old.state < 2 ^ 42 }
-        requires refused { refusal self.old.state event.now ≡ Some why }
-        ensures { Outcome result self.old event.now text.old.items text.new.items self.new }
+        ensures { (event : Event) → moves_packets event ≡ false → refusal self.old.state event ≡ Some why
+            → Outcome result self.old event text.old.items text.new.items self.new }
     {
         self.refuse(&why, text)?;
         Err(StepFault::Refused(why))
     }
 
     // Takes a frame that waits away.
-    fn take_loss(&mut self, event: &Event, frame: u64, text: &mut Vec<u8>) -> Result<(), StepFault>
-        requires event { event.now ≡ event_of.Lose frame }
+    fn take_loss(&mut self, frame: u64, text: &mut Vec<u8>) -> Result<(), StepFault>
         requires sound { IsSound self.old }
         requires room { event_count self.old.state < 2 ^ 42 }
-        ensures { Outcome result self.old event.now text.old.items text.new.items self.new }
+        ensures { Outcome result self.old (event_of.Lose frame) text.old.items text.new.items self.new }
     {
         if let Some(why) = self.refusal_of_frame(frame) {
-            return self.take_refused(event, why, text);
+            return self.take_refused(why, text);
         }
         write_accepted(&[], 0, self.accepted + self.refused + 1, text)?;
         self.whole = false;
@@ -276,30 +260,43 @@ impl World {
         ensures steps { steps.old ≤ steps.new }
     {
         match event {
-            Event::Edit(_) | Event::Bind { .. } | Event::AddChassis(_) => {
-                self.take_turn(event, text)
+            Event::Edit(ops) => self.take_turn(&TurnEvent::Edit(ops), text),
+            Event::Bind { port, chassis } => {
+                let event = TurnEvent::Bind {
+                    port: *port,
+                    chassis: *chassis,
+                };
+                self.take_turn(&event, text)
             }
+            Event::AddChassis(name) => self.take_turn(&TurnEvent::AddChassis(*name), text),
             Event::Unbind { .. }
             | Event::RemoveChassis(_)
             | Event::Keys { .. }
             | Event::Health { .. }
-            | Event::Clock { .. } => self.take_refused(event, Refusal::NotBuilt, text),
-            Event::Lose { frame } => self.take_loss(event, *frame, text),
-            Event::Unread(fault) => self.take_refused(event, Refusal::Read(fault.copy()?), text),
-            Event::Inject { .. }
-            | Event::Deliver { .. }
-            | Event::Repeat { .. }
-            | Event::Drain
-            | Event::Packet { .. } => self.take_packets(event, text),
+            | Event::Clock { .. } => self.take_refused(Refusal::NotBuilt, text),
+            Event::Lose { frame } => self.take_loss(*frame, text),
+            Event::Unread(fault) => self.take_refused(Refusal::Read(fault.copy()?), text),
+            Event::Inject { port, frame } => {
+                self.take_packets(&PacketEvent::Inject { port: *port, frame }, text)
+            }
+            Event::Deliver { frame } => {
+                self.take_packets(&PacketEvent::Deliver { frame: *frame }, text)
+            }
+            Event::Repeat { frame } => {
+                self.take_packets(&PacketEvent::Repeat { frame: *frame }, text)
+            }
+            Event::Drain => self.take_packets(&PacketEvent::Drain, text),
+            Event::Packet { port, frame } => {
+                self.take_packets(&PacketEvent::Packet { port: *port, frame }, text)
+            }
         }
     }
 
     // Takes an event that moves packets.
-    fn take_packets(&mut self, event: &Event, text: &mut Vec<u8>) -> Result<(), StepFault>
-        requires moves { moves_packets event.now ≡ true }
+    fn take_packets(&mut self, event: &PacketEvent<'_>, text: &mut Vec<u8>) -> Result<(), StepFault>
         requires sound { IsSound self.old }
         requires room { event_count self.old.state < 2 ^ 42 }
-        ensures { Outcome result self.old event.now text.old.items text.new.items self.new }
+        ensures { Outcome result self.old (event_of_packets event.now) text.old.items text.new.items self.new }
     {
         self.whole = false;
         match self.take(event, text) {
@@ -319,11 +316,10 @@ impl World {
     }
 
     // Takes an event that moves packets while the world is marked as being changed.
-    fn take(&mut self, event: &Event, text: &mut Vec<u8>) -> Result<(), StepFault>
-        requires moves { moves_packets event.now ≡ true }
+    fn take(&mut self, event: &PacketEvent<'_>, text: &mut Vec<u8>) -> Result<(), StepFault>
         requires taken { IsTaken self.old }
         requires room { event_count self.old.state < 2 ^ 42 }
-        ensures { Leaves result self.old event.now text.old.items text.new.items self.new }
+        ensures { Leaves result self.old (event_of_packets event.now) text.old.items text.new.items self.new }
     {
         let alloc = self.walks.allocator();
         let number = self.accepted + self.refused + 1;

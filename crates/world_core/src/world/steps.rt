@@ -1,17 +1,18 @@
 //! The steps of a world that move packets, one for each kind of event.
-ghost use Rattle.std.specs.Prelude.{cond, ◌≡◌, ◌<◌, ◌^◌, None, true, IfErr, IfOk};
+ghost use Rattle.std.specs.Prelude.{cond, ◌≡◌, ◌<◌, ◌^◌, None, IfErr, IfOk};
 ghost use Rattle.edit_reader.specs.declared.event.Event.TheVariants as event_of;
+ghost use Rattle.world_core.specs.EventKinds.{event_of_packets};
 ghost use Rattle.world_core.specs.Packets.{IsPacketOf};
 ghost use Rattle.world_core.specs.StepParts.{IsTaken, IsTried, IsDone};
-ghost use Rattle.world_core.specs.Outcome.{matched, moves_packets};
+ghost use Rattle.world_core.specs.Outcome.{matched};
 ghost use Rattle.world_core.specs.Turning.{Tells};
 ghost use Rattle.world_core.specs.Refusing.{cause_of_entry, no_frame, too_many_wait};
 ghost use Rattle.net_model.specs.State.{event_count};
 
+use crate::event_kinds::PacketEvent;
 use crate::frames::{Entering, read_entering};
 use crate::world::{Done, World};
 use chassis_sim::out::SimOut;
-use edit_reader::event::Event;
 use event_lines::refusal::{Refusal, StepFault};
 use inet_packet::packet::Packet;
 use ovn_base::limits::MAX_WAITING;
@@ -174,28 +175,21 @@ impl World {
     }
 
     /// Does what an event that moves packets asks for, or tells why it is refused.
-    pub(super) fn accept(&mut self, alloc: Global, event: &Event) -> Result<Done, StepFault>
-        requires moves { moves_packets event.now ≡ true }
+    pub(super) fn accept(
+        &mut self,
+        alloc: Global,
+        event: &PacketEvent<'_>,
+    ) -> Result<Done, StepFault>
         requires taken { IsTaken self.old }
         requires room { event_count self.old.state < 2 ^ 42 }
-        ensures { IsTried result self.old event.now self.new }
+        ensures { IsTried result self.old (event_of_packets event.now) self.new }
     {
         match event {
-            Event::Inject { port, frame } => self.inject(alloc, port, frame),
-            Event::Deliver { frame } => self.deliver(alloc, *frame),
-            Event::Repeat { frame } => self.repeat(alloc, *frame),
-            Event::Drain => Ok(self.take_drain(alloc)?),
-            Event::Packet { port, frame } => self.send(alloc, port, frame),
-            Event::Edit(_)
-            | Event::Bind { .. }
-            | Event::Unbind { .. }
-            | Event::AddChassis(_)
-            | Event::RemoveChassis(_)
-            | Event::Keys { .. }
-            | Event::Health { .. }
-            | Event::Clock { .. }
-            | Event::Lose { .. }
-            | Event::Unread(_) => unreachable!(),
+            PacketEvent::Inject { port, frame } => self.inject(alloc, port, frame),
+            PacketEvent::Deliver { frame } => self.deliver(alloc, *frame),
+            PacketEvent::Repeat { frame } => self.repeat(alloc, *frame),
+            PacketEvent::Drain => Ok(self.take_drain(alloc)?),
+            PacketEvent::Packet { port, frame } => self.send(alloc, port, frame),
         }
     }
 }

@@ -36,5 +36,5 @@ returns c =
     let allowed : no_frame old.state n ≡ None = ap (λ k. no_frame old.state k) c.from.ensures ∙ sym c.refusal_of_frame.ensures ∙ c.in_default.is in
     let lines : text ≡ before ++ accepted_lines (event_count old.state + 1) [] 0 = c.in_ok-write_accepted.ensures.ok ∙ ap (λ (w : WorldView). before ++ accepted_lines (event_count w.state + 1) [] 0) c.self.view_is in
     let taken = loss_taken old n c.requires.sound c.requires.room allowed before text lines in
-    subst (λ w. IsAccepted old c.args.event.now before text w × IsSound w) (sym end)
-    (subst (λ e. IsAccepted old e before text (counted_world (lost_world old n) [])) (ap (λ k. event_of.Lose k) c.from.ensures ∙ sym c.requires.event) taken.0, taken.1)
+    subst (λ w. IsAccepted old (event_of.Lose c.args.frame) before text w × IsSound w) (sym end)
+    (subst (λ k. IsAccepted old (event_of.Lose k) before text (counted_world (lost_world old n) [])) c.from.ensures taken.0, taken.1)
