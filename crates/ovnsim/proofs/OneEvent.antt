@@ -1,5 +1,5 @@
 -- What one event leaves.
-use Rattle.std.proofs.Common.{◌≡◌, ◌+◌, ◌++◌, ℕ, zero, suc, Bool, true, false, List, [], inl, inr, refl, sym, ap, ◌∙◌, subst, take, drop, take-append-drop, arith, Option, Result, Ok, Err, IsErrAnd, IfErr}
+use Rattle.std.proofs.Common.{◌≡◌, ◌+◌, ◌++◌, ℕ, Bool, true, false, List, [], refl, sym, ap, ◌∙◌, subst, take, drop, take-append-drop, arith, Option, Result, Ok, Err, IsErrAnd, IfErr}
 use Rattle.std.specs.Io.KnownBytes.{append_known}
 use Rattle.edit_reader.specs.declared.event.Event.{Event}
 use Rattle.edit_reader.specs.declared.event.Event.TheVariants.{Edit, Bind, Unbind, AddChassis, RemoveChassis, Keys, Health, Clock, Inject, Deliver, Lose, Repeat, Drain, Packet, Unread}

@@ -29,11 +29,14 @@ pub record IsReadOff (own : List Pick) (text : List ℕ) (new : WorldView) : Typ
 
 takes_read : (old : WorldView) → IsSound old → (event : Event) → IsEventInGrammar event → (own : List Pick) (text : List ℕ) (new : WorldView) → IsNamedState old.state → Takes old event own text new → IsReadOff own text new
 takes_read old sound event admitted own text new named (accepts h e) =
-    let step = step_named old.state old.zones sound.consistent event admitted h.admitted h.effects new.state named h.step in
+    let step = step_named old.state sound.consistent.valid named event admitted h.admitted h.effects new.state h.step in
     record { picks = ap picks_in h.text ∙ read.accepted (event_count old.state + 1) (matched new.walks) h.effects step.0 ∙ sym e; named = step.1 }
 takes_read old sound event admitted own text new named (refuses why h e) = record {
   picks = ap picks_in h.text ∙ read.refused (event_count old.state + 1) why ∙ sym e;
-  named = subst (λ (w : WorldView). IsNamedState w.state) (sym h.kept) (record { ports = named.ports; chassis = named.chassis; bindings = named.bindings; waiting = named.waiting; keys = named.keys });
+  named = subst (λ (w : WorldView). IsNamedState w.state) (sym h.kept) (record {
+    names = record { chassis = named.names.chassis; homes = named.names.homes; waiting = named.names.waiting };
+    keys = named.keys;
+  });
 }
 
 -- ---- the text of a run
