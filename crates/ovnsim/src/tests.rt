@@ -212,7 +212,7 @@ const REFUSED: &[u8] = b"{\"inject\":{\"port\":\"p1\",\"frame\":\"00000000000000
 {\"chassis\":{\"add\":\"hv1\"}}
 {\"repeat\":{\"frame\":0}}
 {\"unbind\":{\"port\":\"p1\"}}
-{\"edit\":[{\"add\":\"switch\",\"name\":\"s1\"},{\"set\":\"switch_port\",\"name\":\"p1\",\"enabled\":false}]}
+{\"edit\":[{\"add\":\"switch\",\"name\":\"s1\"},{\"remove\":\"switch_port\",\"name\":\"p1\"}]}
 ";
 
 const REFUSED_OUTPUT: &[u8] = b"8 refused TooShort
