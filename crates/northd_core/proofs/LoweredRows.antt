@@ -1,7 +1,7 @@
 -- The flows of units are those to which the rows of the network are lowered.
-use Rattle.std.specs.Prelude.{◌≡◌, ◌↔◌, List, [], ◌∷◌, flat_map, Option, Some, None, option_map, unwrap_or}
+use Rattle.std.specs.Prelude.{◌≡◌, [], Option, Some, None, option_map, unwrap_or}
 use Rattle.std.specs.List.{AllByRecursion}
-use Rattle.std.proofs.Common.{refl, sym, ap, ◌∙◌, subst}
+use Rattle.std.proofs.Common.{refl, sym, ap, ◌∙◌}
 use Rattle.ovn_base.proofs.AmongLaws.{all_among, among_flat_map, flat_map_among}
 use Rattle.ovn_base.specs.declared.name.Name.{Name}
 use Rattle.ovn_base.specs.lists.Among.{Among}
@@ -9,11 +9,11 @@ use Rattle.ovn_base.specs.names.ByName.{at}
 use Rattle.flow_table.specs.declared.flow.Flow.{Flow}
 use Rattle.tunnel_keys.specs.Keys.{Keys}
 use Rattle.match_cubes.specs.Points.{members_of}
-use Rattle.nb_records.specs.Network.{Network, empty_network}
+use Rattle.nb_records.specs.Network.{empty_network}
 use Rattle.nb_records.specs.declared.rule.AddressSet.{AddressSet}
 use Rattle.nb_records.specs.declared.rule.PortGroup.{PortGroup}
 use Rattle.address_sets.proofs.Differences.{read_members}
-use Rattle.address_sets.specs.Members.{sets_of, members_there}
+use Rattle.address_sets.specs.Members.{sets_of}
 use Rattle.net_model.specs.Sights.{entries_in, names_in}
 use Rattle.logical_flows.specs.declared.flow.LFlow.{LFlow}
 use Rattle.logical_flows.specs.declared.unit.UnitId.{UnitId}
@@ -21,8 +21,7 @@ use Rattle.stage_rows.specs.Rows.{on_some}
 use Rattle.stage_rows.specs.Units.{datapath_of, rows_of, units_of, IsPair}
 use Rattle.flow_lowering.specs.LoweredFlows.{lowered_flows}
 use Rattle.row_laws.proofs.units.RowUnits.{in_some, some_in}
-use Rattle.row_laws.specs.CanLower.{CanLowerLaw}
-use Rattle.northd_core.specs.Awaited.{NarrowLaw, NamedPortsLaw}
+use Rattle.row_laws.specs.CanLower.{CanLowerLaw, NarrowLaw, NamedPortsLaw}
 use Rattle.northd_core.specs.Lowering.{Lowering, CanCompile, IsLowerable, IsLoweredIn, SetsLaw, flows_of_rows, lowered_of}
 use Rattle.northd_core.proofs.NorthPlans.{no_rows}
 use Rattle.northd_core.proofs.RowUnits.{with_rows}

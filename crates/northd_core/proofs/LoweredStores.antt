@@ -3,7 +3,7 @@ use Rattle.std.specs.Prelude.{◌≡◌, ◌↔◌, ◌⊎◌, true, List, [], r
 use Rattle.std.specs.BTreeMap.{is_at}
 use Rattle.std.specs.List.{IsDistinct}
 use Rattle.std.specs.Set.{is_member}
-use Rattle.std.proofs.Common.{sym, ap, subst, inl, inr}
+use Rattle.std.proofs.Common.{subst, inl, inr}
 use Rattle.ovn_base.specs.lists.Among.{Among}
 use Rattle.flow_refs.specs.Origins.{flows_of, flows_after, IsHeld}
 use Rattle.flow_refs.specs.Store.{Store, Prepared, AreSame, IsKept, IsPreparedFor}

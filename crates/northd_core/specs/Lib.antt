@@ -4,4 +4,3 @@ pub mod Listing
 pub mod Held
 pub mod Plans
 pub mod Lowering
-pub mod Awaited

@@ -1,7 +1,6 @@
-//! The logical flows of the network: each unit's rows, held once however many units have them.
+//! The logical flows of the network and the flows to which they are lowered: what each unit has, held once however many units have it.
 #![tactic(auto)]
 
-mod awaited;
 mod exact;
 pub mod laws;
 mod listing;

@@ -7,7 +7,6 @@ ghost use Rattle.northd_core.specs.Held.{unit_order};
 ghost use Rattle.northd_core.specs.Listing.{HasCountedOn, with_each};
 ghost use Rattle.northd_core.specs.Lowering.{CanCompile, IsLowerable, flows_of_rows, lowered_of};
 
-use crate::awaited::{named_ports_are_live, rows_are_narrow};
 use crate::laws::sets_are_of_records;
 use crate::rows::{unit_datapath, unit_rows};
 use address_sets::expand::expand;
@@ -21,7 +20,7 @@ use ovn_base::list::List;
 use ovn_base::memory::NoMemory;
 use ovn_base::name::Name;
 use ovn_base::steps::Steps;
-use row_laws::rows::rows_can_be_lowered;
+use row_laws::rows::{named_ports_are_live, rows_are_narrow, rows_can_be_lowered};
 use std::alloc::Global;
 use std::collections::BTreeSet;
 use tunnel_keys::store::KeyStore;

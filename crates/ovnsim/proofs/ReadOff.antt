@@ -29,7 +29,7 @@ pub record IsReadOff (own : List Pick) (text : List ℕ) (new : WorldView) : Typ
 
 takes_read : (old : WorldView) → IsSound old → (event : Event) → IsEventInGrammar event → (own : List Pick) (text : List ℕ) (new : WorldView) → IsNamedState old.state → Takes old event own text new → IsReadOff own text new
 takes_read old sound event admitted own text new named (accepts h e) =
-    let step = step_named old.state sound.consistent.valid named event admitted h.admitted h.effects new.state h.step in
+    let step = step_named old.state sound.consistent.at_rest.valid named event admitted h.admitted h.effects new.state h.step in
     record { picks = ap picks_in h.text ∙ read.accepted (event_count old.state + 1) (matched new.walks) h.effects step.0 ∙ sym e; named = step.1 }
 takes_read old sound event admitted own text new named (refuses why h e) = record {
   picks = ap picks_in h.text ∙ read.refused (event_count old.state + 1) why ∙ sym e;

@@ -261,8 +261,39 @@ const EDITS_OUTPUT: &[u8] = b"8 refused NoSuch zz
 end events=10 accepted=9 refused=1 waiting=0
 ";
 
+// A request for the address of p2, which is answered, and one for that of p1 itself, which goes on to all others.
+const ARP: &[u8] =
+    b"{\"packet\":{\"port\":\"p1\",\"frame\":\"ffffffffffff0a0000000001080600010800060400010a00000000010a0000010000000000000a000002\"}}
+{\"packet\":{\"port\":\"p1\",\"frame\":\"ffffffffffff0a0000000001080600010800060400010a00000000010a0000010000000000000a000001\"}}
+";
+
+const ARP_OUTPUT: &[u8] =
+    b"8 out p1 0a00000000010a0000000002080600010800060400020a00000000020a0000020a00000000010a000001
+8 ok walks=15
+9 tunnel 1 hv1 hv2 02406558000001000102800100018000ffffffffffff0a0000000001080600010800060400010a00000000010a0000010000000000000a000001
+9 out p2 ffffffffffff0a0000000001080600010800060400010a00000000010a0000010000000000000a000001
+9 ok walks=18
+end events=9 accepted=9 refused=0 waiting=0
+";
+
+// A port that may send from its own addresses alone: a packet from another, and one from its own.
+const PORT_SECURITY: &[u8] =
+    b"{\"edit\":[{\"set\":\"switch_port\",\"name\":\"p1\",\"port_security\":[\"0a:00:00:00:00:01 10.0.0.1\"]}]}
+{\"packet\":{\"port\":\"p1\",\"frame\":\"0a00000000020a000000000988b5\"}}
+{\"packet\":{\"port\":\"p1\",\"frame\":\"0a00000000020a000000000108004500001c00010000401166ce0a0000010a0000021388138900080000\"}}
+";
+
+const PORT_SECURITY_OUTPUT: &[u8] = b"8 ok walks=0
+9 drop s0 p1 port-security
+9 ok walks=3
+10 tunnel 1 hv1 hv2 024065580000010001028001000100020a00000000020a000000000108004500001c00010000401166ce0a0000010a0000021388138900080000
+10 out p2 0a00000000020a000000000108004500001c00010000401166ce0a0000010a0000021388138900080000
+10 ok walks=17
+end events=10 accepted=10 refused=0 waiting=0
+";
+
 // What these events are, behind those of the two chassis, with the status and the output behind theirs.
-const BEHIND_TWO_CHASSIS: [(&str, &[u8], u8, &[u8]); 10] = [
+const BEHIND_TWO_CHASSIS: [(&str, &[u8], u8, &[u8]); 12] = [
     ("a frame to another chassis", TUNNEL, 0, TUNNEL_OUTPUT),
     ("a packet for its own port", LOOPBACK, 0, LOOPBACK_OUTPUT),
     (
@@ -283,6 +314,8 @@ const BEHIND_TWO_CHASSIS: [(&str, &[u8], u8, &[u8]); 10] = [
     ),
     ("what can't be read", UNREAD, 3, UNREAD_OUTPUT),
     ("edits of two operations", EDITS, 3, EDITS_OUTPUT),
+    ("requests for addresses", ARP, 0, ARP_OUTPUT),
+    ("port security", PORT_SECURITY, 0, PORT_SECURITY_OUTPUT),
 ];
 
 // ---- runs

@@ -76,7 +76,7 @@ module _ (b : Basis) where
   around_port q None is f m = absurd (among_none f m)
   around_port q (Some port) is f m = port_listed b.net q port is
 
-  around_there : (u : FlowUnit) (f : Flow) → Among f (around_rows b u) → Among u (all_units b.net)
+  pub around_there : (u : FlowUnit) (f : Flow) → Among f (around_rows b u) → Among u (all_units b.net)
   around_there unit.Common f m = here
   around_there (unit.Switch a) f m = around_switch a (at b.net.switches a) refl f m
   around_there (unit.Port q) f m = around_port q (at b.net.switch_ports q) refl f m

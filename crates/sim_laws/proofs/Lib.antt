@@ -1,4 +1,5 @@
 -- Lemmas.
+pub mod counts
 pub mod journey_laws
 pub mod passes
 pub mod pipelines

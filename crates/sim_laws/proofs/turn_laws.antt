@@ -1,6 +1,6 @@
 -- Lemmas on turns of the configuration, on the simulated chassis.
 pub mod SetEntries
-pub mod Differences
+pub mod FlowChanges
 pub mod TurnedChassis
 pub mod TurnedLists
 pub mod KeptHomes

@@ -11,6 +11,7 @@ pub mod Events
 pub mod AtRest
 pub mod First
 pub mod Filling
+pub mod Counts
 pub mod Ticking
 pub mod SeenLists
 pub mod TurnedTables

@@ -3,6 +3,7 @@
 
 pub mod end_names;
 pub mod journeys;
+pub mod one_count;
 pub mod plain;
 pub mod switches;
 pub mod walks;

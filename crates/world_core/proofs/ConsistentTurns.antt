@@ -7,7 +7,8 @@ use Rattle.ovn_base.specs.declared.name.Name.{Name}
 use Rattle.ovn_base.specs.names.ByName.{at}
 use Rattle.conn_zones.specs.Rezoning.{IsRezoned}
 use Rattle.conn_zones.specs.Zoning.{Zoned}
-use Rattle.sim_laws.specs.Consistent.{IsConsistent}
+use Rattle.sim_laws.proofs.turn_laws.TurnedLists.{turned_at_home}
+use Rattle.world_core.specs.WorldView.{IsConsistent}
 use Rattle.net_model.specs.State.{State, event_count, finished}
 use Rattle.world_core.specs.Zones.{home_change}
 use Rattle.world_core.proofs.NamesInOrder.{name_kept, names_few, names_sorted}
@@ -24,13 +25,17 @@ module _ (m : State) (zones : Zoned) (old : IsConsistent m zones) (room : event_
       let n = counted mid in
       let more = names_few m.config.chassis c in
       finished_consistent mid zones (record {
-        valid = old.valid;
         built = old.built;
-        keys = old.keys;
-        bound = bound_kept m n zones old.bound refl (λ q h. h) (λ d h. name_kept m.config.chassis c d h) (names_sorted m.config.chassis c old.bound.chassis_sorted) (omega (arith, few, more));
-        born = born_kept m n old.born (omega arith) (λ h. absurd (omega arith)) refl refl;
-        on_the_way = way_on m n old.born (same_kept m n refl refl old.keys.hold) old.on_the_way refl refl (omega arith) (λ h. omega arith);
-        few = omega (arith, room);
+        at_rest = record {
+          valid = old.at_rest.valid;
+          no_router = old.at_rest.no_router;
+          at_home = turned_at_home m (add_chassis m.config c);
+          keys = old.at_rest.keys;
+          bound = bound_kept m n zones old.at_rest.bound refl (λ q h. h) (λ d h. name_kept m.config.chassis c d h) (names_sorted m.config.chassis c old.at_rest.bound.chassis_sorted) (omega (arith, few, more));
+          born = born_kept m n old.at_rest.born (omega arith) (λ h. absurd (omega arith)) refl refl;
+          on_the_way = way_on m n old.at_rest.born (same_kept m n refl refl old.at_rest.keys.hold) old.at_rest.on_the_way refl refl (omega arith) (λ h. omega arith);
+          few = omega (arith, room);
+        };
       })
 
   -- ---- a binding
@@ -40,11 +45,15 @@ module _ (m : State) (zones : Zoned) (old : IsConsistent m zones) (room : event_
       let mid = turned_by (bind m.config p c) m in
       let n = counted mid in
       finished_consistent mid after (record {
-        valid = old.valid;
         built = old.built;
-        keys = old.keys;
-        bound = bound_fresh m n zones after p c old.bound refl refl refl there known rezoned;
-        born = born_kept m n old.born (omega arith) (λ h. absurd (omega arith)) refl refl;
-        on_the_way = way_on m n old.born (same_kept m n refl refl old.keys.hold) old.on_the_way refl refl (omega arith) (λ h. omega arith);
-        few = omega (arith, room);
+        at_rest = record {
+          valid = old.at_rest.valid;
+          no_router = old.at_rest.no_router;
+          at_home = turned_at_home m (bind m.config p c);
+          keys = old.at_rest.keys;
+          bound = bound_fresh m n zones after p c old.at_rest.bound refl refl refl there known rezoned;
+          born = born_kept m n old.at_rest.born (omega arith) (λ h. absurd (omega arith)) refl refl;
+          on_the_way = way_on m n old.at_rest.born (same_kept m n refl refl old.at_rest.keys.hold) old.at_rest.on_the_way refl refl (omega arith) (λ h. omega arith);
+          few = omega (arith, room);
+        };
       })

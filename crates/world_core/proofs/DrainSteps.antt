@@ -1,35 +1,54 @@
 -- How the waiting frames arrive, one after another.
-use Rattle.std.specs.Prelude.{◌≡◌, ◌⊎◌, ◌-◌, ◌<◌, ℕ, zero, suc, false, cond, List, [], ◌∷◌, ◌++◌, map, Some, IsSome, length, slice_get, refl}
+use Rattle.std.specs.Prelude.{◌≡◌, ◌⊎◌, ◌+◌, ◌-◌, ◌<◌, ℕ, zero, suc, false, cond, List, [], ◌∷◌, ◌++◌, map, Some, IsSome, length, slice_get, refl}
 use Rattle.std.proofs.Common.{sym, ap, ◌∙◌, subst, arith, inl, inr, append_assoc, append-nil}
 use Rattle.std.proofs.lemmas.Option.{same_Some, none-some}
 use Rattle.chassis_sim.specs.State as sim
 use Rattle.chassis_sim.specs.State.{numbered}
 use Rattle.chassis_sim.specs.declared.out.SimOut.{SimOut}
 use Rattle.conn_zones.specs.Zoning.{Zoned}
-use Rattle.switch_engine.specs.declared.effect.NetEffect.{NetEffect}
+use Rattle.switch_engine.specs.Outcome.{any_legal}
+use Rattle.chassis_sim.specs.Passing as passing
 use Rattle.net_model.specs.declared.crossing.Crossing.{Crossing}
 use Rattle.world_core.proofs.WaitingNames.{own_number}
-use Rattle.world_core.specs.Packets.{AreGone, HasArrived, most_sent}
-use Rattle.sim_laws.specs.Passing.{AreDrained, clock}
-use Rattle.sim_laws.specs.Refinement.{IsAmidst}
-use Rattle.world_core.specs.WorldView.{WorldView}
-use Rattle.sim_laws.specs.Held.{AreHeld, frame_of_crossing}
+use Rattle.world_core.specs.Packets.{AreGone, HasArrived, most_sent, state_with}
+use Rattle.sim_laws.proofs.journey_laws.Draining.{effects_append}
+use Rattle.sim_laws.proofs.journey_laws.Ways.{crossings_append}
+use Rattle.sim_laws.specs.Effects.{effects_of}
+use Rattle.sim_laws.specs.Passing.{AreDrained}
+use Rattle.sim_laws.specs.journeys.Moves.{AreMoved}
+use Rattle.sim_laws.specs.journeys.UnderWay.{IsUnderWay}
+use Rattle.world_core.specs.WorldView.{AreHeld, WorldView}
+use Rattle.sim_laws.specs.Held.{frame_of_crossing}
 use Rattle.net_model.specs.State.{State}
-use Rattle.sim_laws.specs.PacketSteps.{Drains, most_arrivals}
+use Rattle.net_model.specs.Trail.{End, crossings_in}
+use Rattle.sim_laws.specs.PacketSteps.{most_arrivals}
 use Rattle.physical_flows.proofs.FlowSearch.{is_some_of}
 
 -- some frames arrived, and however those that are left arrive, so do all
 pub record AreDraining (old : WorldView) (before : SimOut) (left : ℕ) (now : WorldView) (told : SimOut) : Type 0 where
-  pub own : List NetEffect
-  pub all : told.effects ≡ before.effects ++ own
-  pub drained : (after : SimOut) (s : sim.SimState) → AreDrained clock left now.sim told after s → AreDrained clock most_arrivals old.sim before after s
-  pub drains : (effects : List NetEffect) (m : State) → Drains left now.state effects m → Drains most_arrivals old.state (own ++ effects) m
-  pub amidst : IsAmidst now.state now.zones most_sent
-  pub held : AreHeld now.state now.zones.numbers now.sim
+  pub own : List End
+  pub all : told.effects ≡ before.effects ++ effects_of old.state.keys old.state.next own
+  pub drained : (after : SimOut) (s : sim.SimState) → AreDrained old.state.clock left now.sim told after s → AreDrained old.state.clock most_arrivals old.sim before after s
+  pub moves : (ends : List End) (m : State) → AreMoved left now.state ends m → AreMoved most_arrivals old.state (own ++ ends) m
+  pub still : now.state ≡ state_with old.state now.state.lists now.state.waiting (old.state.next + length (crossings_in own))
+  pub under_way : IsUnderWay now.state now.zones most_sent
+  pub held : AreHeld now.state now.zones now.sim
   pub rest : now ≡ record old { state = now.state; sim = now.sim }
 
-pub drain_begins : (old : WorldView) (before : SimOut) → IsAmidst old.state old.zones most_sent → AreHeld old.state old.zones.numbers old.sim → AreDraining old before most_arrivals old before
-drain_begins old before a h = record { own = []; all = sym (append-nil before.effects); drained = λ after s d. d; drains = λ effects m d. d; amidst = a; held = h; rest = refl }
+pub drain_begins : (old : WorldView) (before : SimOut) → IsUnderWay old.state old.zones most_sent → AreHeld old.state old.zones old.sim → AreDraining old before most_arrivals old before
+drain_begins old before u h = record {
+  own = [];
+  all = sym (append-nil before.effects);
+  drained = λ after s d. d;
+  moves = λ ends m d. d;
+  still = λ i. state_with old.state old.state.lists old.state.waiting (zero_more old.state.next i);
+  under_way = u;
+  held = h;
+  rest = refl;
+}
+  where
+    zero_more : (n : ℕ) → n ≡ n + 0
+    zero_more n = omega arith
 
 -- the first of some entries
 pub first_is : {X : Type 0} (xs : List X) (x : X) → slice_get xs 0 ≡ Some x → (behind : List X) × (xs ≡ x ∷ behind)
@@ -42,60 +61,82 @@ own_waits n x behind = ap (λ b. cond b (Some x) (numbered behind n)) (own_numbe
 pub first_waits : (m : State) (n : ℕ) (x : Crossing) (behind : List (ℕ × Crossing)) → m.waiting ≡ (n, x) ∷ behind → IsSome (numbered m.waiting n)
 first_waits m n x behind e = is_some_of (numbered m.waiting n) x (ap (λ ws. numbered ws n) e ∙ own_waits n x behind)
 
+length_append : {X : Type 0} (xs ys : List X) → length (xs ++ ys) ≡ length xs + length ys
+length_append [] ys = omega arith
+length_append (x ∷ xs) ys = let rest = length_append xs ys in omega (arith, rest)
+
 -- one frame more
 pub drain_goes_on : (old : WorldView) (before : SimOut) (left : ℕ) (now next : WorldView) (told more : SimOut) (n : ℕ) (x : Crossing) (behind : List (ℕ × Crossing)) → AreDraining old before (suc left) now told → now.state.waiting ≡ (n, x) ∷ behind
     → HasArrived now n false told more next → AreDraining old before left next more
-drain_goes_on old before left now next told more n x behind d first p = record {
-  own = d.own ++ p.effects;
-  all = p.all ∙ ap (λ l. l ++ p.effects) d.all ∙ append_assoc before.effects d.own p.effects;
-  drained = λ after s rest. d.drained after s (inr (record {
-    n = n;
-    frame = (frame_of_crossing now.state.keys (n, x)).1;
-    behind = map (frame_of_crossing now.state.keys) behind;
-    first = d.held.waiting ∙ ap (λ ws. map (frame_of_crossing now.state.keys) ws) first;
-    between = more;
-    mid = next.sim;
-    arrives = p.passed;
-    others = rest;
-  }));
-  drains = λ effects m rest. subst (λ l. Drains most_arrivals old.state l m) (sym (append_assoc d.own p.effects effects)) (d.drains (p.effects ++ effects) m (inr (record {
-    n = n;
-    crossing = x;
-    behind = behind;
-    first = first;
-    own = p.effects;
-    more = effects;
-    all = refl;
-    mid = next.state;
-    arrives = p.happens;
-    others = rest;
-  })));
-  amidst = p.amidst;
-  held = p.held;
-  rest = p.rest ∙ ap (λ (w : WorldView). record w { state = next.state; sim = next.sim }) d.rest;
-}
+drain_goes_on old before left now next told more n x behind d first p =
+    let clock : now.state.clock ≡ old.state.clock = ap (λ (m : State). m.clock) d.still in
+    let keys : now.state.keys ≡ old.state.keys = ap (λ (m : State). m.keys) d.still in
+    let number : now.state.next ≡ old.state.next + length (crossings_in d.own) = ap (λ (m : State). m.next) d.still in
+    let own = d.own ++ p.ends in
+    let count : now.state.next + length (crossings_in p.ends) ≡ old.state.next + length (crossings_in own) = counted old.state.next now.state.next d.own p.ends number in
+    record {
+      own = own;
+      all =
+          p.effects
+          ∙ ap (λ l. l ++ effects_of now.state.keys now.state.next p.ends) d.all
+          ∙ append_assoc before.effects (effects_of old.state.keys old.state.next d.own) (effects_of now.state.keys now.state.next p.ends)
+          ∙ (λ i. before.effects ++ (effects_of old.state.keys old.state.next d.own ++ effects_of (keys i) (number i) p.ends))
+          ∙ ap (λ es. before.effects ++ es) (sym (effects_append old.state.keys old.state.next d.own p.ends));
+      drained = λ after s rest. d.drained after s (inr (record {
+        n = n;
+        frame = (frame_of_crossing now.state.keys (n, x)).1;
+        behind = map (frame_of_crossing now.state.keys) behind;
+        first = d.held.waiting ∙ ap (λ ws. map (frame_of_crossing now.state.keys) ws) first;
+        between = more;
+        mid = next.sim;
+        arrives = subst (λ t. passing.IsArrived any_legal now.sim n false t told more next.sim) clock p.passed;
+        others = rest;
+      }));
+      moves = λ ends m rest. subst (λ l. AreMoved most_arrivals old.state l m) (sym (append_assoc d.own p.ends ends)) (d.moves (p.ends ++ ends) m (inr (record {
+        n = n;
+        crossing = x;
+        behind = behind;
+        first = first;
+        own = p.ends;
+        more = ends;
+        all = refl;
+        mid = next.state;
+        arrives = p.moved;
+        others = rest;
+      })));
+      still = p.still ∙ (λ i. state_with (d.still i) next.state.lists next.state.waiting (count i));
+      under_way = p.under_way;
+      held = p.held;
+      rest = p.rest ∙ ap (λ (w : WorldView). record w { state = next.state; sim = next.sim }) d.rest;
+    }
+  where
+    counted : (start then' : ℕ) (es fs : List End) → then' ≡ start + length (crossings_in es) → then' + length (crossings_in fs) ≡ start + length (crossings_in (es ++ fs))
+    counted start then' es fs is =
+        let both : length (crossings_in (es ++ fs)) ≡ length (crossings_in es) + length (crossings_in fs) = ap length (crossings_append es fs) ∙ length_append (crossings_in es) (crossings_in fs) in
+        omega (arith, is, both)
 
-over_sim : (left : ℕ) (s : sim.SimState) (told : SimOut) → (left ≡ 0) ⊎ (s.waiting ≡ []) → AreDrained clock left s told told s
-over_sim zero s told e = (refl, refl)
-over_sim (suc left) s told (inl z) = absurd (omega (arith, z))
-over_sim (suc left) s told (inr none) = inl (none, refl, refl)
+over_sim : (now left : ℕ) (s : sim.SimState) (told : SimOut) → (left ≡ 0) ⊎ (s.waiting ≡ []) → AreDrained now left s told told s
+over_sim now zero s told e = (refl, refl)
+over_sim now (suc left) s told (inl z) = absurd (omega (arith, z))
+over_sim now (suc left) s told (inr none) = inl (none, refl, refl)
 
-over_net : (left : ℕ) (m : State) → (left ≡ 0) ⊎ (m.waiting ≡ []) → Drains left m [] m
+over_net : (left : ℕ) (m : State) → (left ≡ 0) ⊎ (m.waiting ≡ []) → AreMoved left m [] m
 over_net zero m e = (refl, refl)
 over_net (suc left) m (inl z) = absurd (omega (arith, z))
 over_net (suc left) m (inr none) = inl (none, refl, refl)
 
-none_held : (m : State) (zones : Zoned) (s : sim.SimState) → AreHeld m zones.numbers s → m.waiting ≡ [] → s.waiting ≡ []
+none_held : (m : State) (zones : Zoned) (s : sim.SimState) → AreHeld m zones s → m.waiting ≡ [] → s.waiting ≡ []
 none_held m zones s h none = h.waiting ∙ ap (λ ws. map (frame_of_crossing m.keys) ws) none
 
 -- none is left, or enough arrived
 pub drain_ends : (old : WorldView) (before : SimOut) (left : ℕ) (now : WorldView) (told : SimOut) → AreDraining old before left now told → (left ≡ 0) ⊎ (now.state.waiting ≡ []) → AreGone most_arrivals old before told now
 drain_ends old before left now told d e = record {
-  passed = d.drained told now.sim (over_sim left now.sim told (elim e [ inl z ↦ inl z | inr none ↦ inr (none_held now.state now.zones now.sim d.held none) ]));
-  effects = d.own;
-  all = d.all;
-  happens = subst (λ l. Drains most_arrivals old.state l now.state) (append-nil d.own) (d.drains [] now.state (over_net left now.state e));
-  amidst = d.amidst;
+  passed = d.drained told now.sim (over_sim old.state.clock left now.sim told (elim e [ inl z ↦ inl z | inr none ↦ inr (none_held now.state now.zones now.sim d.held none) ]));
+  ends = d.own;
+  effects = d.all;
+  moved = subst (λ l. AreMoved most_arrivals old.state l now.state) (append-nil d.own) (d.moves [] now.state (over_net left now.state e));
+  still = d.still;
+  under_way = d.under_way;
   held = d.held;
   rest = d.rest;
 }

@@ -17,21 +17,23 @@ use Rattle.chassis_sim.proofs.Lookups.{none_named, others_apart, same_back, spli
 use Rattle.flow_refs.specs.Store.{Prepared}
 use Rattle.flow_table.specs.declared.flow.Flow.{Flow}
 use Rattle.physical_flows.specs.ChassisFlows.{AreExactly}
+use Rattle.northd_core.specs.Lowering.{IsLoweredIn}
+use Rattle.northd_core.specs.Plans.{AreListed}
+use Rattle.physical_flows.specs.Around.{around_everywhere, around_rows}
 use Rattle.physical_flows.specs.RecordKeys.{HaveKeys}
 use Rattle.physical_flows.specs.Stages.{Basis}
-use Rattle.physical_flows.specs.Tables.{TableFlow}
+use Rattle.physical_flows.specs.Switched.{IsSwitched}
 use Rattle.physical_flows.specs.UnitFlows.{UnitStore, HaveRows, IsRowChange, rows_held}
-use Rattle.physical_flows.specs.Units.{ChangeOnly, all_units, no_rows, rows_everywhere, unit_rows}
-use Rattle.physical_flows.specs.Valid.{IsValid}
+use Rattle.physical_flows.specs.Units.{ChangeOnly, all_units, no_rows}
 use Rattle.physical_flows.specs.declared.unit.FlowUnit.{FlowUnit}
-use Rattle.physical_flows.proofs.TableSets.{units_have_all}
-use Rattle.physical_flows.proofs.UnitLaws.{all_units_change, all_units_once}
+use Rattle.physical_flows.proofs.UnitLaws.{around_units, switched_units_once}
 use Rattle.switch_engine.proofs.Lists.{all_append}
 use Rattle.tuple_space.specs.Bunches.{flows_in}
 use Rattle.tuple_space.specs.declared.space.TupleSpace.{TupleSpace}
 use Rattle.world_core.specs.Ground.{GroundView, basis_in}
 use Rattle.world_core.specs.Holding.{HaveSame}
-use Rattle.world_core.specs.Setup.{ArePatches, HasRowsAt, HasStore, HaveStores, IsOnTheWay, IsPatchAt, IsReadyAt, IsReadyOrDone, rows_at, rows_on}
+use Rattle.world_core.specs.Setup.{ArePatches, HasRowsAt, HasStore, HaveStores, IsFlowBy, IsOnTheWay, IsPatchAt, IsReadyAt, IsReadyOrDone, rows_at, rows_on}
+use Rattle.world_core.proofs.ApartTables.{flows_of_both}
 use Rattle.world_core.proofs.HeldFlows.{held_exactly}
 
 -- ---- what the units of stores have
@@ -97,7 +99,7 @@ found_so {X} P (e ∷ es) c m all = by (same_name c e.0) refl (λ later. found_s
 -- a patch that leads to the rows of the basis
 abbrev pub MakesPatch : List (Name × UnitStore) → List (Name × UnitStore) → List FlowUnit → Option (Prepared Flow FlowUnit) → Basis → Type 0
 MakesPatch stores new units patch b =
-    (rows : FlowUnit → List Flow) (store : UnitStore) → at_name stores b.chassis ≡ Some store → HaveRows rows (rows_held store) → ChangeOnly units rows (unit_rows b) → IsPatchAt rows (unit_rows b) (at_name new b.chassis) patch
+    (rows : FlowUnit → List Flow) (store : UnitStore) → at_name stores b.chassis ≡ Some store → HaveRows rows (rows_held store) → ChangeOnly units rows (around_rows b) → IsPatchAt rows (around_rows b) (at_name new b.chassis) patch
 
 pub patch_made : (before after : GroundView) (name : Name) (stores new : List (Name × UnitStore)) (units touched : List FlowUnit) (b : Basis) (patch : Option (Prepared Flow FlowUnit)) → b ≡ basis_in after name → units ≡ touched
     → MakesPatch stores new units patch b → HasStore before stores name → ChangeOnly touched (rows_on before name) (rows_on after name) → IsPatchAt (rows_on before name) (rows_on after name) (at_name new name) patch
@@ -201,22 +203,25 @@ all_applied before after stores c way = record { store = way.store; is = way.is;
 -- ---- flows of a new chassis
 
 -- the rows of all units, from none
-module _ (b : Basis) (units : List FlowUnit) (everywhere : List (FlowUnit × List Flow)) (are : units ≡ all_units b.net) (rows : everywhere ≡ map (λ u. (u, rows_everywhere b u)) units) where
+module _ (b : Basis) (units : List FlowUnit) (everywhere : List (FlowUnit × List Flow)) (are : units ≡ all_units b.net) (rows : everywhere ≡ map (λ u. (u, around_everywhere b u)) units) where
   named : keys_of everywhere ≡ all_units b.net
-  named = ap keys_of rows ∙ units_of_rows (rows_everywhere b) units ∙ are
+  named = ap keys_of rows ∙ units_of_rows (around_everywhere b) units ∙ are
 
-  pub each_unit_once : IsValid b.net → EachOnce (keys_of everywhere)
-  each_unit_once valid = subst EachOnce (sym named) (all_units_once b valid)
+  pub each_unit_once : IsSwitched b.net b.keys → EachOnce (keys_of everywhere)
+  each_unit_once switched = subst EachOnce (sym named) (switched_units_once b.net b.keys switched)
 
-  pub each_has_rows : AllByRecursion (λ e. e.1 ≡ rows_everywhere b e.0) everywhere
-  each_has_rows = subst (λ l. AllByRecursion (λ (e : FlowUnit × List Flow). e.1 ≡ rows_everywhere b e.0) l) (sym rows) (all_have (rows_everywhere b) (rows_everywhere b) (λ u j. rows_everywhere b u) units)
+  pub each_has_rows : AllByRecursion (λ e. e.1 ≡ around_everywhere b e.0) everywhere
+  each_has_rows = subst (λ l. AllByRecursion (λ (e : FlowUnit × List Flow). e.1 ≡ around_everywhere b e.0) l) (sym rows) (all_have (around_everywhere b) (around_everywhere b) (λ u j. around_everywhere b u) units)
 
-  pub units_change : ChangeOnly (keys_of everywhere) no_rows (unit_rows b)
-  units_change = subst (λ us. ChangeOnly us no_rows (unit_rows b)) (sym named) (all_units_change b)
+  pub units_change : ChangeOnly (keys_of everywhere) no_rows (around_rows b)
+  units_change = subst (λ us. ChangeOnly us no_rows (around_rows b)) (sym named) (around_units b)
 
--- what holds all that comes to no rows holds exactly the flows of the tables
-pub flows_of_rows : (b : Basis) → IsValid b.net → HaveKeys b.net b.keys → (planned delta : Delta Flow) (held : TupleSpace) → IsRowChange no_rows (unit_rows b) planned → delta ≡ planned → HaveSame delta.added (flows_in held.bunches)
-    → AreExactly (TableFlow b) (flows_in held.bunches)
-flows_of_rows b valid keys planned delta held change same have =
-    held_exactly (TableFlow b) planned.added (flows_in held.bunches) (record { same = λ f. (λ m. (units_have_all b valid keys f).0 ((change.come f).0 m).1, λ t. (change.come f).1 (λ h. among_none f h.among, (units_have_all b valid keys f).1 t)); once = change.come_once })
-    (subst (λ d. HaveSame d.added (flows_in held.bunches)) same have)
+-- with the lowered rows, what comes around the pipelines are all flows of the chassis
+pub flows_joined : (b : Basis) → HaveKeys b.net b.keys → (listed : List Flow) → AreListed (IsLoweredIn (record { net = b.net; keys = b.keys })) listed → (planned delta : Delta Flow) → IsRowChange no_rows (around_rows b) planned → delta ≡ planned
+    → (all : List Flow) → all ≡ listed ++ delta.added → AreExactly (IsFlowBy b) all
+flows_joined b keys listed lists planned delta change same all are =
+    subst (AreExactly (IsFlowBy b)) (sym (are ∙ ap (λ (d : Delta Flow). listed ++ d.added) same)) (flows_of_both b keys listed lists planned change)
+
+-- so are those of what holds them
+pub flows_of_rows : (b : Basis) (all : List Flow) (held : TupleSpace) → AreExactly (IsFlowBy b) all → HaveSame all (flows_in held.bunches) → AreExactly (IsFlowBy b) (flows_in held.bunches)
+flows_of_rows b all held exact have = held_exactly (IsFlowBy b) all (flows_in held.bunches) (record { same = λ f. (λ m. (exact.same f).0 m, λ t. (exact.same f).1 t); once = exact.once }) have

@@ -2,15 +2,14 @@
 use Rattle.std.specs.Prelude.{◌&&◌, ◌==◌, not, slice_index, nat_le, true, false}
 use Rattle.std.specs.Int.{to_be_bytes}
 use Rattle.std.specs.Cmp.Lexicographic.{pointwise, bytes_decides}
-use Rattle.std.proofs.Common.{◌≡◌, ◌+◌, ◌*◌, ◌^◌, ◌/◌, ◌%◌, ◌<◌, ◌≤◌, ℕ, suc, List, ◌∷◌, ◌++◌, ◌↔◌, length, take, drop, refl, ap, sym, subst, ◌∙◌, arith}
+use Rattle.std.proofs.Common.{◌≡◌, ◌+◌, ◌*◌, ◌^◌, ◌/◌, ◌%◌, ◌<◌, ◌≤◌, ℕ, suc, List, ◌∷◌, ◌++◌, ◌↔◌, length, take, drop, ap, sym, subst, ◌∙◌, arith}
 use Rattle.std.proofs.Math.Dec.{eqb as nat_eq}
-use Rattle.std.proofs.lemmas.Bool.{and_from, and_parts, both_ways, eq-eqb, eqb-true, false_from_ne_true, iff_false, le-leb, leb-true, ltb-false, ltb-true, not-true, not_from_false}
+use Rattle.std.proofs.lemmas.Bool.{and_from, and_parts, both_ways, eq-eqb, eqb-true, false_from_ne_true, le-leb, leb-true, ltb-false, ltb-true, not-true, not_from_false}
 use Rattle.ovn_base.specs.declared.limits.TheConstants.{MIN_FRAME, MAX_FRAME}
 use mir.Syntax.{w64}
 use Rattle.ovn_base.specs.addresses.EtherAddress.{EtherAddress, mac_bytes}
-use Rattle.inet_packet.specs.Frame.{arp_bytes, body_bytes, ethernet_ip4, frame_of, ip4_header, part_bytes, two}
+use Rattle.inet_packet.specs.Frame.{body_bytes, ethernet_ip4, frame_of, ip4_header, part_bytes, two}
 use Rattle.inet_packet.specs.Reading.{HasBody, IsBadIp4, IsIp4Bytes, ether_type_at, header_len, total_len}
-use Rattle.inet_packet.specs.Rewrites.{IsArp}
 use Rattle.inet_packet.specs.Sums.{words, ones_sum}
 use Rattle.inet_packet.specs.Whole.{IsArpBytes, IsWhole, IsWholeBody}
 use Rattle.inet_packet.specs.declared.packet.Body.{Body}
@@ -19,7 +18,7 @@ use Rattle.inet_packet.specs.declared.packet.Packet.{Packet}
 use Rattle.inet_packet.proofs.DecodeLaws.{IsBytes, IsHead, is_bad, not_bad, type_at}
 use Rattle.inet_packet.proofs.Ip4.{whole_is_ip4}
 use Rattle.world_core.specs.FrameReading.{IsGood, IsOfLength, IsOfPacket}
-use Rattle.world_core.specs.Frames.{carries_arp, is_arp_bytes, is_bad_ip4, is_ip4_bytes, is_too_big, is_too_short}
+use Rattle.world_core.specs.Frames.{is_arp_bytes, is_bad_ip4, is_ip4_bytes, is_too_big, is_too_short}
 use Rattle.world_core.proofs.HeaderParts.{AtLeast, HasNumber, ip4_body, one, one_of, two_of}
 
 -- ---- the bytes behind the type
@@ -208,50 +207,8 @@ bad_is_told frame fits bad =
     let l = of_length frame (λ few. omega (arith, few, bad.long)) (λ many. omega (arith, many, bad.short)) in
     (l, (bad_ip4_tests frame fits l.long l.short).1 bad)
 
--- ---- ARP
+-- ---- packets
 
--- the same of the parts of the packet
-body_carries : (dst src : EtherAddress) (body : Body) (tail frame : List ℕ) → IsWholeBody body tail → mac_bytes dst ++ (mac_bytes src ++ (body_bytes body ++ tail)) ≡ frame
-    → (carries_arp frame ≡ true) ↔ IsArp body
-body_carries dst src (Arp a) tail frame h e =
-    let high : 8 ≡ slice_index frame 12 = ap (λ (l : List ℕ). slice_index l 12) e in
-    let low : 6 ≡ slice_index frame 13 = ap (λ (l : List ℕ). slice_index l 13) e in
-    let behind : arp_bytes a ++ tail ≡ drop 14 frame = ap (drop 14) e in
-    let arp : IsArpBytes (arp_bytes a ++ tail) = record { long = omega arith; kind = refl } in
-    let kind : ether_type_at frame ≡ 0x0806 = omega (arith, high, low) in
-    (λ yes. tt, λ yes. and_from (ether_type_at frame == 0x0806) (is_arp_bytes (drop 14 frame)) (eq-eqb (ether_type_at frame) 0x0806 kind) ((arp_tests (drop 14 frame)).1 (subst IsArpBytes behind arp)))
-body_carries dst src (Ip4 i) tail frame h e =
-    let low : 0 ≡ slice_index frame 13 = ap (λ (l : List ℕ). slice_index l 13) e in (
-      λ yes.
-          let kind : ether_type_at frame ≡ 0x0806 = eqb-true (ether_type_at frame) 0x0806 (and_parts (ether_type_at frame == 0x0806) (is_arp_bytes (drop 14 frame)) yes).0 in
-          absurd (omega (arith, low, kind)),
-      λ no. absurd no,
-    )
-body_carries dst src (Other t) tail frame h e =
-    let high : t / 256 % 256 ≡ slice_index frame 12 = ap (λ (l : List ℕ). slice_index l 12) e in
-    let low : t % 256 ≡ slice_index frame 13 = ap (λ (l : List ℕ). slice_index l 13) e in
-    let behind : drop 14 frame ≡ tail = sym (ap (drop 14) e) in (
-      λ yes.
-          let both = and_parts (ether_type_at frame == 0x0806) (is_arp_bytes (drop 14 frame)) yes in
-          let kind : ether_type_at frame ≡ 0x0806 = eqb-true (ether_type_at frame) 0x0806 both.0 in
-          absurd (h.not_arp (omega (arith, high, low, kind, h.within)) (subst IsArpBytes behind ((arp_tests (drop 14 frame)).0 both.1))),
-      λ no. absurd no,
-    )
-
--- a frame carries ARP where the body of its packet does
-pub arp_body : (p : Packet) (frame : List ℕ) → IsWhole p → frame_of p ≡ frame → (carries_arp frame ≡ true) ↔ IsArp p.body
-unfolding frame_of
-arp_body p frame whole is = body_carries p.dst p.src p.body p.tail frame whole.body is
-
--- the body of a frame that doesn't carry ARP is no ARP packet
-pub no_arp_body : (p : Packet) (frame : List ℕ) → IsWhole p → frame_of p ≡ frame → carries_arp frame ≡ false → ¬ IsArp p.body
-no_arp_body p frame whole is no_arp = iff_false (arp_body p frame whole is) no_arp
-
--- the frame of any other packet
-pub packet_is_told : (p : Packet) (frame : List ℕ) → IsWhole p → frame_of p ≡ frame → ¬ IsArp p.body → IsOfPacket frame p
-packet_is_told p frame whole is other = record {
-  frame_is = is;
-  whole = whole;
-  good = whole_is_good p frame whole is;
-  no_arp = false_from_ne_true (carries_arp frame) (λ yes. other ((arp_body p frame whole is).0 yes));
-}
+-- the frame of a packet
+pub packet_is_told : (p : Packet) (frame : List ℕ) → IsWhole p → frame_of p ≡ frame → IsOfPacket frame p
+packet_is_told p frame whole is = record { frame_is = is; whole = whole; good = whole_is_good p frame whole is }

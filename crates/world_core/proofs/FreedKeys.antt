@@ -8,24 +8,25 @@ use Rattle.tunnel_keys.proofs.Births.{settled_born}
 use Rattle.tunnel_keys.specs.Keys.{Keys, settled}
 use Rattle.tunnel_keys.proofs.Invariant.{settled_hold}
 use Rattle.net_model.specs.declared.crossing.Crossing.{Crossing}
-use Rattle.sim_laws.specs.Consistent.{IsConsistent}
+use Rattle.sim_laws.specs.journeys.AtRest.{IsAtRest}
+use Rattle.world_core.specs.WorldView.{IsConsistent}
 use Rattle.net_model.specs.State.{State, event_count, finished, settled_where_none_waits}
 
 -- the state, with one event more that was accepted
 abbrev pub counted : State → State
 counted m = record m { accepted = m.accepted + 1 }
 
-module _ (c : State) (zones : Zoned) (old : IsConsistent c zones) where
+module _ (c : State) (zones : Zoned) (old : IsAtRest c zones) where
   abbrev under : Keys → State
   under keys = record c { keys = keys }
 
   none_waits : c.waiting ≡ [] → (k : ℕ) (x : Crossing) → Among (k, x) c.waiting → ⊥
   none_waits e k x among = among_none (k, x) (subst (λ ws. Among (k, x) ws) e among)
 
-  settle : c.waiting ≡ [] → IsConsistent (under (settled c.keys)) zones
+  settle : c.waiting ≡ [] → IsAtRest (under (settled c.keys)) zones
   settle e = record {
     valid = old.valid;
-    built = old.built;
+    no_router = old.no_router;
     keys = record {
       hold = settled_hold c.keys old.keys.hold;
       datapath_has = old.keys.datapath_has;
@@ -38,6 +39,7 @@ module _ (c : State) (zones : Zoned) (old : IsConsistent c zones) where
       no_retired_ports = refl;
     };
     bound = old.bound;
+    at_home = old.at_home;
     born = record {
       records = old.born.records;
       keys = settled_born c.keys (event_count (under (settled c.keys))) old.born.keys;
@@ -55,12 +57,12 @@ module _ (c : State) (zones : Zoned) (old : IsConsistent c zones) where
     few = old.few;
   }
 
-  by_waiting : (waiting : List (ℕ × Crossing)) → c.waiting ≡ waiting → IsConsistent (under (settled_where_none_waits waiting c.keys)) zones
+  by_waiting : (waiting : List (ℕ × Crossing)) → c.waiting ≡ waiting → IsAtRest (under (settled_where_none_waits waiting c.keys)) zones
   by_waiting [] e = settle e
   by_waiting (w ∷ ws) e = old
 
-  settles : IsConsistent (under (settled_where_none_waits c.waiting c.keys)) zones
+  settles : IsAtRest (under (settled_where_none_waits c.waiting c.keys)) zones
   settles = by_waiting c.waiting refl
 
 pub finished_consistent : (m : State) (zones : Zoned) → IsConsistent (counted m) zones → IsConsistent (finished m) zones
-finished_consistent m zones now = settles (counted m) zones now
+finished_consistent m zones now = record { at_rest = settles (counted m) zones now.at_rest; built = now.built }

@@ -5,7 +5,7 @@ use Rattle.net_model.specs.Journey.{Traffic, enter_one, arrive_one, lose_one, ar
 use Rattle.net_model.specs.Trail.{End, choices_in, leaves, is_dropped, crosses, picks_backend, picks_port, is_lost}
 use Rattle.net_model.proofs.SparedJourneys.{same_travels}
 use Rattle.sim_laws.specs.Effects.{effects_of}
-use Rattle.std.specs.Prelude.{◌≡◌, ◌+◌, ◌++◌, ℕ, true, false, List, [], ◌∷◌, Some, None, Option, map, unwrap_or, refl}
+use Rattle.std.specs.Prelude.{◌≡◌, ◌+◌, ◌++◌, ℕ, true, false, List, [], ◌∷◌, Some, Option, map, unwrap_or, refl}
 use Rattle.std.specs.List.{filter_map}
 use Rattle.std.specs.Option.{option_map}
 use Rattle.std.proofs.Common.{sym, ap, ◌∙◌, subst, inl, inr}
@@ -32,22 +32,13 @@ use Rattle.tunnel_keys.specs.declared.owner.KeyOwner.{KeyOwner}
 use Rattle.tunnel_keys.specs.declared.owner.PortKey.{PortKey}
 use Rattle.ovn_base.proofs.SameEntries.{same_found}
 use Rattle.tunnel_keys.proofs.OwnerLaws.{datapaths_have, ports_have}
-use Rattle.edit_reader.specs.Fitting.{IsEventInGrammar}
-use Rattle.nb_edits.proofs.EditSoundness.{edit_sound}
-use Rattle.nb_records.specs.Network.{Network}
-use Rattle.nb_records.specs.declared.change.Op.{Op}
-use Rattle.nb_rules.specs.Valid as rules
 use Rattle.net_model.specs.Owners.{owners_only_in}
-use Rattle.physical_flows.specs.Built.{IsBuilt}
 use Rattle.tunnel_keys.specs.declared.owner.KeyOwner.TheVariants.{Port}
 use Rattle.world_core.specs.Editing.{edited, next_net}
 use Rattle.world_core.specs.KeyLines.{added_ports, as_place, datapath_effect, key_effects, port_effect}
-use Rattle.world_core.proofs.EditedRecords.{edited_built}
-use Rattle.world_core.proofs.RefusedTurns.{edit_built, edit_faultless}
 use Rattle.physical_flows.specs.Numbers.{datapath_number, port_number}
 use Rattle.world_core.specs.Picks.{Fate, was_refused, was_accepted, Happens, Run}
-use Rattle.world_core.specs.Refusing.{refusal}
-use Rattle.net_model.specs.State.{State, event_count, finished}
+use Rattle.net_model.specs.State.{State, finished}
 use Rattle.world_core.specs.Step.{NetworkStep, Does, Moves, Sends}
 
 -- the same effects, the same state, and the same picks left
@@ -277,20 +268,6 @@ step_with m event effects others after later left more h k e =
 pub same_step : (m : State) (event : Event) (effects others : List NetEffect) (after later : State) → NetworkStep m event effects after → NetworkStep m event others later → picks_of effects ≡ picks_of others
     → (effects ≡ others) × (after ≡ later)
 same_step m event effects others after later h k e = let s = step_with m event effects others after later [] [] h k (ap (λ ps. ps ++ []) e) in (s.effects_are, s.state)
-
--- ---- the records stay valid
-
--- the records are ones that edits can leave, of kinds that are built
-pub record AreSound (net : Network) : Type 0 where
-  pub valid : rules.IsValid net
-  pub built : IsBuilt net
-
-pub edited_sound : (m : State) (ops : List Op) → AreSound m.config.net → IsEventInGrammar (event_of.Edit ops) → refusal m (event_of.Edit ops) ≡ None → AreSound (next_net m ops)
-edited_sound m ops sound grammar allowed =
-    let is = edit_built m ops allowed in
-    let none = edit_faultless m ops allowed in
-    let leaves = edit_sound m.config.net ops (event_count m + 1) sound.valid grammar.each none in
-    record { valid = leaves.valid; built = edited_built m.config.net ops (event_count m + 1) sound.built is leaves.valid }
 
 -- ---- runs
 

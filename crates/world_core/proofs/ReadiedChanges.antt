@@ -1,5 +1,5 @@
 -- What turns make of the ground may be prepared: for each kind of event, in the terms in which the setup has it.
-use Rattle.std.specs.Prelude.{◌≡◌, ◌<◌, ◌↔◌, ◌⊎◌, ◌+◌, ◌^◌, ℕ, List, [], ◌∷◌, Option, Some, None, length, map, nat_le, option_map, false, true, refl}
+use Rattle.std.specs.Prelude.{◌≡◌, ◌<◌, ◌↔◌, ◌⊎◌, ◌+◌, ◌^◌, ℕ, List, [], ◌∷◌, Option, Some, None, IsSome, length, map, nat_le, option_map, false, true, refl}
 use Rattle.std.specs.BTreeSet.{insert_key}
 use Rattle.std.specs.Cmp.Lexicographic.{slice_cmp}
 use Rattle.std.specs.Map.{keys_of}
@@ -8,7 +8,6 @@ use Rattle.std.proofs.Common.{sym, ap, subst, ◌∙◌}
 use Rattle.std.proofs.lemmas.Bool.{false≢true}
 use Rattle.chassis_sim.specs.declared.change.SimChange.{SimChange}
 use Rattle.conn_zones.specs.Rezoning.{IsHomeChange, IsRezoned}
-use Rattle.conn_zones.specs.Zoning.{Zoned}
 use Rattle.edit_reader.specs.declared.event.Event.TheVariants as event_of
 use Rattle.edit_reader.specs.Fitting.{IsEventInGrammar}
 use Rattle.nb_edits.specs.declared.plan.EditPlan.{EditPlan}
@@ -21,9 +20,10 @@ use Rattle.net_model.specs.State.{State, event_count}
 use Rattle.ovn_base.specs.declared.name.Name.{Name}
 use Rattle.ovn_base.specs.lists.Among.{Among}
 use Rattle.ovn_base.specs.lists.Once.{EachOnce}
-use Rattle.ovn_base.specs.names.ByName.{at}
+use Rattle.ovn_base.specs.names.ByName.{at, put}
 use Rattle.ovn_base.specs.names.SameName.{bytes_decides, same_name}
 use Rattle.ovn_base.proofs.AmongLaws.{among_any}
+use Rattle.ovn_base.proofs.ByNameLaws.{put_there}
 use Rattle.physical_flows.specs.Units.{ChangeOnly}
 use Rattle.physical_flows.specs.declared.unit.FlowUnit.{FlowUnit}
 use Rattle.switch_engine.specs.declared.effect.NetEffect.{NetEffect}
@@ -33,14 +33,17 @@ use Rattle.world_core.specs.Ground.{GroundView, changed, ground_of, IsChangeOf}
 use Rattle.world_core.specs.Editing.{next_net}
 use Rattle.world_core.specs.KeyLines.{key_effects, key_name}
 use Rattle.world_core.specs.Refusing.{is_virtual_port, refusal}
-use Rattle.world_core.specs.Setup.{AreTouched, HasDelta, HasTables, IsTurnOfTables, rows_on, units_of}
+use Rattle.world_core.specs.Setup.{AreTouched, HasDelta, IsTurnOfTables, lowering_in, rows_on, units_of}
 use Rattle.world_core.specs.Touched.{touched_by}
 use Rattle.world_core.specs.Turning.{IsPlannedEdit, IsTurned, LacksFor, MayTurn, Tells, fault_of_keys}
-use Rattle.world_core.specs.Untracked.{untracked}
 use Rattle.world_core.specs.Zones.{home_change}
 use Rattle.world_core.specs.declared.ground.GroundChange.{GroundChange}
-use Rattle.sim_laws.proofs.PlainRecords.{plain_valid, plain_within}
-use Rattle.sim_laws.specs.Consistent.{IsConsistent}
+use Rattle.world_core.specs.WorldView.{IsConsistent}
+use Rattle.conn_zones.specs.Zoning.{KnownHomes, Zoned, number_on}
+use Rattle.conn_zones.specs.declared.numbers.ZoneUse.TheVariants.{Port}
+use Rattle.northd_core.specs.Lowering.{CanCompile}
+use Rattle.physical_flows.specs.Switched.{IsSwitched}
+use Rattle.world_core.proofs.BuiltTables.{can_compile, few_ports, switched}
 use Rattle.event_lines.specs.declared.refusal.Refusal.TheVariants as why
 use Rattle.event_lines.specs.declared.refusal.StepFault.{StepFault}
 use Rattle.event_lines.specs.declared.refusal.StepFault.TheVariants.{Refused, Memory}
@@ -58,17 +61,29 @@ use Rattle.world_core.proofs.KeyLacks.{IsLack}
 use Rattle.world_core.proofs.RefusedTurns.{bind_allowed, bind_no_chassis, chassis_allowed, chassis_full, edit_faulty, edit_lacks}
 use Rattle.world_core.proofs.EditedStates.{after, edit_fits, edit_lack, edit_turned, fits, have, next_built, same_beside, sound}
 use Rattle.world_core.proofs.SetupTurns.{units_once}
-use Rattle.world_core.proofs.PortHomes.{can_come}
+use Rattle.world_core.proofs.PortHomes.{can_come, homes_after}
 use Rattle.world_core.proofs.Refusals.{chassis_new}
-use Rattle.world_core.proofs.Turned.{names_once}
+use Rattle.world_core.proofs.Names.{names_once}
 use Rattle.world_core.proofs.TurnedHomes.{binding_turned, chassis_turned}
 use Rattle.world_core.proofs.TurnedUnits.{binding_units, chassis_units, edited_units, homes_bound}
+
+-- tables can be made of the records and the keys
+pub record AreTables (g : GroundView) : Type 0 where
+  pub switched : IsSwitched g.config.net g.keys
+  pub compiled : CanCompile (lowering_in g)
+
+tables_of_state : (m : State) (zones : Zoned) → IsConsistent m zones → AreTables (ground_of m zones)
+tables_of_state m zones now = record {
+  switched = switched m.config.net now.built m.keys now.at_rest.valid now.at_rest.keys;
+  compiled = can_compile m.config.net now.built m.keys now.at_rest.valid now.at_rest.keys;
+}
 
 -- what `prepare` asks of a change of the ground, and of the units that it touches
 pub record IsReadied (g : GroundView) (change : GroundChange) (touched : List FlowUnit) : Type 0 where
   pub fits : IsChangeOf g change
   pub once : EachOnce g.config.chassis
-  pub tables : HasTables (changed change g)
+  pub tables : AreTables g
+  pub tables_then : AreTables (changed change g)
   pub touched_alone : AreTouched g (changed change g) touched
 
 -- the ground of these records, chassis, keys and zones
@@ -76,12 +91,11 @@ abbrev pub ground_with : Network → List Name → Keys → Zoned → GroundView
 ground_with net names keys zones = record { config = record { net = net; chassis = names; bindings = zones.homes.ports }; keys = keys; zones = zones }
 
 -- the tables' part of a turn says nothing of what is bound and named
-pub tables_then : (h g : GroundView) → h ≡ g → (own change : GroundChange) → own ≡ change → (s t : SimChange TupleSpace) → t.added ≡ s.added → t.removed ≡ s.removed → t.emptied ≡ s.emptied → t.tables ≡ s.tables
+pub tables_then : (h g : GroundView) → h ≡ g → (own change : GroundChange) → own ≡ change → (s t : SimChange TupleSpace) → t.added ≡ s.added → t.removed ≡ s.removed → t.tables ≡ s.tables
     → IsTurnOfTables h (changed change h) s → IsTurnOfTables g (changed own g) t
-tables_then h g same own change is s t added removed emptied tables turn =
+tables_then h g same own change is s t added removed tables turn =
     let all : IsTurnOfTables h (changed change h) t = record {
       removed = removed ∙ turn.removed;
-      emptied = emptied ∙ turn.emptied;
       tables = ap (λ l. keys_of l) tables ∙ turn.tables;
       deltas = λ c among. subst (λ l. HasDelta h (changed change h) l c) (sym tables) (turn.deltas c among);
       chassis = λ c among. subst (λ l. Among c h.config.chassis ⊎ Among c (keys_of l)) (sym added) (turn.chassis c among);
@@ -96,7 +110,7 @@ tables_then h g same own change is s t added removed emptied tables turn =
 abbrev pub edit_change : EditPlan → Keys → GroundChange
 edit_change plan keys = record { records = Some plan; chassis = None; keys = Some keys; zones = None }
 
-module _ (m : State) (zones : Zoned) (lists : m.lists ≡ untracked m.config) (old : IsConsistent m zones) (room : event_count m < 2 ^ 42) (ops : List Op) (grammar : IsEventInGrammar (event_of.Edit ops)) (plan : EditPlan) (keys : Keys)
+module _ (m : State) (zones : Zoned) (old : IsConsistent m zones) (room : event_count m < 2 ^ 42) (ops : List Op) (grammar : IsEventInGrammar (event_of.Edit ops)) (plan : EditPlan) (keys : Keys)
     (planned : IsPlannedEdit (ground_of m zones) (event_count m + 1) ops plan keys) where
   abbrev next : Network
   next = next_net m ops
@@ -104,33 +118,37 @@ module _ (m : State) (zones : Zoned) (lists : m.lists ≡ untracked m.config) (o
   edit_ground : changed (edit_change plan keys) (ground_of m zones) ≡ record { config = record m.config { net = next }; keys = keys; zones = zones }
   edit_ground = λ i. record { config = record m.config { net = planned.stands.after i; bindings = homes_bound m zones old i }; keys = keys; zones = zones }
 
+  pub edit_tables_then : AreTables (changed (edit_change plan keys) (ground_of m zones))
+  edit_tables_then = subst (λ g. AreTables g) (sym edit_ground) (record {
+    switched = switched next (next_built m zones old room ops grammar plan keys planned) keys (sound m zones old room ops grammar plan keys planned).valid (have m zones old room ops grammar plan keys planned);
+    compiled = can_compile next (next_built m zones old room ops grammar plan keys planned) keys (sound m zones old room ops grammar plan keys planned).valid (have m zones old room ops grammar plan keys planned);
+  })
+
   pub edit_is_readied : (units : List FlowUnit) → EachOnce units → ((u : FlowUnit) → Among u units ↔ Among u (touched_by m.config.net next ops)) → IsReadied (ground_of m zones) (edit_change plan keys) units
   edit_is_readied units once are = record {
     fits = record {
       keys = record {
         added = owners_only_in next m.config.net;
         removed = owners_only_in m.config.net next;
-        fits = fits m zones lists old room ops grammar plan keys planned;
-        gives = (after m zones lists old room ops grammar plan keys planned).gives;
+        fits = fits m zones old room ops grammar plan keys planned;
+        gives = (after m zones old room ops grammar plan keys planned).gives;
       };
       zones = tt;
     };
-    once = names_once m.config.chassis old.bound.chassis_sorted;
-    tables = subst (λ g. HasTables g) (sym edit_ground) (record {
-      valid = plain_valid next (sound m zones lists old room ops grammar plan keys planned).valid (next_built m zones lists old room ops grammar plan keys planned);
-      keys = have m zones lists old room ops grammar plan keys planned;
-    });
+    once = names_once m.config.chassis old.at_rest.bound.chassis_sorted;
+    tables = tables_of_state m zones old;
+    tables_then = edit_tables_then;
     touched_alone = record {
       once = once;
       only = λ d among. subst (λ g. ChangeOnly units (rows_on (ground_of m zones) d) (rows_on g d)) (sym edit_ground)
-          (edited_units m zones old next keys units (sound m zones lists old room ops grammar plan keys planned).valid.in_order.switch_ports (same_beside m zones lists old room ops grammar plan keys planned units are) d);
+          (edited_units m zones old next keys units (sound m zones old room ops grammar plan keys planned).valid.in_order.switch_ports (same_beside m zones old room ops grammar plan keys planned units are) d);
     };
   }
 
-  pub edit_is_turned : (effects : List NetEffect) → effects ≡ key_effects plan.added keys → (change : SimChange TupleSpace) → change.bound ≡ [] → change.names ≡ map (key_name keys) plan.added
+  pub edit_is_turned : (effects : List NetEffect) → effects ≡ key_effects plan.added keys → (change : SimChange TupleSpace) → change.bound ≡ [] → change.emptied ≡ [] → change.names ≡ map (key_name keys) plan.added
       → IsTurned m zones (event_of.Edit ops) effects change (changed (edit_change plan keys) (ground_of m zones))
-  edit_is_turned effects named change bound names =
-      subst (λ g. IsTurned m zones (event_of.Edit ops) effects change g) (sym edit_ground) (edit_turned m zones lists old room ops grammar plan keys planned effects named change bound names)
+  edit_is_turned effects named change bound emptied names =
+      subst (λ g. IsTurned m zones (event_of.Edit ops) effects change g) (sym edit_ground) (edit_turned m zones old room ops grammar plan keys planned effects named change bound emptied names)
 
 -- why an edit is refused, in the terms in which the setup has it
 module _ (g : GroundView) (n : ℕ) (ops : List Op) (m : State) (may : MayTurn g n (event_of.Edit ops) m) where
@@ -185,18 +203,22 @@ module _ (g : GroundView) (n : ℕ) (ops : List Op) (m : State) (may : MayTurn g
   planned_here : IsPlannedEdit (ground_of m g.zones) (event_count m + 1) ops plan keys
   planned_here = subst (λ k. IsPlannedEdit (ground_of m g.zones) k ops plan keys) may.number (subst (λ x. IsPlannedEdit x n ops plan keys) (sym may.ground) planned)
 
+  -- tables can be made before and after
+  pub edit_tables : AreTables g × AreTables (changed (edit_change plan keys) g)
+  edit_tables = subst (λ x. AreTables x × AreTables (changed (edit_change plan keys) x)) may.ground (tables_of_state m g.zones may.consistent, edit_tables_then m g.zones may.consistent may.few ops may.in_grammar plan keys planned_here)
+
   pub edit_readied : (h : GroundView) → h ≡ g → (units : List FlowUnit) → EachOnce units → ((u : FlowUnit) → Among u units ↔ Among u (touched_by g.config.net (accepted g.config.net ops n) ops)) → IsReadied h (edit_change plan keys) units
   edit_readied h is units once are =
       subst (λ x. IsReadied x (edit_change plan keys) units) (may.ground ∙ sym is)
-      (edit_is_readied m g.zones may.untracked_lists may.consistent may.few ops may.in_grammar plan keys planned_here units once
+      (edit_is_readied m g.zones may.consistent may.few ops may.in_grammar plan keys planned_here units once
       (subst (λ net. (u : FlowUnit) → Among u units ↔ Among u (touched_by m.config.net net ops)) (edit_leaves g n ops m may)
       (subst (λ (x : GroundView). (u : FlowUnit) → Among u units ↔ Among u (touched_by x.config.net (accepted g.config.net ops n) ops)) (sym may.ground) are)))
 
-  pub edit_turns : (effects : List NetEffect) → effects ≡ key_effects plan.added keys → (change : SimChange TupleSpace) → change.bound ≡ [] → change.names ≡ map (key_name keys) plan.added
+  pub edit_turns : (effects : List NetEffect) → effects ≡ key_effects plan.added keys → (change : SimChange TupleSpace) → change.bound ≡ [] → change.emptied ≡ [] → change.names ≡ map (key_name keys) plan.added
       → IsTurned m g.zones (event_of.Edit ops) effects change (changed (edit_change plan keys) g)
-  edit_turns effects named change bound names =
+  edit_turns effects named change bound emptied names =
       subst (λ x. IsTurned m g.zones (event_of.Edit ops) effects change (changed (edit_change plan keys) x)) may.ground
-      (edit_is_turned m g.zones may.untracked_lists may.consistent may.few ops may.in_grammar plan keys planned_here effects named change bound names)
+      (edit_is_turned m g.zones may.consistent may.few ops may.in_grammar plan keys planned_here effects named change bound emptied names)
 
 -- ---- a chassis comes
 
@@ -233,8 +255,9 @@ module _ (g : GroundView) (n : ℕ) (c : Name) (m : State) (may : MayTurn g n (e
   chassis_is_readied : IsReadied (ground_of m g.zones) (chassis_change longer) []
   chassis_is_readied = record {
     fits = record { keys = tt; zones = tt };
-    once = names_once m.config.chassis may.consistent.bound.chassis_sorted;
-    tables = record { valid = plain_valid m.config.net may.consistent.valid may.consistent.built; keys = may.consistent.keys };
+    once = names_once m.config.chassis may.consistent.at_rest.bound.chassis_sorted;
+    tables = tables_of_state m g.zones may.consistent;
+    tables_then = record { switched = (tables_of_state m g.zones may.consistent).switched; compiled = (tables_of_state m g.zones may.consistent).compiled };
     touched_alone = record {
       once = tt;
       only = λ d among. subst (λ x. ChangeOnly [] (rows_on (ground_of m g.zones) d) (rows_on x d)) (sym chassis_ground)
@@ -246,13 +269,13 @@ module _ (g : GroundView) (n : ℕ) (c : Name) (m : State) (may : MayTurn g n (e
   chassis_readied h is names longer' =
       subst (λ x. IsReadied x (chassis_change names) []) (may.ground ∙ sym is) (subst (λ x. IsReadied (ground_of m g.zones) (chassis_change x) []) (sym (chassis_names names longer')) chassis_is_readied)
 
-  pub chassis_turns : (names : List Name) → names ≡ insert_key (slice_cmp nat_cmp) g.config.chassis c → (effects : List NetEffect) → effects ≡ [] → (change : SimChange TupleSpace) → change.bound ≡ [] → change.names ≡ []
+  pub chassis_turns : (names : List Name) → names ≡ insert_key (slice_cmp nat_cmp) g.config.chassis c → (effects : List NetEffect) → effects ≡ [] → (change : SimChange TupleSpace) → change.bound ≡ [] → change.names ≡ [] → change.emptied ≡ []
       → IsTurned m g.zones (event_of.AddChassis c) effects change (changed (chassis_change names) g)
-  chassis_turns names longer' effects none change bound called =
+  chassis_turns names longer' effects none change bound called emptied =
       subst (λ x. IsTurned m g.zones (event_of.AddChassis c) effects change (changed (chassis_change names) x)) may.ground
       (subst (λ x. IsTurned m g.zones (event_of.AddChassis c) effects change (changed (chassis_change x) (ground_of m g.zones))) (sym (chassis_names names longer'))
       (subst (λ x. IsTurned m g.zones (event_of.AddChassis c) effects change x) (sym chassis_ground)
-      (chassis_turned m g.zones may.consistent may.few effects none change c allowed bound called)))
+      (chassis_turned m g.zones may.consistent may.few effects none change c allowed bound called emptied)))
 
 -- ---- a port is bound
 
@@ -272,22 +295,29 @@ module _ (g : GroundView) (n : ℕ) (p c : Name) (m : State) (may : MayTurn g n 
   zone_change zones = record { records = None; chassis = None; keys = None; zones = Some zones }
 
   pub binding_can_come : IsHomeChange g.zones.homes (home_change p c)
-  binding_can_come = can_come m.config g.zones may.consistent.bound p c (plain_within m.config.net may.consistent.valid may.consistent.built).ports
+  binding_can_come = can_come m.config g.zones may.consistent.at_rest.bound p c (few_ports m.config.net may.consistent.at_rest.valid)
 
   module _ (after : Zoned) (rezoned : IsRezoned g.zones (home_change p c) after) where
     binding_is_readied : IsReadied (ground_of m g.zones) (zone_change after) (units_of (at m.config.net.switch_ports p) p)
     binding_is_readied = record {
       fits = record { keys = tt; zones = record { change = home_change p c; fits = binding_can_come; rezoned = rezoned } };
-      once = names_once m.config.chassis may.consistent.bound.chassis_sorted;
-      tables = record { valid = plain_valid m.config.net may.consistent.valid may.consistent.built; keys = may.consistent.keys };
+      once = names_once m.config.chassis may.consistent.at_rest.bound.chassis_sorted;
+      tables = tables_of_state m g.zones may.consistent;
+      tables_then = record { switched = (tables_of_state m g.zones may.consistent).switched; compiled = (tables_of_state m g.zones may.consistent).compiled };
       touched_alone = record { once = units_once (at m.config.net.switch_ports p) p; only = λ d among. binding_units m g.zones may.consistent p c allowed after rezoned d };
     }
 
     pub binding_readied : (h : GroundView) → h ≡ g → IsReadied h (zone_change after) (units_of (at h.config.net.switch_ports p) p)
     binding_readied h is = subst (λ x. IsReadied x (zone_change after) (units_of (at x.config.net.switch_ports p) p)) (may.ground ∙ sym is) binding_is_readied
 
-    pub binding_turns : (effects : List NetEffect) → effects ≡ [] → (change : SimChange TupleSpace) → change.bound ≡ (p, Some c) ∷ [] → change.names ≡ []
+    -- the port has a number there
+    pub binding_numbered : ¬ (number_on after.numbers c (Port p) ≡ None)
+    binding_numbered none =
+        let ports : after.homes.ports ≡ put m.config.bindings p c = ap (λ (h : KnownHomes). h.ports) (homes_after m.config g.zones may.consistent.at_rest.bound p c after rezoned) in
+        false≢true (subst IsSome none ((rezoned.zoned.at_home c (Port p)).0 (ap (λ l. at l p) ports ∙ put_there m.config.bindings p c)))
+
+    pub binding_turns : (z : ℕ) → number_on after.numbers c (Port p) ≡ Some z → (effects : List NetEffect) → effects ≡ [] → (change : SimChange TupleSpace) → change.bound ≡ (p, Some c) ∷ [] → change.names ≡ [] → change.emptied ≡ (c, z) ∷ []
         → IsTurned m g.zones (event_of.Bind p c) effects change (changed (zone_change after) g)
-    binding_turns effects none change bound called =
+    binding_turns z numbered effects none change bound called emptied =
         subst (λ x. IsTurned m g.zones (event_of.Bind p c) effects change (changed (zone_change after) x)) may.ground
-        (binding_turned m g.zones may.consistent may.few effects none change p c allowed after rezoned bound called)
+        (binding_turned m g.zones may.consistent may.few effects none change p c allowed after rezoned z numbered bound called emptied)

@@ -9,9 +9,8 @@ use Rattle.event_lines.specs.Text.{StartsWith}
 use Rattle.tunnel_keys.proofs.Births.{born_later}
 use Rattle.world_core.specs.Outcome.{IsAccepted, IsRefused}
 use Rattle.world_core.specs.StepParts.{IsTaken}
-use Rattle.world_core.specs.WorldView.{WorldView, IsSound}
-use Rattle.sim_laws.specs.Consistent.{IsConsistent}
-use Rattle.sim_laws.specs.Held.{AreHeld}
+use Rattle.world_core.specs.WorldView.{AreHeld, IsConsistent, IsSound, WorldView}
+use Rattle.sim_laws.specs.journeys.AtRest.{IsAtRest}
 use Rattle.sim_laws.specs.Sound.{MayWait}
 use Rattle.net_model.specs.State.{State, event_count}
 use Rattle.net_model.specs.declared.crossing.Crossing.{Crossing}
@@ -31,25 +30,27 @@ may_wait m x w = record {
   no_return = w.no_return;
 }
 
-held_on : (m : State) (zones : Zoned) (s : sim.SimState) → AreHeld m zones.numbers s → AreHeld (one_refused m) zones.numbers s
+held_on : (m : State) (zones : Zoned) (s : sim.SimState) → AreHeld m zones s → AreHeld (one_refused m) zones s
 held_on m zones s h = record {
   bindings = h.bindings;
   names = record { datapaths = h.names.datapaths; ports = h.names.ports };
   held = h.held;
-  flows = h.flows;
-  no_zone = h.no_zone;
+  members = h.members;
+  tables = h.tables;
+  zones = h.zones;
   waiting = h.waiting;
   next = h.next;
 }
 
-refused_consistent : (m : State) (zones : Zoned) → IsConsistent m zones → event_count m < 2 ^ 42 → IsConsistent (one_refused m) zones
-refused_consistent m zones now room =
+rests_on : (m : State) (zones : Zoned) → IsAtRest m zones → event_count m < 2 ^ 42 → IsAtRest (one_refused m) zones
+rests_on m zones now room =
     let sent = now.on_the_way.few in
     record {
       valid = now.valid;
-      built = now.built;
+      no_router = now.no_router;
       keys = now.keys;
       bound = now.bound;
+      at_home = now.at_home;
       born = record {
         records = λ k q r is. let b = now.born.records k q r is in omega (arith, b);
         keys = born_later m.keys (event_count m) (event_count (one_refused m)) (omega arith) now.born.keys;
@@ -66,6 +67,9 @@ refused_consistent m zones now room =
       };
       few = omega (arith, room);
     }
+
+refused_consistent : (m : State) (zones : Zoned) → IsConsistent m zones → event_count m < 2 ^ 42 → IsConsistent (one_refused m) zones
+refused_consistent m zones now room = record { at_rest = rests_on m zones now.at_rest room; built = now.built }
 
 -- a refused event changes nothing but the number of refused ones
 abbrev pub refused_world : WorldView → WorldView

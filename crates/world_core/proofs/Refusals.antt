@@ -17,8 +17,7 @@ use Rattle.event_lines.specs.declared.refusal.Refusal.TheVariants as why
 use Rattle.net_model.specs.Config.{is_chassis}
 use Rattle.net_model.specs.State.{State}
 use Rattle.world_core.specs.Causes.{cause_if}
-use Rattle.world_core.specs.Frames.{carries_arp}
-use Rattle.world_core.specs.Refusing.{cause_of_entry, frame_fault, is_virtual_port, no_chassis, no_frame, no_port, not_bound, refusal, unbuilt_frame}
+use Rattle.world_core.specs.Refusing.{cause_of_entry, is_virtual_port, no_chassis, no_frame, no_port, not_bound, refusal}
 
 -- no cause holds where the first doesn't and the rest don't
 pub neither : (one rest : Option Refusal) → or_else one rest ≡ None → (one ≡ None) × (rest ≡ None)
@@ -44,15 +43,6 @@ is_bound m p frame h =
     by : (o : Option Name) → is_none o ≡ false → IsSome o
     by (Some c) h = search
     by None h = cc
-
--- the frame carries no ARP
-pub no_arp_in : (m : State) (p : Name) (frame : List ℕ) → cause_of_entry m p frame ≡ None → carries_arp frame ≡ false
-no_arp_in m p frame h =
-    let rest = neither (no_port m p) _ h in
-    let bound = neither (not_bound m p) _ rest.1 in
-    let fault = neither (frame_fault frame) _ bound.1 in
-    let built = neither (unbuilt_frame frame) _ fault.1 in
-    no_cause (carries_arp frame) why.NotBuilt built.0
 
 -- a frame that is taken waits
 pub waits_so : (m : State) (n : ℕ) → no_frame m n ≡ None → is_some (numbered m.waiting n) ≡ true

@@ -15,23 +15,28 @@ use Rattle.ovn_base.proofs.AmongLaws.{among_cases, among_none}
 use Rattle.chassis_sim.specs.State.{at_name}
 use Rattle.chassis_sim.specs.declared.change.SimChange.{SimChange}
 use Rattle.chassis_sim.proofs.Lookups.{seen_found}
-use Rattle.flow_refs.specs.Store.{Prepared}
+use Rattle.flow_refs.specs.Store.{Prepared, Store}
+use Rattle.logical_flows.specs.declared.unit.UnitId.{UnitId}
+use Rattle.northd_core.specs.Lowering.{IsLoweredIn, LeavesLowered}
+use Rattle.northd_core.specs.Plans.{IsChange}
+use Rattle.world_core.proofs.ApartTables.{change_of_both, nothing_changes}
 use Rattle.flow_table.specs.declared.flow.Flow.{Flow}
 use Rattle.nb_records.specs.declared.switch.Switch.{Switch}
 use Rattle.nb_records.specs.declared.switch.SwitchPort.{SwitchPort}
 use Rattle.physical_flows.specs.ChassisFlows.{AreExactly}
 use Rattle.physical_flows.specs.Numbers.{datapath_number, port_number}
 use Rattle.physical_flows.specs.Stages.{Basis}
-use Rattle.physical_flows.specs.Tables.{TableFlow}
 use Rattle.physical_flows.specs.UnitFlows.{UnitStore, HaveRows, rows_held}
-use Rattle.physical_flows.specs.Units.{keyed_here, port_everywhere, port_here, switch_everywhere, switch_here, unit_rows}
+use Rattle.physical_flows.specs.Around.{around_rows, port_around}
+use Rattle.physical_flows.specs.RecordKeys.{HaveKeys}
+use Rattle.physical_flows.specs.Units.{keyed_here, port_here, switch_here}
 use Rattle.physical_flows.specs.declared.unit.FlowUnit.{FlowUnit}
 use Rattle.physical_flows.specs.declared.unit.FlowUnit.TheVariants as unit
 use Rattle.tunnel_keys.specs.Keys.{settled}
 use Rattle.tuple_space.specs.Bunches.{flows_in}
 use Rattle.tuple_space.specs.declared.space.TupleSpace.{TupleSpace}
 use Rattle.world_core.specs.Ground.{GroundView, basis_in}
-use Rattle.world_core.specs.Setup.{ArePatches, ComesOver, HasCome, HasDelta, HasStore, IsReadyOrDone, IsTurnOfTables, rows_on, units_of}
+use Rattle.world_core.specs.Setup.{ArePatches, ComesOver, HasCome, HasDelta, HasStore, IsFlowOn, IsLoweredOrDone, IsReadyOrDone, IsTurnOfTables, StandsForGround, every_delta, joined, lowering_in, rows_on, units_of}
 use Rattle.world_core.proofs.FlowStores.{found_so}
 use Rattle.world_core.proofs.NamesInOrder.{name_cases, name_kept, name_put}
 
@@ -41,7 +46,7 @@ module _ (b : Basis) where
   abbrev later : Basis
   later = record b { keys = settled b.keys }
 
-  switch_settled : (a : Name) (o : Option Switch) (n : Option ℕ) → switch_everywhere later a o n ++ switch_here later a o n ≡ switch_everywhere b a o n ++ switch_here b a o n
+  switch_settled : (a : Name) (o : Option Switch) (n : Option ℕ) → switch_here later a o n ≡ switch_here b a o n
   switch_settled a None n = refl
   switch_settled a (Some s) None = refl
   switch_settled a (Some s) (Some dp) = refl
@@ -51,12 +56,12 @@ module _ (b : Basis) where
   keyed_settled q (Some dp) None = refl
   keyed_settled q (Some dp) (Some key) = refl
 
-  port_settled : (q : Name) (o : Option SwitchPort) → port_everywhere later q o ++ port_here later q o ≡ port_everywhere b q o ++ port_here b q o
+  port_settled : (q : Name) (o : Option SwitchPort) → port_around later q o ++ port_here later q o ≡ port_around b q o ++ port_here b q o
   port_settled q None = refl
-  port_settled q (Some port) = ap (λ l. port_everywhere b q (Some port) ++ l) (keyed_settled q (datapath_number b.keys port.switch) (port_number b.keys q))
+  port_settled q (Some port) = ap (λ l. port_around b q (Some port) ++ l) (keyed_settled q (datapath_number b.keys port.switch) (port_number b.keys q))
 
   -- all rows stay
-  rows_settled : (u : FlowUnit) → unit_rows later u ≡ unit_rows b u
+  rows_settled : (u : FlowUnit) → around_rows later u ≡ around_rows b u
   rows_settled unit.Common = refl
   rows_settled (unit.Switch a) = switch_settled a (at b.net.switches a) (datapath_number b.keys a)
   rows_settled (unit.Port q) = port_settled q (at b.net.switch_ports q)
@@ -71,13 +76,17 @@ settled_store g stores c has = record {
   );
 }
 
+-- so it does where the lowered rows are left as they were
+pub stands_left : (g : GroundView) (old new : Store Flow UnitId) (stores : List (Name × UnitStore)) → LeavesLowered old new → StandsForGround g old stores → StandsForGround g new stores
+stands_left g old new stores left stands = record { lowered = left.stands (lowering_in g) stands.lowered; stores = stands.stores }
+
 -- ---- who comes
 
 -- nobody comes, or one chassis, whose flows both have
 abbrev pub ComesWith : GroundView → Option Name → Option (Name × UnitStore) → List (Name × TupleSpace) → Type 0
 ComesWith after None come added = (come ≡ None) × (added ≡ [])
 ComesWith after (Some c) come added =
-    (flows : UnitStore) × (held : TupleSpace) × (come ≡ Some (c, flows)) × (added ≡ (c, held) ∷ []) × HaveRows (rows_on after c) (rows_held flows) × AreExactly (TableFlow (basis_in after c)) (flows_in held.bunches)
+    (flows : UnitStore) × (held : TupleSpace) × (come ≡ Some (c, flows)) × (added ≡ (c, held) ∷ []) × HaveRows (rows_on after c) (rows_held flows) × AreExactly (IsFlowOn after c) (flows_in held.bunches)
 
 module _ (before after : GroundView) (come : Option (Name × UnitStore)) (added : List (Name × TupleSpace)) where
   pub was_or_comes : (who : Option Name) → ComesOver before.config.chassis who after.config.chassis → ComesWith after who come added → (c : Name) → Among c after.config.chassis → Among c before.config.chassis ⊎ HasCome after come c
@@ -105,43 +114,61 @@ module _ (before after : GroundView) (come : Option (Name × UnitStore)) (added 
   stay (Some d) over c m = subst (λ l. Among c l) (sym over.1) (name_kept before.config.chassis d c m)
 
   pub all_added : (who : Option Name) → ComesOver before.config.chassis who after.config.chassis → ComesWith after who come added → (e : Name × TupleSpace) → Among e added
-      → Among e.0 after.config.chassis × (¬ Among e.0 before.config.chassis) × AreExactly (TableFlow (basis_in after e.0)) (flows_in e.1.bunches)
+      → Among e.0 after.config.chassis × (¬ Among e.0 before.config.chassis) × AreExactly (IsFlowOn after e.0) (flows_in e.1.bunches)
   all_added None over comes e m = absurd (among_none e (subst (λ l. Among e l) comes.1 m))
   all_added (Some d) over comes e m = elim (among_cases e (d, comes.1) [] (subst (λ l. Among e l) comes.3 m)) [
-    | inl same ↦ subst (λ (x : Name × TupleSpace). Among x.0 after.config.chassis × (¬ Among x.0 before.config.chassis) × AreExactly (TableFlow (basis_in after x.0)) (flows_in x.1.bunches)) (sym same)
+    | inl same ↦ subst (λ (x : Name × TupleSpace). Among x.0 after.config.chassis × (¬ Among x.0 before.config.chassis) × AreExactly (IsFlowOn after x.0) (flows_in x.1.bunches)) (sym same)
         (subst (λ l. Among d l) (sym over.1) (name_put before.config.chassis d), over.0, comes.5)
     | inr none ↦ absurd (among_none e none)
   ]
 
 -- ---- what the simulated chassis are told
 
-abbrev delta_in : Prepared Flow FlowUnit → Delta Flow
-delta_in p = p.delta
+-- to every chassis the same, and then what its own patch says
+abbrev delta_in : Delta Flow → Prepared Flow FlowUnit → Delta Flow
+delta_in every p = joined every p.delta
 
-pub names_same : (patches : List (Name × Prepared Flow FlowUnit)) → keys_of (map (λ p. (p.0, p.1.delta)) patches) ≡ keys_of patches
-names_same [] = refl
-names_same (p ∷ ps) = ap (λ l. p.0 ∷ l) (names_same ps)
+abbrev pub deltas_told : Delta Flow → List (Name × Prepared Flow FlowUnit) → List (Name × Delta Flow)
+deltas_told every patches = map (λ p. (p.0, joined every p.1.delta)) patches
+
+pub names_same : (every : Delta Flow) (patches : List (Name × Prepared Flow FlowUnit)) → keys_of (deltas_told every patches) ≡ keys_of patches
+names_same every [] = refl
+names_same every (p ∷ ps) = ap (λ l. p.0 ∷ l) (names_same every ps)
 
 anything : (es : List (Name × Prepared Flow FlowUnit)) → AllByRecursion (λ e. Unit {0}) es
 anything [] = tt
 anything (e ∷ es) = (tt, anything es)
 
-pub deltas_lead : (before after : GroundView) (stores : List (Name × UnitStore)) (patches : List (Name × Prepared Flow FlowUnit)) → ArePatches before after stores patches → (c : Name) → Among c before.config.chassis
-    → HasDelta before after (map (λ p. (p.0, p.1.delta)) patches) c
-deltas_lead before after stores patches are c m =
+-- the tables of a ground and of the next, and what every chassis is told of the change of the lowered rows
+pub record AreTablesTurned (before after : GroundView) (every : Delta Flow) : Type 0 where
+  pub had : HaveKeys before.config.net before.keys
+  pub have : HaveKeys after.config.net after.keys
+  pub lowered : IsChange (IsLoweredIn (lowering_in before)) (IsLoweredIn (lowering_in after)) every
+
+-- what is planned is that change
+pub planned_change : (before after : GroundView) (lowered : Store Flow UnitId) (plan : Option (Prepared Flow UnitId)) → IsLoweredOrDone before after lowered plan → IsChange (IsLoweredIn (lowering_in before)) (IsLoweredIn (lowering_in after)) (every_delta plan)
+planned_change before after lowered (Some plan) h = h.change
+planned_change before after lowered None same = subst (λ l. IsChange (IsLoweredIn (lowering_in before)) (IsLoweredIn l) (record { added = []; removed = [] })) (sym same) (nothing_changes (IsLoweredIn (lowering_in before)))
+
+pub deltas_lead : (before after : GroundView) (every : Delta Flow) → AreTablesTurned before after every → (stores : List (Name × UnitStore)) (patches : List (Name × Prepared Flow FlowUnit)) → ArePatches before after stores patches → (c : Name) → Among c before.config.chassis
+    → HasDelta before after (deltas_told every patches) c
+deltas_lead before after every turned stores patches are c m =
     let way = are.each c m in
     let found = found_so (λ n p. Unit {0}) patches c (subst (λ l. Among c l) (sym are.chassis) m) (anything patches) in
     let patch : IsReadyOrDone before after c (Some found.0) way.store = subst (λ o. IsReadyOrDone before after c o way.store) found.1 way.stands in
-    record { delta = found.0.delta; is = seen_found delta_in patches c found.0 found.1; change = patch.change }
+    record {
+      delta = joined every found.0.delta;
+      is = seen_found (delta_in every) patches c found.0 found.1;
+      change = change_of_both (basis_in before c) (basis_in after c) turned.had turned.have every found.0.delta turned.lowered patch.change;
+    }
 
-pub turn_of_tables : (before after : GroundView) (stores : List (Name × UnitStore)) (patches : List (Name × Prepared Flow FlowUnit)) (who : Option Name) (come : Option (Name × UnitStore)) (change : SimChange TupleSpace)
-    → ArePatches before after stores patches → ComesOver before.config.chassis who after.config.chassis → ComesWith after who come change.added → change.removed ≡ [] → change.emptied ≡ [] → change.tables ≡ map (λ p. (p.0, p.1.delta)) patches
+pub turn_of_tables : (before after : GroundView) (every : Delta Flow) → AreTablesTurned before after every → (stores : List (Name × UnitStore)) (patches : List (Name × Prepared Flow FlowUnit)) (who : Option Name) (come : Option (Name × UnitStore)) (change : SimChange TupleSpace)
+    → ArePatches before after stores patches → ComesOver before.config.chassis who after.config.chassis → ComesWith after who come change.added → change.removed ≡ [] → change.tables ≡ deltas_told every patches
     → IsTurnOfTables before after change
-turn_of_tables before after stores patches who come change are over comes removed emptied tables = record {
+turn_of_tables before after every turned stores patches who come change are over comes removed tables = record {
   removed = removed;
-  emptied = emptied;
-  tables = ap keys_of tables ∙ names_same patches ∙ are.chassis;
-  deltas = λ c m. subst (λ t. HasDelta before after t c) (sym tables) (deltas_lead before after stores patches are c m);
+  tables = ap keys_of tables ∙ names_same every patches ∙ are.chassis;
+  deltas = λ c m. subst (λ t. HasDelta before after t c) (sym tables) (deltas_lead before after every turned stores patches are c m);
   chassis = was_or_added before after come change.added who over comes;
   stay = stay before after come change.added who over;
   added = all_added before after come change.added who over comes;

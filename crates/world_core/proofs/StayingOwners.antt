@@ -27,8 +27,7 @@ use Rattle.tunnel_keys.specs.declared.owner.Identity.{Identity}
 use Rattle.tunnel_keys.specs.declared.owner.KeyOwner.{KeyOwner}
 use Rattle.tunnel_keys.specs.declared.owner.KeyOwner.TheVariants.{Datapath, Port}
 use Rattle.physical_flows.proofs.FlowSearch.{some_of}
-use Rattle.world_core.specs.Built.{is_built_edit}
-use Rattle.physical_flows.specs.Built.{IsBuilt}
+use Rattle.world_core.specs.Built.{IsBuilt, is_built_edit}
 use Rattle.world_core.proofs.StayingRecords.{switches_stay, ports_stay}
 use Rattle.world_core.proofs.TouchedRecords.{ops_pass}
 
@@ -85,7 +84,7 @@ module _ (net : Network) (ops : List Op) (n : ℕ) (valid : IsValid net) (gramma
       (kept_at (λ (s : SwitchPort). s.name) (λ s. Fits (row.SwitchPort s)) after.switch_ports (fit.each kind.SwitchPort) q p found).0
 
   -- a port is still there as the one that it was
-  still_there : (q : Name) (p : SwitchPort) → at net.switch_ports q ≡ Some p → is_still_there after (identity_at net q) ≡ true
+  pub still_there : (q : Name) (p : SwitchPort) → at net.switch_ports q ≡ Some p → is_still_there after (identity_at net q) ≡ true
   still_there q p found =
       let now = ports_stay net ops n valid grammar none is q p found in
       let own : p.name ≡ q = named_before q p found in

@@ -1,30 +1,23 @@
 -- What a turn of the configuration leaves: names, bindings, keys, and the rest of the state.
 use Rattle.std.specs.Prelude.{◌≡◌, ℕ, cond, List, [], ◌∷◌, Some, codes, length, unwrap_or, refl}
-use Rattle.std.proofs.Common.{arith, sym, ap, subst, ◌∙◌, inl, inr}
+use Rattle.std.proofs.Common.{arith, sym, ap, ◌∙◌, inl, inr}
 use Rattle.std.proofs.lemmas.Bool.{cases_Bool, false≢true}
 use Rattle.chassis_sim.specs.Settings.{AreSet, set_in_turn}
 use Rattle.chassis_sim.specs.State as sim
 use Rattle.chassis_sim.specs.State.{same_pair}
 use Rattle.chassis_sim.specs.declared.out.SimOut.{SimOut}
-use Rattle.net_model.specs.State.{State, settled_where_none_waits}
-use Rattle.net_model.specs.ListOwners.{lists_for}
-use Rattle.net_model.specs.Transition.{Turn, add_chassis, bind, edit, turned_by}
+use Rattle.net_model.specs.State.{settled_where_none_waits}
 use Rattle.net_model.specs.declared.crossing.Crossing.{Crossing}
 use Rattle.ovn_base.specs.names.ByName.{at, put}
 use Rattle.ovn_base.specs.names.SameName.{bytes_decides, same_name}
 use Rattle.ovn_base.specs.declared.name.Name.{Name}
 use Rattle.ovn_base.proofs.ByNameLaws.{put_other, put_there}
 use Rattle.sim_laws.specs.Held.{HaveOwnersNames}
-use Rattle.switch_engine.specs.declared.effect.NetEffect.{NetEffect}
 use Rattle.tunnel_keys.specs.Keys.{Keys, settled}
-use Rattle.world_core.specs.Editing.{next_net}
 use Rattle.world_core.specs.EventKinds.{event_of_turn}
 use Rattle.world_core.specs.EventPasses.{Passes}
-use Rattle.world_core.specs.Step.{Does}
-use Rattle.world_core.specs.Untracked.{untracked}
 use Rattle.world_core.specs.declared.event_kinds.TurnEvent.{TurnEvent}
 use Rattle.world_core.specs.declared.event_kinds.TurnEvent.TheVariants as turn_event
-use Rattle.world_core.proofs.Turns.{lists_still}
 
 -- names stay where none is given
 pub still_named : (keys : Keys) (old new : sim.SimState) → AreSet same_pair [] old.names new.names → HaveOwnersNames keys old → HaveOwnersNames keys new
@@ -62,25 +55,8 @@ pub kept_on : (ws : List (ℕ × Crossing)) (keys : Keys) → ¬ (length ws ≡ 
 kept_on [] keys some = absurd (some refl)
 kept_on (w ∷ ws) keys some = refl
 
--- ---- the state
-
--- the configuration and the keys are others, and no connection is tracked
-abbrev pub IsTurnedTo : State → State → Type 0
-IsTurnedTo m mid = mid ≡ record m { config = mid.config; keys = mid.keys; lists = untracked mid.config }
-
-turned_to : (m mid : State) (turn : Turn) (keys : Keys) → m.lists ≡ untracked m.config → mid ≡ record (turned_by turn m) { keys = keys } → IsTurnedTo m mid
-turned_to m mid turn keys lists is =
-    let left : lists_for turn.next turn.emptied m.lists ≡ untracked turn.next = ap (λ l. lists_for turn.next turn.emptied l) lists ∙ lists_still m.config turn.next turn.emptied in
-    subst (λ (w : State). w ≡ record m { config = w.config; keys = w.keys; lists = untracked w.config }) (sym is) (λ i. record m { config = turn.next; keys = keys; lists = left i })
-
--- that is what turns do
-pub turns_to : (m : State) (event : TurnEvent) (effects : List NetEffect) (mid : State) → m.lists ≡ untracked m.config → Does m (event_of_turn event) effects mid → IsTurnedTo m mid
-turns_to m (turn_event.Edit ops) effects mid lists does = turned_to m mid (edit m.config (next_net m ops.now)) does.keys lists does.state
-turns_to m (turn_event.Bind p c) effects mid lists does = turned_to m mid (bind m.config p c) m.keys lists does.1
-turns_to m (turn_event.AddChassis c) effects mid lists does = turned_to m mid (add_chassis m.config c) m.keys lists does.1
-
 -- a turn has no packet
-pub no_walks : (s : sim.SimState) (event : TurnEvent) (out : SimOut) (new : sim.SimState) → out.walks ≡ [] → Passes s (event_of_turn event) out new
-no_walks s (turn_event.Edit ops) out new none = none
-no_walks s (turn_event.Bind p c) out new none = none
-no_walks s (turn_event.AddChassis c) out new none = none
+pub no_walks : (now : ℕ) (s : sim.SimState) (event : TurnEvent) (out : SimOut) (new : sim.SimState) → out.walks ≡ [] → Passes now s (event_of_turn event) out new
+no_walks now s (turn_event.Edit ops) out new none = none
+no_walks now s (turn_event.Bind p c) out new none = none
+no_walks now s (turn_event.AddChassis c) out new none = none

@@ -12,7 +12,7 @@ use Rattle.std.specs.Ordering.{is_eq, match_ordering, nat_cmp}
 use Rattle.std.specs.declared.cmp.Ordering.{Ordering}
 use Rattle.std.specs.declared.cmp.Ordering.TheVariants.{Less, Equal, Greater}
 use Rattle.chassis_sim.specs.State.{SimState, numbered}
-use Rattle.conn_zones.specs.Zoning.{GivenNumbers}
+use Rattle.conn_zones.specs.Zoning.{Zoned}
 use Rattle.chassis_sim.specs.declared.underlay.WaitingFrame.{WaitingFrame}
 use Rattle.inet_packet.specs.Frame.{frame_of}
 use Rattle.inet_packet.specs.Whole.{IsWhole}
@@ -21,14 +21,14 @@ use Rattle.ovn_base.specs.lists.Among.{Among, here, there}
 use Rattle.ovn_base.proofs.AmongLaws.{among_cases, among_left, among_none, among_right, map_among}
 use Rattle.sim_laws.specs.Effects.{spelled}
 use Rattle.net_model.specs.State.{State}
-use Rattle.sim_laws.specs.Held.{AreHeld, frame_of_crossing}
+use Rattle.sim_laws.specs.Held.{frame_of_crossing}
 use Rattle.sim_laws.specs.Sound.{AreCrossings}
 use Rattle.sim_laws.proofs.WaitingLists.{same_number, numbered_map, removed_map}
 use Rattle.tunnel_keys.specs.Keys.{Keys}
 use Rattle.world_core.specs.FramePackets.{packet_in}
 use Rattle.world_core.specs.Inside.{seen_of}
 use Rattle.world_core.specs.Waiting.{AreWaiting, crossing_of, crossings_of, frame_under, inner_of, names_of}
-use Rattle.world_core.specs.WorldView.{WorldView}
+use Rattle.world_core.specs.WorldView.{AreHeld, WorldView}
 use Rattle.world_core.specs.declared.crossing_names.CrossingNames.{CrossingNames}
 use Rattle.world_core.specs.declared.world.World.TheInside.{Inside}
 use Rattle.world_core.proofs.FramePackets.{packet_in-frame}
@@ -134,25 +134,30 @@ named_waits names frames n = ap (λ l. numbered l n) (sym (names_back names fram
 -- ---- worlds
 
 -- the crossings of a state that is held are those of their names and of the frames that wait
-pub seen_held : (m : State) (zones : GivenNumbers) (s : SimState) (names : List (ℕ × CrossingNames)) → AreCrossings m → AreHeld m zones s → names ≡ all_names m.waiting → crossings_of names s.waiting ≡ m.waiting
+pub seen_held : (m : State) (zones : Zoned) (s : SimState) (names : List (ℕ × CrossingNames)) → AreCrossings m → AreHeld m zones s → names ≡ all_names m.waiting → crossings_of names s.waiting ≡ m.waiting
 seen_held m zones s names crossings held are = ap (λ ns. crossings_of ns s.waiting) are ∙ crossings_held m.keys m.waiting s.waiting crossings.in_order (λ n x among. (crossings.may n x among).whole) held.waiting
 
--- the first of them are so too, where the frames of all wait
-pub seen_front : (m : State) (ws : List (ℕ × Crossing)) (zones : GivenNumbers) (s : SimState) (names : List (ℕ × CrossingNames)) → AreCrossings (record m { waiting = m.waiting ++ ws; next = s.next }) → AreHeld (record m { waiting = m.waiting ++ ws; next = s.next }) zones s
-    → names ≡ all_names m.waiting → crossings_of names s.waiting ≡ m.waiting
-seen_front m ws zones s names crossings held are =
-    ap (λ ns. crossings_of ns s.waiting) are
-    ∙ crossings_back m.keys m.waiting s.waiting (λ n x among. (crossings.may n x (among_left (n, x) m.waiting ws among)).whole)
-    (λ n x among. ap (λ fs. numbered fs n) held.waiting ∙ own_frames m.keys (m.waiting ++ ws) crossings.in_order n x (among_left (n, x) m.waiting ws among))
+module _ (k : State) (first ws : List (ℕ × Crossing)) (s : SimState) (all : k.waiting ≡ first ++ ws) (crossings : AreCrossings k) (frames_are : s.waiting ≡ map (frame_of_crossing k.keys) k.waiting) where
+  sorted : IsStrictlySortedBy nat_cmp (keys_of (first ++ ws))
+  sorted = subst (λ l. IsStrictlySortedBy nat_cmp (keys_of l)) all crossings.in_order
 
--- and the frames of the others wait, each under its number
-pub others_wait : (m : State) (ws : List (ℕ × Crossing)) (zones : GivenNumbers) (s : SimState) (frames : List (ℕ × WaitingFrame)) → AreCrossings (record m { waiting = m.waiting ++ ws; next = s.next }) → AreHeld (record m { waiting = m.waiting ++ ws; next = s.next }) zones s
-    → frames ≡ map (frame_of_crossing m.keys) ws → AreWaiting s frames
-others_wait m ws zones s frames crossings held are n frame among =
-    let back = map_among (frame_of_crossing m.keys) (n, frame) ws (subst (λ l. Among (n, frame) l) are among) in
-    let x = back.0 in
-    let found : numbered s.waiting x.0 ≡ Some (frame_of_crossing m.keys x).1 = ap (λ fs. numbered fs x.0) held.waiting ∙ own_frames m.keys (m.waiting ++ ws) crossings.in_order x.0 x.1 (among_right x m.waiting ws back.1) in
-    subst (λ (v : ℕ × WaitingFrame). numbered s.waiting v.0 ≡ Some v.1) (sym back.2) found
+  frames_of_all : s.waiting ≡ map (frame_of_crossing k.keys) (first ++ ws)
+  frames_of_all = frames_are ∙ ap (λ l. map (frame_of_crossing k.keys) l) all
+
+  -- the first of them are so too, where the frames of all wait
+  pub seen_front : (names : List (ℕ × CrossingNames)) → names ≡ all_names first → crossings_of names s.waiting ≡ first
+  seen_front names are =
+      ap (λ ns. crossings_of ns s.waiting) are
+      ∙ crossings_back k.keys first s.waiting (λ n x among. (crossings.may n x (subst (λ l. Among (n, x) l) (sym all) (among_left (n, x) first ws among))).whole)
+      (λ n x among. ap (λ fs. numbered fs n) frames_of_all ∙ own_frames k.keys (first ++ ws) sorted n x (among_left (n, x) first ws among))
+
+  -- and the frames of the others wait, each under its number
+  pub others_wait : (frames : List (ℕ × WaitingFrame)) → frames ≡ map (frame_of_crossing k.keys) ws → AreWaiting s frames
+  others_wait frames are n frame among =
+      let back = map_among (frame_of_crossing k.keys) (n, frame) ws (subst (λ l. Among (n, frame) l) are among) in
+      let x = back.0 in
+      let found : numbered s.waiting x.0 ≡ Some (frame_of_crossing k.keys x).1 = ap (λ fs. numbered fs x.0) frames_of_all ∙ own_frames k.keys (first ++ ws) sorted x.0 x.1 (among_right x first ws back.1) in
+      subst (λ (v : ℕ × WaitingFrame). numbered s.waiting v.0 ≡ Some v.1) (sym back.2) found
 
 -- ---- whether a frame waits
 

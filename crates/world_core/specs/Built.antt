@@ -1,6 +1,7 @@
--- What is built of edits, kind by kind.
-use Rattle.std.specs.Prelude.{◌&&◌, Bool, true, false, not, List, [], ◌∷◌, Option, Some, None}
-use Rattle.nb_records.specs.Switches.{has_some, is_virtual}
+-- What is built of edits, kind by kind, and of the records.
+use Rattle.std.specs.Prelude.{◌≡◌, ◌&&◌, Bool, true, false, List, [], ◌∷◌, Some}
+use Rattle.nb_records.specs.Network.{Network, empty_network}
+use Rattle.nb_records.specs.Switches.{is_virtual}
 use Rattle.nb_records.specs.declared.change.Change.{Change}
 use Rattle.nb_records.specs.declared.change.Change.TheVariants as change
 use Rattle.nb_records.specs.declared.change.Op.{Op}
@@ -10,6 +11,10 @@ use Rattle.nb_records.specs.declared.kinds.Kind.TheVariants as kind
 use Rattle.nb_records.specs.declared.record.Record.{Record}
 use Rattle.nb_records.specs.declared.record.Record.TheVariants as row
 use Rattle.nb_records.specs.declared.switch.SwitchPort.{SwitchPort}
+use Rattle.ovn_base.specs.declared.name.Name.{Name}
+use Rattle.ovn_base.specs.names.ByName.{at}
+
+-- ---- edits
 
 abbrev pub is_built_kind : Kind → Bool
 is_built_kind kind.Switch = true
@@ -24,15 +29,11 @@ is_built_kind kind.Nat = false
 is_built_kind kind.LoadBalancer = false
 is_built_kind kind.StaticMac = false
 
--- a virtual port that is enabled, without port security
-abbrev pub is_built_port : SwitchPort → Bool
-is_built_port port = is_virtual port && port.enabled && not (has_some port.port_security)
-
 abbrev pub is_built_record : Record → Bool
 is_built_record (row.Switch switch) = true
 is_built_record (row.Router router) = false
 is_built_record (row.RouterPort port) = false
-is_built_record (row.SwitchPort port) = is_built_port port
+is_built_record (row.SwitchPort port) = is_virtual port
 is_built_record (row.AddressSet set) = true
 is_built_record (row.PortGroup group) = true
 is_built_record (row.Acl rule) = false
@@ -41,17 +42,11 @@ is_built_record (row.Nat row) = false
 is_built_record (row.LoadBalancer balancer) = false
 is_built_record (row.StaticMac row) = false
 
--- it isn't given, or passes the test
-abbrev pub passes_if_given : {X : Type 0} → (X → Bool) → Option X → Bool
-passes_if_given test None = true
-passes_if_given test (Some x) = test x
-
--- no port is disabled, or given port security
 abbrev pub is_built_change : Change → Bool
 is_built_change change.Switch = true
 is_built_change change.Router = false
 is_built_change (change.RouterPort mac networks peer) = false
-is_built_change (change.SwitchPort addresses port_security enabled) = passes_if_given (λ entries. not (has_some entries)) port_security && passes_if_given (λ b. b) enabled
+is_built_change (change.SwitchPort addresses port_security enabled) = true
 is_built_change (change.AddressSet addresses) = true
 is_built_change (change.PortGroup ports) = true
 is_built_change (change.Acl priority matching action) = false
@@ -70,3 +65,10 @@ is_built_op (Health balancer backend online) = false
 abbrev pub is_built_edit : List Op → Bool
 is_built_edit [] = true
 is_built_edit (o ∷ ops) = is_built_op o && is_built_edit ops
+
+-- ---- records
+
+-- there are no records but switches, virtual ports, address sets and port groups
+pub record IsBuilt (net : Network) : Type 0 where
+  pub others : net ≡ record empty_network { switches = net.switches; switch_ports = net.switch_ports; address_sets = net.address_sets; port_groups = net.port_groups }
+  pub ports : (q : Name) (port : SwitchPort) → at net.switch_ports q ≡ Some port → is_virtual port ≡ true

@@ -4,8 +4,8 @@ use Rattle.inet_packet.specs.Frame.{frame_of}
 use Rattle.inet_packet.specs.Whole.{IsWhole}
 use Rattle.inet_packet.specs.declared.packet.Packet.{Packet}
 use Rattle.world_core.specs.declared.frames.Entering.{Entering}
-use Rattle.world_core.specs.declared.frames.Entering.TheVariants.{Whole, Short, Big, BadIp4, Arp}
-use Rattle.world_core.specs.Frames.{carries_arp, is_bad_ip4, is_too_big, is_too_short}
+use Rattle.world_core.specs.declared.frames.Entering.TheVariants.{Whole, Short, Big, BadIp4}
+use Rattle.world_core.specs.Frames.{is_bad_ip4, is_too_big, is_too_short}
 
 -- neither too short nor too big
 pub record IsOfLength (frame : List ℕ) : Type 0 where
@@ -17,12 +17,11 @@ pub record IsGood (frame : List ℕ) : Type 0 where
   pub of_length : IsOfLength frame
   pub not_bad : is_bad_ip4 frame ≡ false
 
--- that, and the frame of this packet, which isn't one of ARP
+-- that, and the frame of this packet
 pub record IsOfPacket (frame : List ℕ) (p : Packet) : Type 0 where
   pub frame_is : frame_of p ≡ frame
   pub whole : IsWhole p
   pub good : IsGood frame
-  pub no_arp : carries_arp frame ≡ false
 
 -- the frame is what was read; what comes first is told
 abbrev pub IsRead : List ℕ → Entering → Type 0
@@ -30,4 +29,3 @@ IsRead frame (Whole p) = IsOfPacket frame p
 IsRead frame Short = is_too_short frame ≡ true
 IsRead frame Big = (is_too_short frame ≡ false) × (is_too_big frame ≡ true)
 IsRead frame BadIp4 = IsOfLength frame × (is_bad_ip4 frame ≡ true)
-IsRead frame Arp = IsGood frame × (carries_arp frame ≡ true)

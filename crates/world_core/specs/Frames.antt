@@ -1,4 +1,4 @@
--- What is wrong with the frame of a packet that would enter, and which frames carry ARP.
+-- What is wrong with the frame of a packet that would enter.
 use Rattle.std.specs.Prelude.{◌/◌, ◌&&◌, ◌==◌, ℕ, Bool, not, List, length, drop, take, nat_le, nat_lt, slice_index}
 use Rattle.std.specs.Cmp.Lexicographic.{pointwise}
 use Rattle.std.proofs.Math.Dec.{eqb as nat_eq}
@@ -26,7 +26,3 @@ is_too_big frame = nat_lt MAX_FRAME (length frame)
 
 abbrev pub is_bad_ip4 : List ℕ → Bool
 is_bad_ip4 frame = ether_type_at frame == 0x0800 && not (is_ip4_bytes (drop 14 frame))
-
--- of the type of ARP, and an ARP packet
-abbrev pub carries_arp : List ℕ → Bool
-carries_arp frame = ether_type_at frame == 0x0806 && is_arp_bytes (drop 14 frame)

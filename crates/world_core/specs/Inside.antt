@@ -1,17 +1,17 @@
 -- How a world is kept: its view, and what holds of it between events.
-use Rattle.world_core.specs.Untracked.{untracked}
+use Rattle.sim_laws.specs.journeys.SeenLists.{lists_seen}
 use Rattle.world_core.specs.Waiting.{crossings_of}
 use Rattle.std.specs.Prelude.{◌≡◌, true}
 use Rattle.world_core.specs.declared.world.World.TheInside.{Inside}
 use Rattle.world_core.specs.WorldView.{WorldView, IsSound}
 
--- no connection is tracked, and no event moves the clock yet
+-- connection lists are those in the zones of who is at home; no event moves the clock yet
 abbrev pub seen_of : Inside → WorldView
 seen_of w = record {
   state = record {
     config = w.setup.ground.config;
     keys = w.setup.ground.keys;
-    lists = untracked w.setup.ground.config;
+    lists = lists_seen w.setup.ground.zones w.sim.state.zones;
     waiting = crossings_of w.crossings.entries w.sim.state.waiting;
     next = w.sim.state.next;
     clock = 0;

@@ -20,7 +20,6 @@ pub mod Step
 pub mod StepParts
 pub mod Touched
 pub mod Turning
-pub mod Untracked
 pub mod WorldView
 pub mod Zones
 pub mod FramePackets

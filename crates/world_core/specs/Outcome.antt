@@ -25,7 +25,7 @@ pub record IsAccepted (old : WorldView) (event : Event) (before after : List ℕ
   pub admitted : refusal old.state event ≡ None
   pub effects : List NetEffect
   pub step : net.NetworkStep old.state event effects new.state
-  pub passed : Passes old.sim event (record { effects = effects; walks = new.walks }) new.sim
+  pub passed : Passes old.state.clock old.sim event (record { effects = effects; walks = new.walks }) new.sim
   pub zones : Rezones event old.zones new.zones
   pub text : after ≡ before ++ accepted_lines (event_count old.state + 1) effects (matched new.walks)
 

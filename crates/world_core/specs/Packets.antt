@@ -2,7 +2,7 @@
 use Rattle.inet_packet.specs.Frame.{frame_of}
 use Rattle.inet_packet.specs.Whole.{IsWhole}
 use Rattle.inet_packet.specs.declared.packet.Packet as inet
-use Rattle.std.specs.Prelude.{◌≡◌, ◌++◌, ℕ, Bool, List, [], ◌∷◌, cond, map, Option, Some, None}
+use Rattle.std.specs.Prelude.{◌≡◌, ◌++◌, ◌+◌, ℕ, Bool, List, [], ◌∷◌, cond, length, map, Option, Some, None}
 use Rattle.std.proofs.Math.Dec.{eqb as nat_eq}
 use Rattle.std.specs.List.Sorted.{IsStrictlySortedBy}
 use Rattle.std.specs.Map.{keys_of}
@@ -19,14 +19,16 @@ use Rattle.chassis_sim.specs.declared.out.SimOut.{SimOut}
 use Rattle.nb_records.specs.declared.switch.SwitchPort.{SwitchPort}
 use Rattle.switch_engine.specs.declared.effect.NetEffect.{NetEffect}
 use Rattle.physical_flows.specs.GroupKeys.{group_key}
-use Rattle.sim_laws.specs.Effects.{spelled}
+use Rattle.sim_laws.specs.Effects.{effects_of, spelled}
 use Rattle.sim_laws.specs.Naming.{HasPortKey}
-use Rattle.sim_laws.specs.Passing.{AreDrained, GoesIn, clock}
-use Rattle.sim_laws.specs.Refinement.{IsAmidst}
-use Rattle.world_core.specs.WorldView.{WorldView}
-use Rattle.sim_laws.specs.Held.{AreHeld, frame_of_crossing}
+use Rattle.sim_laws.specs.Passing.{AreDrained}
+use Rattle.sim_laws.specs.journeys.Moves.{MovesFor, AreMoved}
+use Rattle.sim_laws.specs.journeys.UnderWay.{IsUnderWay}
+use Rattle.world_core.specs.WorldView.{WorldView, AreHeld}
+use Rattle.sim_laws.specs.Held.{frame_of_crossing}
+use Rattle.net_model.specs.Journey.{enter_one, arrive_one}
 use Rattle.net_model.specs.State.{State}
-use Rattle.sim_laws.specs.PacketSteps.{Enters, Arrives, Drains}
+use Rattle.net_model.specs.Trail.{End, Lists, crossings_in}
 use Rattle.net_model.specs.declared.crossing.Aim.{Aim}
 use Rattle.net_model.specs.declared.crossing.Aim.TheVariants.{ToPort, ToGroup}
 use Rattle.net_model.specs.declared.crossing.Crossing.{Crossing}
@@ -41,28 +43,33 @@ pub record IsPacketOf (packet : inet.Packet) (frame : List ℕ) : Type 0 where
 abbrev pub most_sent : ℕ
 most_sent = MAX_CHASSIS
 
--- The packets did this on the simulated chassis, and the effects are those of the network; the world holds the state that the network
--- is in then, and nothing else of it changed.
-pub record HasPassed (old : WorldView) (before after : SimOut) (new : WorldView) (Passed : held.SimState → SimOut → SimOut → held.SimState → Type 0) (Happens : State → List NetEffect → State → Type 0) : Type 0 where
+-- the state with other connection lists and crossings
+abbrev pub state_with : State → Lists → List (ℕ × Crossing) → ℕ → State
+state_with m lists waiting next = record m { lists = lists; waiting = waiting; next = next }
+
+-- The packets did this on the simulated chassis, and their effects are those of the ends to which the network takes them; the world holds the state
+-- that it leaves, and nothing else of it changed.
+pub record HasPassed (old : WorldView) (before after : SimOut) (new : WorldView) (Passed : held.SimState → SimOut → SimOut → held.SimState → Type 0) (Moved : State → List End → State → Type 0) : Type 0 where
   pub passed : Passed old.sim before after new.sim
-  pub effects : List NetEffect
-  pub all : after.effects ≡ before.effects ++ effects
-  pub happens : Happens old.state effects new.state
-  pub amidst : IsAmidst new.state new.zones most_sent
-  pub held : AreHeld new.state new.zones.numbers new.sim
+  pub ends : List End
+  pub effects : after.effects ≡ before.effects ++ effects_of old.state.keys old.state.next ends
+  pub moved : Moved old.state ends new.state
+  pub still : new.state ≡ state_with old.state new.state.lists new.state.waiting (old.state.next + length (crossings_in ends))
+  pub under_way : IsUnderWay new.state new.zones most_sent
+  pub held : AreHeld new.state new.zones new.sim
   pub rest : new ≡ record old { state = new.state; sim = new.sim }
 
 -- a packet went in at a port
-abbrev pub HasEntered : WorldView → Name → List ℕ → SimOut → SimOut → WorldView → Type 0
-HasEntered old p frame before after new = HasPassed old before after new (λ s b a t. GoesIn clock s p frame b a t) (λ m effects k. Enters m p frame effects k)
+abbrev pub HasEntered : WorldView → Name → inet.Packet → SimOut → SimOut → WorldView → Type 0
+HasEntered old p packet before after new = HasPassed old before after new (λ s b a t. sim.IsInjected any_legal s p old.state.clock packet b a t) (λ m ends k. MovesFor (enter_one p packet) m ends k)
 
 -- a frame arrived
 abbrev pub HasArrived : WorldView → ℕ → Bool → SimOut → SimOut → WorldView → Type 0
-HasArrived old n keep before after new = HasPassed old before after new (λ s b a t. sim.IsArrived any_legal s n keep clock b a t) (λ m effects k. Arrives m n keep effects k)
+HasArrived old n keep before after new = HasPassed old before after new (λ s b a t. sim.IsArrived any_legal s n keep old.state.clock b a t) (λ m ends k. MovesFor (arrive_one n keep) m ends k)
 
 -- the waiting frames arrived, up to so many
 abbrev pub AreGone : ℕ → WorldView → SimOut → SimOut → WorldView → Type 0
-AreGone most old before after new = HasPassed old before after new (λ s b a t. AreDrained clock most s b a t) (λ m effects k. Drains most m effects k)
+AreGone most old before after new = HasPassed old before after new (λ s b a t. AreDrained old.state.clock most s b a t) (λ m ends k. AreMoved most m ends k)
 
 -- these crossings, each with its number, are those of the frames among the effects of a packet from the port
 pub record AreSentBy (m : State) (p : Name) (effects : List NetEffect) (crossings : List (ℕ × Crossing)) : Type 0 where

@@ -18,7 +18,7 @@ use Rattle.net_model.specs.Config.{is_chassis}
 use Rattle.world_core.specs.Built.{is_built_edit}
 use Rattle.world_core.specs.Causes.{cause_if}
 use Rattle.world_core.specs.Editing.{next_net}
-use Rattle.world_core.specs.Frames.{is_too_short, is_too_big, is_bad_ip4, carries_arp}
+use Rattle.world_core.specs.Frames.{is_too_short, is_too_big, is_bad_ip4}
 use Rattle.world_core.specs.KeyCauses.{KeyLack, datapath_keys, port_keys, key_lack}
 
 -- ---- what is built
@@ -72,15 +72,12 @@ no_frame m n = cause_if (not (is_some (numbered m.waiting n))) (why.NoFrame n)
 abbrev pub too_many_wait : State → Option Refusal
 too_many_wait m = cause_if (nat_le MAX_WAITING (length m.waiting)) why.TooManyFrames
 
--- a frame that is none; and one of ARP, which isn't built
+-- a frame that is none
 abbrev pub frame_fault : List ℕ → Option Refusal
 frame_fault frame = or_else (cause_if (is_too_short frame) why.TooShort) (or_else (cause_if (is_too_big frame) why.TooBig) (cause_if (is_bad_ip4 frame) why.BadIp4))
 
-abbrev pub unbuilt_frame : List ℕ → Option Refusal
-unbuilt_frame frame = cause_if (carries_arp frame) why.NotBuilt
-
 abbrev pub cause_of_entry : State → Name → List ℕ → Option Refusal
-cause_of_entry m port frame = or_else (no_port m port) (or_else (not_bound m port) (or_else (frame_fault frame) (or_else (unbuilt_frame frame) (too_many_wait m))))
+cause_of_entry m port frame = or_else (no_port m port) (or_else (not_bound m port) (or_else (frame_fault frame) (too_many_wait m)))
 
 -- the first cause that holds
 abbrev pub cause : State → Event → Option Refusal

@@ -7,31 +7,30 @@ use Rattle.event_lines.specs.declared.refusal.StepFault.{StepFault}
 use Rattle.event_lines.specs.declared.refusal.StepFault.TheVariants.{Refused, Memory}
 use Rattle.switch_engine.specs.declared.effect.NetEffect.{NetEffect}
 use Rattle.switch_engine.specs.declared.walk.Walk.{Walk}
-use Rattle.sim_laws.specs.Consistent.{IsConsistent}
 use Rattle.world_core.specs.Outcome.{matched, IsAccepted, IsRefused}
 use Rattle.world_core.specs.EventPasses.{Passes}
-use Rattle.world_core.specs.WorldView.{WorldView}
-use Rattle.sim_laws.specs.Held.{AreHeld}
+use Rattle.world_core.specs.WorldView.{WorldView, IsConsistent, AreHeld}
 use Rattle.net_model.specs.State.{empty}
 use Rattle.world_core.specs.Refusing.{refusal}
 use Rattle.world_core.specs.Step as net
 use Rattle.world_core.specs.declared.world.Done.{Done}
-use Rattle.world_core.specs.Zones.{no_zones, Rezones}
+use Rattle.world_core.specs.Zones.{Rezones}
+use Rattle.sim_laws.specs.journeys.First.{nobody_home}
 
 -- no record, no chassis, no event
 abbrev pub new_world : WorldView
-new_world = record { state = empty; zones = no_zones; sim = nothing_held; walks = []; whole = true }
+new_world = record { state = empty; zones = nobody_home; sim = nothing_held; walks = []; whole = true }
 
 -- a sound world that takes an event
 pub record IsTaken (w : WorldView) : Type 0 where
   pub consistent : IsConsistent w.state w.zones
-  pub held : AreHeld w.state w.zones.numbers w.sim
+  pub held : AreHeld w.state w.zones w.sim
   pub taken : w.whole ≡ false
 
 -- what an accepted event leaves, and how many flows its packets matched
 pub record IsDone (old : WorldView) (event : Event) (effects : List NetEffect) (walks : List Walk) (count : ℕ) (new : WorldView) : Type 0 where
   pub step : net.NetworkStep old.state event effects new.state
-  pub passed : Passes old.sim event (record { effects = effects; walks = walks }) new.sim
+  pub passed : Passes old.state.clock old.sim event (record { effects = effects; walks = walks }) new.sim
   pub counts : count ≡ matched walks
   pub zones : Rezones event old.zones new.zones
   pub now : IsTaken new

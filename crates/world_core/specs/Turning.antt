@@ -14,7 +14,7 @@ use Rattle.event_lines.specs.declared.refusal.Refusal.{Refusal}
 use Rattle.event_lines.specs.declared.refusal.StepFault.{StepFault}
 use Rattle.event_lines.specs.declared.refusal.StepFault.TheVariants.{Refused, Memory}
 use Rattle.net_model.specs.State.{State, event_count, finished}
-use Rattle.sim_laws.specs.Consistent.{IsConsistent}
+use Rattle.world_core.specs.WorldView.{IsConsistent}
 use Rattle.sim_laws.specs.Held.{HaveOwnersNames, frame_of_crossing}
 use Rattle.switch_engine.specs.declared.effect.NetEffect.{NetEffect}
 use Rattle.tuple_space.specs.declared.space.TupleSpace.{TupleSpace}
@@ -36,7 +36,8 @@ use Rattle.world_core.specs.Ground.{GroundView, changed, ground_of}
 use Rattle.world_core.specs.Refusing.{refusal}
 use Rattle.world_core.specs.Setup.{SetupView, IsSetupPatch, IsTurnOfTables}
 use Rattle.world_core.specs.Step.{Does}
-use Rattle.world_core.specs.Untracked.{untracked}
+use Rattle.net_model.specs.Transition as net
+use Rattle.sim_laws.specs.journeys.TurnedZones.{IsTurnOfZones, turned_with}
 use Rattle.world_core.specs.Zones.{Rezones}
 use Rattle.world_core.specs.declared.setup.Turn.{Turn}
 
@@ -44,26 +45,27 @@ use Rattle.world_core.specs.declared.setup.Turn.{Turn}
 pub record MayTurn (g : GroundView) (n : ℕ) (event : Event) (m : State) : Type 0 where
   pub ground : ground_of m g.zones ≡ g
   pub number : n ≡ event_count m + 1
-  pub untracked_lists : m.lists ≡ untracked m.config
   pub consistent : IsConsistent m g.zones
   pub few : event_count m < 2 ^ 42
   pub in_grammar : IsEventInGrammar event
 
--- the event turns the state: what it does to the network, with the ground after it, and what the simulated chassis are told
+-- The event turns the state: what it does to the network, with the ground after it, and what the simulated chassis are told.
 pub record IsTurned (m : State) (homes : Zoned) (event : Event) (effects : List NetEffect) (change : SimChange TupleSpace) (after : GroundView) : Type 0 where
   pub allowed : refusal m event ≡ None
-  pub mid : State
-  pub does : Does m event effects mid
-  pub ground : ground_of mid after.zones ≡ after
-  pub consistent : IsConsistent (finished mid) after.zones
-  pub unretired : held.settled mid.keys ≡ mid.keys
+  -- the turn of the configuration, and the keys with it
+  pub turn : net.Turn
+  pub keys : held.Keys
+  pub does : Does m event effects (turned_with turn keys m)
+  pub ground : ground_of (turned_with turn keys m) after.zones ≡ after
+  pub consistent : IsConsistent (finished (turned_with turn keys m)) after.zones
+  pub unretired : held.settled keys ≡ keys
   pub zones : Rezones event homes after.zones
   -- the frames that wait are spelled as before
-  pub frames : map (frame_of_crossing mid.keys) m.waiting ≡ map (frame_of_crossing m.keys) m.waiting
-  pub waiting : mid.waiting ≡ m.waiting
-  pub next : mid.next ≡ m.next
-  pub bindings : (q : Name) → set_in_turn same_name change.bound q (at m.config.bindings q) ≡ at mid.config.bindings q
-  pub names : (old new : SimState) → HaveOwnersNames m.keys old → AreSet same_pair (map given_name change.names) old.names new.names → HaveOwnersNames mid.keys new
+  pub frames : map (frame_of_crossing keys) m.waiting ≡ map (frame_of_crossing m.keys) m.waiting
+  pub bindings : (q : Name) → set_in_turn same_name change.bound q (at m.config.bindings q) ≡ at turn.next.bindings q
+  pub names : (old new : SimState) → HaveOwnersNames m.keys old → AreSet same_pair (map given_name change.names) old.names new.names → HaveOwnersNames keys new
+  -- everyone who has a zone then keeps it with its list, or begins with an empty one
+  pub lists : IsTurnOfZones m turn homes.numbers after.zones.numbers change.emptied
 
 -- the records and the keys of an edit are planned: nothing is wrong with it, and there are keys for who comes
 pub record IsPlannedEdit (g : GroundView) (n : ℕ) (ops : List Op) (plan : EditPlan) (keys : held.Keys) : Type 0 where
@@ -73,9 +75,10 @@ pub record IsPlannedEdit (g : GroundView) (n : ℕ) (ops : List Op) (plan : Edit
   pub after : IsAfter g.keys plan.added plan.removed keys
   pub enough : HasKeys g.keys plan.added plan.removed
 
--- nobody is bound or named yet, and nothing is told
+-- nobody is bound or named yet, no zone is emptied, and nothing is told
 pub record IsBare (turn : Turn) : Type 0 where
   pub bound : turn.sim.bound ≡ []
+  pub emptied : turn.sim.emptied ≡ []
   pub names : turn.sim.names ≡ []
   pub effects : turn.effects ≡ []
 

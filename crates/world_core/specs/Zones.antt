@@ -9,10 +9,6 @@ use Rattle.conn_zones.specs.declared.change.HomeChange.{HomeChange}
 use Rattle.edit_reader.specs.declared.event.Event.{Event}
 use Rattle.edit_reader.specs.declared.event.Event.TheVariants.{Edit, Bind, Unbind, AddChassis, RemoveChassis, Keys, Health, Clock, Inject, Deliver, Lose, Repeat, Drain, Packet, Unread}
 
--- nobody is at home anywhere
-abbrev pub no_zones : Zoned
-no_zones = record { homes = record { ports = []; routers = [] }; numbers = record { ports = []; dnat = []; snat = [] } }
-
 -- the port is at home on the chassis from now on
 abbrev pub home_change : Name → Name → HomeChange
 home_change p chassis = record { ports = (p, Some chassis) ∷ []; routers = [] }

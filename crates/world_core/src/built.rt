@@ -1,11 +1,11 @@
 //! What is built of edits.
-ghost use Rattle.std.specs.Prelude.{◌≡◌, not, is_none};
-ghost use Rattle.world_core.specs.Built.{is_built_change, is_built_edit, is_built_kind, is_built_op, is_built_port, is_built_record};
+ghost use Rattle.std.specs.Prelude.{◌≡◌};
+ghost use Rattle.world_core.specs.Built.{is_built_change, is_built_edit, is_built_kind, is_built_op, is_built_record};
 
 use nb_records::change::{Change, Op};
 use nb_records::kinds::Kind;
 use nb_records::record::Record;
-use nb_records::switch::{PortKind, SwitchPort};
+use nb_records::switch::PortKind;
 
 fn is_built_kind(kind: Kind) -> bool
     ensures { result ≡ is_built_kind kind }
@@ -22,21 +22,11 @@ fn is_built_kind(kind: Kind) -> bool
     }
 }
 
-// The port is virtual and enabled, without port security.
-fn is_built_port(port: &SwitchPort) -> bool
-    ensures { result ≡ is_built_port port.now }
-{
-    match port.kind {
-        PortKind::Virtual => port.enabled && port.port_security.is_empty(),
-        PortKind::Router => false,
-    }
-}
-
 fn is_built_record(row: &Record) -> bool
     ensures { result ≡ is_built_record row.now }
 {
     match row {
-        Record::SwitchPort(port) => is_built_port(port),
+        Record::SwitchPort(port) => matches!(port.kind, PortKind::Virtual),
         Record::Switch(_) | Record::AddressSet(_) | Record::PortGroup(_) => true,
         Record::Router(_)
         | Record::RouterPort(_)
@@ -48,23 +38,14 @@ fn is_built_record(row: &Record) -> bool
     }
 }
 
-// No port is disabled, or given port security.
 fn is_built_change(change: &Change) -> bool
     ensures { result ≡ is_built_change change.now }
 {
     match change {
-        Change::SwitchPort {
-            port_security,
-            enabled,
-            ..
-        } => {
-            let is_open = match port_security {
-                Some(entries) => entries.is_empty(),
-                None => true,
-            };
-            is_open && enabled.unwrap_or(true)
-        }
-        Change::Switch | Change::AddressSet { .. } | Change::PortGroup { .. } => true,
+        Change::Switch
+        | Change::SwitchPort { .. }
+        | Change::AddressSet { .. }
+        | Change::PortGroup { .. } => true,
         Change::Router
         | Change::RouterPort { .. }
         | Change::Acl { .. }

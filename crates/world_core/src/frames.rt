@@ -1,11 +1,10 @@
 //! The frames of packets that would enter.
-ghost use Rattle.std.specs.Prelude.{◌≡◌, ◌↔◌, IfOk, IsTrue};
-ghost use Rattle.inet_packet.specs.Rewrites.{IsArp};
+ghost use Rattle.std.specs.Prelude.{IfOk};
 ghost use Rattle.world_core.specs.FrameReading.{IsRead};
 
 use inet_packet::decode::decode;
 use inet_packet::frame::FrameFault;
-use inet_packet::packet::{Body, Packet};
+use inet_packet::packet::Packet;
 use ovn_base::memory::NoMemory;
 use std::alloc::Global;
 
@@ -20,15 +19,6 @@ pub(crate) enum Entering {
     Big,
     /// A frame of the type of IPv4 with no IPv4 packet.
     BadIp4,
-    /// A frame that carries ARP, which isn't built.
-    Arp,
-}
-
-// Whether the packet is one of ARP whose body is read.
-fn is_arp(packet: &Packet) -> bool
-    ensures { IsTrue result ↔ IsArp packet.now.body }
-{
-    matches!(packet.body, Body::Arp(_))
 }
 
 /// Reads the frame of a packet that would enter.
@@ -36,7 +26,6 @@ pub(crate) fn read_entering(alloc: Global, frame: &[u8]) -> Result<Entering, NoM
     ensures { IfOk result (IsRead frame.now) }
 {
     match decode(alloc, frame) {
-        Ok(packet) if is_arp(&packet) => Ok(Entering::Arp),
         Ok(packet) => Ok(Entering::Whole(packet)),
         Err(FrameFault::TooShort) => Ok(Entering::Short),
         Err(FrameFault::TooBig) => Ok(Entering::Big),

@@ -7,7 +7,7 @@ ghost use Rattle.net_model.specs.State.{empty};
 ghost use Rattle.ovn_base.specs.names.ByName.{at};
 ghost use Rattle.world_core.specs.Ground.{basis_in, changed, ground_of, IsChangeOf};
 ghost use Rattle.world_core.specs.Refusing.{is_virtual_port};
-ghost use Rattle.world_core.specs.Zones.{no_zones};
+ghost use Rattle.sim_laws.specs.journeys.First.{nobody_home};
 
 use conn_zones::zones::{ConnZones, ZonePatch};
 use nb_edits::edit::apply;
@@ -58,7 +58,7 @@ pub(crate) struct GroundChange {
 impl Ground {
     /// No record, no chassis, no key, and nobody at home anywhere.
     pub(crate) fn new(alloc: Global) -> Result<Ground, NoMemory>
-        ensures { IfOk result (λ g. g ≡ ground_of empty no_zones) }
+        ensures { IfOk result (λ g. g ≡ ground_of empty nobody_home) }
     {
         Ok(Ground {
             records: Records::new(alloc)?,

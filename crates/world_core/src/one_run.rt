@@ -1,26 +1,18 @@
 //! Events and picks have one run.
 ghost use Rattle.std.specs.Prelude.{◌≡◌, List};
-ghost use Rattle.chassis_sim.specs.State as sim;
-ghost use Rattle.chassis_sim.specs.declared.out.SimOut.{SimOut};
 ghost use Rattle.edit_reader.specs.declared.event.Event.{Event};
 ghost use Rattle.event_lines.specs.Picks.{Pick, picks_of};
 ghost use Rattle.switch_engine.specs.declared.effect.NetEffect.{NetEffect};
-ghost use Rattle.world_core.specs.EventPasses.{Passes};
 ghost use Rattle.world_core.specs.Picks.{Fate, Run};
-ghost use Rattle.world_core.specs.WorldView.{IsSound, WorldView};
 ghost use Rattle.net_model.specs.State.{State};
 ghost use Rattle.world_core.specs.Step.{NetworkStep};
 
 /// An event and what was picked for it, keys and backends and source ports, determine its effects and the state after it. So
-/// events and picks determine a run: which events are refused and why, the effects of the others, and the states. In sound worlds
-/// of one state and with the same zones, an event also matches the same flows.
+/// events and picks determine a run: which events are refused and why, the effects of the others, and the states.
 pub fn one_run()
     ensures step { (m : State) (event : Event) (effects others : List NetEffect) (after later : State)
         → NetworkStep m event effects after → NetworkStep m event others later
         → picks_of effects ≡ picks_of others → (effects ≡ others) × (after ≡ later) }
     ensures run { (m : State) (events : List Event) (picks : List Pick) (fates others : List Fate) (last end : State)
         → Run m events picks fates last → Run m events picks others end → (fates ≡ others) × (last ≡ end) }
-    ensures walks { (one two : WorldView) (event : Event) (out more : SimOut) (new other : sim.SimState)
-        → IsSound one → IsSound two → one.state ≡ two.state → one.zones ≡ two.zones
-        → Passes one.sim event out new → Passes two.sim event more other → out.walks ≡ more.walks }
 {}

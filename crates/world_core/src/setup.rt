@@ -1,5 +1,6 @@
-//! The ground of the tables, the flows of each chassis by unit, and the turns of both.
-ghost use Rattle.std.specs.Prelude.{◌≡◌, IfErr, IfOk, None, [], ◌∷◌, option_map};
+//! The ground of the tables, the flows of each chassis, and the turns of both.
+ghost use Rattle.std.specs.Prelude.{◌≡◌, ◌≤◌, IfErr, IfOk, IsSome, None, [], map, option_map};
+ghost use Rattle.std.specs.Map.{keys_of};
 ghost use Rattle.std.specs.BTreeSet.{insert_key};
 ghost use Rattle.std.specs.Cmp.Lexicographic.{slice_cmp};
 ghost use Rattle.std.specs.Ordering.{nat_cmp};
@@ -8,6 +9,8 @@ ghost use Rattle.event_lines.specs.declared.refusal.Refusal.TheVariants as why;
 ghost use Rattle.nb_edits.specs.OpFaults.{fault_of};
 ghost use Rattle.nb_edits.specs.Plans.{StandsFor};
 ghost use Rattle.nb_records.specs.Editing.{accepted};
+ghost use Rattle.northd_core.specs.Lowering.{CanCompile, HaveLowered, IsLoweredIn, IsLoweredPlan, Lowering};
+ghost use Rattle.northd_core.specs.Plans.{AreListed};
 ghost use Rattle.net_model.specs.State.{State, empty};
 ghost use Rattle.ovn_base.specs.declared.name.Name.{Name};
 ghost use Rattle.ovn_base.specs.lists.Among.{Among};
@@ -15,20 +18,19 @@ ghost use Rattle.ovn_base.specs.lists.Once.{EachOnce};
 ghost use Rattle.ovn_base.specs.names.ByName.{at};
 ghost use Rattle.physical_flows.specs.ChassisFlows.{AreExactly};
 ghost use Rattle.physical_flows.specs.Compiling.{basis_of};
-ghost use Rattle.physical_flows.specs.RecordKeys.{HaveKeys};
-ghost use Rattle.physical_flows.specs.Tables.{TableFlow};
+ghost use Rattle.physical_flows.specs.Around.{around_rows};
+ghost use Rattle.physical_flows.specs.Switched.{IsSwitched};
 ghost use Rattle.physical_flows.specs.UnitFlows.{HaveRows, rows_held};
-ghost use Rattle.physical_flows.specs.Units.{ChangeOnly, unit_rows};
-ghost use Rattle.physical_flows.specs.Valid.{IsValid};
 ghost use Rattle.tunnel_keys.specs.Keys.{settled};
 ghost use Rattle.tunnel_keys.specs.Causes.{HasKeys};
 ghost use Rattle.tunnel_keys.specs.Edits.{IsAfter, IsKeyEdit};
 ghost use Rattle.tuple_space.specs.Bunches.{flows_in};
 ghost use Rattle.world_core.specs.EventKinds.{event_of_turn};
-ghost use Rattle.world_core.specs.Ground.{changed, ground_of, IsChangeOf};
-ghost use Rattle.world_core.specs.Setup.{AreTouched, ComesOver, HasTables, IsSetupPatch, IsTurnOfTables, units_of};
+ghost use Rattle.world_core.specs.Ground.{GroundView, changed, ground_of, IsChangeOf};
+ghost use Rattle.world_core.specs.Setup.{AreTouched, ComesOver, IsFlowBy, IsLoweredOrDone, IsSetupPatch, IsTurnOfTables, every_delta, joined, lowering_in, units_of};
 ghost use Rattle.world_core.specs.Turning.{IsBare, IsNoTurn, IsPlannedEdit, IsTurn, LacksFor, MayTurn, Tells, fault_of_keys};
-ghost use Rattle.world_core.specs.Zones.{home_change, no_zones};
+ghost use Rattle.sim_laws.specs.journeys.First.{nobody_home};
+ghost use Rattle.world_core.specs.Zones.{home_change};
 
 use crate::built::is_built_edit;
 use crate::edited::{key_effects, key_names, touched_units};
@@ -39,15 +41,20 @@ use crate::stores::{Stores, apply_each, deltas_of, prepare_each};
 use chassis_sim::change::SimChange;
 use conn_zones::change::HomeChange;
 use event_lines::refusal::{Refusal, StepFault};
+use flow_table::exact::exact_flow_clone;
+use flow_table::flow::Flow;
 use indexmap::IndexMap;
 use nb_edits::edit::plan;
 use nb_edits::plan::{EditFault, EditPlan};
 use nb_records::change::Op;
 use nb_records::records::Records;
+use northd_core::lowered::{LoweredFlows, LoweredPlan};
+use ovn_base::delta::Delta;
 use ovn_base::limits::MAX_CHASSIS;
 use ovn_base::list::List;
 use ovn_base::memory::NoMemory;
 use ovn_base::name::Name;
+use ovn_base::steps::Steps;
 use physical_flows::compile::Maps;
 use physical_flows::unit::FlowUnit;
 use physical_flows::unit_flows::{TablePatch, UnitFlows};
@@ -58,10 +65,12 @@ use switch_engine::effect::NetEffect;
 use tunnel_keys::fault::KeyFault;
 use tunnel_keys::store::{KeyPlan, KeyStore};
 
-/// What the tables of the chassis follow from, and the flows of each chassis by unit: each unit has its rows there.
+/// What the tables of the chassis follow from, the flows that every chassis has of the network, and those of each chassis around the
+/// pipelines: each unit has its rows there.
 #[derive(Drop)]
 pub(crate) struct Setup {
     ground: Ground,
+    lowered: LoweredFlows,
     stores: Stores,
 }
 
@@ -69,21 +78,23 @@ impl Model for Setup {
     ghost use Rattle.indexmap.specs.IndexMap.{spare};
     ghost use Rattle.match_language.specs.contracts.expr.Expr as expr;
     ghost use Rattle.std.specs.Coded.{codes};
-    ghost use Rattle.world_core.specs.Setup.{SetupView, HaveStores};
+    ghost use Rattle.world_core.specs.Setup.{SetupView, StandsForGround};
 
     ghost Value = { SetupView };
 
     ghost coded = { Prim.hlevel (codes, expr.the_row.coded) };
 
-    ghost view = { λ s. record { ground = s.ground; stores = s.stores.entries; room = spare s.stores } };
+    ghost view = { λ s. record { ground = s.ground; lowered = s.lowered; stores = s.stores.entries; room = spare s.stores } };
 
-    ghost invariant = { λ s. HaveStores s.ground s.stores.entries };
+    ghost invariant = { λ s. StandsForGround s.ground s.lowered s.stores.entries };
 }
 
 /// A change of the ground, with what it makes of the flows of each chassis.
 #[derive(Drop)]
 pub(crate) struct SetupPatch {
     pub(crate) change: GroundChange,
+    // What it makes of the flows that every chassis has, where they change.
+    pub(crate) lowered: Option<LoweredPlan>,
     pub(crate) patches: List<(Name, TablePatch)>,
     // The chassis that comes, if one does.
     pub(crate) come: Option<(Name, UnitFlows)>,
@@ -97,23 +108,77 @@ pub(crate) struct Turn {
     pub(crate) effects: List<NetEffect>,
 }
 
-// The flows of a chassis: by unit, and in its classifier.
-fn tables_of(alloc: Global, maps: &Maps<'_>) -> Result<(UnitFlows, Held), NoMemory>
-    requires valid { IsValid (basis_of maps.now).net }
-    requires keys { HaveKeys (basis_of maps.now).net (basis_of maps.now).keys }
-    ensures rows { IfOk result (λ tables. HaveRows (unit_rows (basis_of maps.now)) (rows_held tables.0)) }
-    ensures flows { IfOk result (λ tables. AreExactly (TableFlow (basis_of maps.now)) (flows_in tables.1.bunches)) }
+// All flows that every chassis has.
+fn all_lowered(alloc: Global, lowered: &LoweredFlows) -> Result<List<Flow>, NoMemory>
+    ensures shown { IfOk result (λ flows. flows ≡ keys_of lowered.now.counts) }
+    ensures listed { IfOk result (λ flows. (l : Lowering) → CanCompile l → HaveLowered l lowered.now → AreListed (IsLoweredIn l) flows) }
+{
+    exact_flow_clone();
+    let mut flows = List::new(alloc);
+    'flows: while let Some(flow) = lowered.flow(flows.len()) {
+        flows.push(flow.copy()?)?;
+    }
+    Ok(flows)
+}
+
+// The flows of a chassis that comes: those around the pipelines by unit, and all of them in its classifier.
+fn tables_of(
+    alloc: Global,
+    maps: &Maps<'_>,
+    lowered: &LoweredFlows,
+) -> Result<(UnitFlows, Held), NoMemory>
+    requires switched { IsSwitched (basis_of maps.now).net (basis_of maps.now).keys }
+    requires compiled { CanCompile (record { net = (basis_of maps.now).net; keys = (basis_of maps.now).keys }) }
+    requires lowered { HaveLowered (record { net = (basis_of maps.now).net; keys = (basis_of maps.now).keys }) lowered.now }
+    ensures rows { IfOk result (λ tables. HaveRows (around_rows (basis_of maps.now)) (rows_held tables.0)) }
+    ensures flows { IfOk result (λ tables. AreExactly (IsFlowBy (basis_of maps.now)) (flows_in tables.1.bunches)) }
 {
     let units = maps.units(alloc)?;
-    let everywhere = maps.everywhere(alloc, units.as_slice())?;
+    let everywhere = maps.around(alloc, units.as_slice())?;
     let mut flows = UnitFlows::new(alloc)?;
-    let patch = flows.prepare(alloc, maps, everywhere.as_slice())?;
+    let patch = flows.prepare_around(alloc, maps, everywhere.as_slice())?;
     let delta = flows.apply(patch);
-    let held = holding(alloc, delta.added)?;
+    let mut all = all_lowered(alloc, lowered)?;
+    all.append(delta.added)?;
+    let held = holding(alloc, all)?;
     Ok((flows, held))
 }
 
-// Changes of the simulated chassis that bind no port and name no key.
+// Nothing comes and nothing goes.
+fn no_delta(alloc: Global) -> Delta<Flow>
+    ensures { result ≡ record { added = []; removed = [] } }
+{
+    Delta {
+        added: List::new(alloc),
+        removed: List::new(alloc),
+    }
+}
+
+// What comes to each chassis and goes: to every one what is planned, and then what its own patch says.
+fn all_deltas(
+    alloc: Global,
+    lowered: &Option<LoweredPlan>,
+    patches: &[(Name, TablePatch)],
+) -> Result<List<(Name, Delta<Flow>)>, NoMemory>
+    ensures { IfOk result (λ deltas. deltas ≡ map (λ p. (p.0, joined (every_delta lowered.now) p.1.delta)) patches.now) }
+{
+    match lowered {
+        Some(plan) => deltas_of(alloc, plan.delta(), patches),
+        None => deltas_of(alloc, &no_delta(alloc), patches),
+    }
+}
+
+// Puts into force what is planned for every chassis.
+fn apply_lowered(lowered: &mut LoweredFlows, planned: Option<LoweredPlan>)
+    requires { (before : GroundView) × (after : GroundView) × IsLoweredOrDone before after lowered.old planned }
+    ensures { (before after : GroundView) → HaveLowered (lowering_in before) lowered.old → IsLoweredOrDone before after lowered.old planned → HaveLowered (lowering_in after) lowered.new }
+{
+    if let Some(plan) = planned {
+        lowered.apply(plan);
+    }
+}
+
+// Changes of the simulated chassis that bind no port, name no key and empty no zone.
 fn sim_change(alloc: Global) -> SimChange<Held>
     ensures { result ≡ record { added = []; removed = []; tables = []; emptied = []; bound = []; names = [] } }
 {
@@ -220,10 +285,11 @@ fn units_of(alloc: Global, records: &Records, port: &Name) -> Result<List<FlowUn
 impl Setup {
     /// Nothing is there.
     pub(crate) fn new(alloc: Global) -> Result<Setup, NoMemory>
-        ensures { IfOk result (λ s. s.ground ≡ ground_of empty no_zones) }
+        ensures { IfOk result (λ s. s.ground ≡ ground_of empty nobody_home) }
     {
         Ok(Setup {
             ground: Ground::new(alloc)?,
+            lowered: LoweredFlows::new(alloc)?,
             stores: IndexMap::new(alloc),
         })
     }
@@ -249,18 +315,24 @@ impl Setup {
         self.ground.settle();
     }
 
-    // Prepares what a change of the ground makes of the flows: on the chassis that are there the touched units alone change, and
-    // with `come` one more comes.
+    // Prepares what a change of the ground makes of the flows: those that every chassis has change as planned; of those around the
+    // pipelines, on the chassis that are there, the ones of the touched units alone; and with `come` one more chassis comes, where
+    // nothing is planned.
     fn prepare(
         &mut self,
         alloc: Global,
         change: GroundChange,
+        lowered: Option<LoweredPlan>,
         touched: &[FlowUnit],
         come: Option<Name>,
     ) -> Result<Turn, NoMemory>
         requires fits { IsChangeOf self.old.ground change }
         requires once { EachOnce self.old.ground.config.chassis }
-        requires tables { HasTables (changed change self.old.ground) }
+        requires before { IsSwitched self.old.ground.config.net self.old.ground.keys }
+        requires switched { IsSwitched (changed change self.old.ground).config.net (changed change self.old.ground).keys }
+        requires compiled { CanCompile (lowering_in (changed change self.old.ground)) }
+        requires planned { IsLoweredOrDone self.old.ground (changed change self.old.ground) self.old.lowered lowered }
+        requires alone { IsSome come → lowered ≡ None }
         requires touched { AreTouched self.old.ground (changed change self.old.ground) touched.now }
         requires chassis { ComesOver self.old.ground.config.chassis come (changed change self.old.ground).config.chassis }
         ensures kept { self.new.ground ≡ self.old.ground }
@@ -272,10 +344,11 @@ impl Setup {
         let patches = prepare_each(alloc, &mut self.stores, &self.ground, &change, touched)?;
         self.stores.reserve(1)?;
         let mut sim = sim_change(alloc);
-        sim.tables = deltas_of(alloc, patches.as_slice())?;
+        sim.tables = all_deltas(alloc, &lowered, patches.as_slice())?;
         let come = match come {
             Some(name) => {
-                let (flows, held) = tables_of(alloc, &self.ground.maps(&change, name))?;
+                let maps = self.ground.maps(&change, name);
+                let (flows, held) = tables_of(alloc, &maps, &self.lowered)?;
                 sim.added.push((name, held))?;
                 Some((name, flows))
             }
@@ -284,6 +357,7 @@ impl Setup {
         Ok(Turn {
             patch: SetupPatch {
                 change,
+                lowered,
                 patches,
                 come,
             },
@@ -292,7 +366,26 @@ impl Setup {
         })
     }
 
-    // What planned records and keys make of the setup and of the simulated chassis.
+    // Prepares what planned records and keys make of the flows that every chassis has.
+    fn lower<L>(
+        &mut self,
+        records: &EditPlan,
+        keys: &KeyPlan,
+        steps: &mut Steps<L>,
+    ) -> Result<LoweredPlan, NoMemory>
+        requires had { CanCompile (lowering_in self.old.ground) }
+        requires after { CanCompile (record { net = records.now.after; keys = keys.now }) }
+        ensures kept { self.new.ground ≡ self.old.ground }
+        ensures planned { IfOk result (IsLoweredPlan (lowering_in self.old.ground) (record { net = records.now.after; keys = keys.now }) self.new.lowered) }
+        ensures steps { steps.old ≤ steps.new }
+    {
+        let plan = self
+            .lowered
+            .prepare(&self.ground.records, records, keys.after(), steps)?;
+        Ok(plan)
+    }
+
+    // What planned records and keys, and the lowered flows of them, make of the setup and of the simulated chassis.
     fn edited(
         &mut self,
         alloc: Global,
@@ -300,9 +393,11 @@ impl Setup {
         ops: &[Op],
         records: EditPlan,
         keys: KeyPlan,
+        lowered: LoweredPlan,
     ) -> Result<Turn, NoMemory>
         requires may { (m : State) × MayTurn self.old.ground number (event_of.Edit ops.now) m }
         requires planned { IsPlannedEdit self.old.ground number ops.now records keys }
+        requires lowered { IsLoweredPlan (lowering_in self.old.ground) (record { net = records.after; keys = keys }) self.old.lowered lowered }
         ensures kept { self.new.ground ≡ self.old.ground }
         ensures turn { IfOk result (IsTurn self.old.ground self.new number (event_of.Edit ops.now)) }
     {
@@ -315,7 +410,7 @@ impl Setup {
             keys: Some(keys),
             zones: None,
         };
-        let mut turn = self.prepare(alloc, change, touched.as_slice(), None)?;
+        let mut turn = self.prepare(alloc, change, Some(lowered), touched.as_slice(), None)?;
         turn.effects = effects;
         turn.sim.names = names;
         Ok(turn)
@@ -323,18 +418,26 @@ impl Setup {
 
     // Prepares what an edit makes of the setup and of the simulated chassis: the records that its operations leave, keys for who
     // comes, and the rows of the units that it touches.
-    fn edit(&mut self, alloc: Global, number: u64, ops: &[Op]) -> Result<Turn, StepFault>
+    fn edit<L>(
+        &mut self,
+        alloc: Global,
+        number: u64,
+        ops: &[Op],
+        steps: &mut Steps<L>,
+    ) -> Result<Turn, StepFault>
         requires may { (m : State) × MayTurn self.old.ground number (event_of.Edit ops.now) m }
         ensures kept { self.new.ground ≡ self.old.ground }
         ensures turn { IfOk result (IsTurn self.old.ground self.new number (event_of.Edit ops.now)) }
         ensures refused { IfErr result (IsNoTurn self.old.ground number (event_of.Edit ops.now)) }
+        ensures steps { steps.old ≤ steps.new }
     {
         if !is_built_edit(ops) {
             return Err(StepFault::Refused(Refusal::NotBuilt));
         }
         let records = planned(alloc, &mut self.ground.records, ops, number)?;
         let keys = keys_for(&mut self.ground.keys, &records)?;
-        Ok(self.edited(alloc, number, ops, records, keys)?)
+        let lowered = self.lower(&records, &keys, steps)?;
+        Ok(self.edited(alloc, number, ops, records, keys, lowered)?)
     }
 
     // Prepares what a chassis that comes makes of the setup and of the simulated chassis.
@@ -356,12 +459,12 @@ impl Setup {
             keys: None,
             zones: None,
         };
-        let turn = self.prepare(alloc, change, &[], Some(chassis))?;
+        let turn = self.prepare(alloc, change, None, &[], Some(chassis))?;
         Ok(turn)
     }
 
     // Prepares what a binding makes of the setup and of the simulated chassis: who is at home on the chassis by then has a zone
-    // there, and who stays at home keeps its number.
+    // there, and who stays at home keeps its number. The zone of the port is emptied.
     fn bind(
         &mut self,
         alloc: Global,
@@ -384,6 +487,9 @@ impl Setup {
             .ground
             .zones
             .prepare(&home_change(alloc, port, chassis)?)?;
+        let Some(zone) = zones.numbers().port(&chassis, &port) else {
+            unreachable!()
+        };
         let touched = units_of(alloc, &self.ground.records, &port)?;
         let change = GroundChange {
             records: None,
@@ -391,25 +497,28 @@ impl Setup {
             keys: None,
             zones: Some(zones),
         };
-        let mut turn = self.prepare(alloc, change, touched.as_slice(), None)?;
+        let mut turn = self.prepare(alloc, change, None, touched.as_slice(), None)?;
         turn.sim.bound.push((port, Some(chassis)))?;
+        turn.sim.emptied.push((chassis, zone))?;
         Ok(turn)
     }
 
     /// Prepares what a turn of the configuration, as the event of this number, makes of the setup and of the simulated chassis.
-    pub(crate) fn turn(
+    pub(crate) fn turn<L>(
         &mut self,
         alloc: Global,
         number: u64,
         event: &TurnEvent<'_>,
+        steps: &mut Steps<L>,
     ) -> Result<Turn, StepFault>
         requires may { (m : State) × MayTurn self.old.ground number (event_of_turn event.now) m }
         ensures kept { self.new.ground ≡ self.old.ground }
         ensures turn { IfOk result (IsTurn self.old.ground self.new number (event_of_turn event.now)) }
         ensures refused { IfErr result (IsNoTurn self.old.ground number (event_of_turn event.now)) }
+        ensures steps { steps.old ≤ steps.new }
     {
         match event {
-            TurnEvent::Edit(ops) => self.edit(alloc, number, ops.as_slice()),
+            TurnEvent::Edit(ops) => self.edit(alloc, number, ops.as_slice(), steps),
             TurnEvent::Bind { port, chassis } => self.bind(alloc, number, *port, *chassis),
             TurnEvent::AddChassis(chassis) => self.add_chassis(alloc, number, *chassis),
         }
@@ -422,9 +531,11 @@ impl Setup {
     {
         let SetupPatch {
             change,
+            lowered,
             patches,
             come,
         } = patch;
+        apply_lowered(&mut self.lowered, lowered);
         apply_each(&mut self.stores, patches);
         if let Some((name, flows)) = come {
             match self.stores.insert(name, flows) {

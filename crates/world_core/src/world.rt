@@ -175,7 +175,12 @@ impl World {
     }
 
     // Does what a turn of the configuration asks for, where it isn't refused. All that may want memory comes first.
-    fn turn(&mut self, event: &TurnEvent<'_>, text: &mut Vec<u8>) -> Result<(), StepFault>
+    fn turn<L>(
+        &mut self,
+        event: &TurnEvent<'_>,
+        text: &mut Vec<u8>,
+        steps: &mut Steps<L>,
+    ) -> Result<(), StepFault>
         requires sound { IsSound self.old }
         requires room { event_count self.old.state < 2 ^ 42 }
         requires admitted { IsEventInGrammar (event_of_turn event.now) }
@@ -184,15 +189,17 @@ impl World {
         ensures told { IfErr result (λ fault. Tells fault (refusal self.old.state (event_of_turn event.now))) }
         ensures same { OnErr result (self.new ≡ self.old) }
         ensures front { OnErr result (text.new.items ≡ text.old.items) }
+        ensures steps { steps.old ≤ steps.new }
     {
         exact_flow();
         let alloc = self.walks.allocator();
         let number = self.accepted + self.refused + 1;
-        let turn = self.setup.turn(alloc, number, event)?;
+        let turn = self.setup.turn(alloc, number, event, steps)?;
         self.sim.prepare(&turn.sim)?;
         write_accepted(turn.effects.as_slice(), 0, number, text)?;
         self.setup.apply(turn.patch);
         self.sim.apply(turn.sim);
+        self.sim.state_holds();
         self.walks.clear();
         self.accepted += 1;
         if self.crossings.is_empty() {
@@ -202,13 +209,19 @@ impl World {
     }
 
     // Takes a turn of the configuration.
-    fn take_turn(&mut self, event: &TurnEvent<'_>, text: &mut Vec<u8>) -> Result<(), StepFault>
+    fn take_turn<L>(
+        &mut self,
+        event: &TurnEvent<'_>,
+        text: &mut Vec<u8>,
+        steps: &mut Steps<L>,
+    ) -> Result<(), StepFault>
         requires sound { IsSound self.old }
         requires room { event_count self.old.state < 2 ^ 42 }
         requires admitted { IsEventInGrammar (event_of_turn event.now) }
-        ensures { Outcome result self.old (event_of_turn event.now) text.old.items text.new.items self.new }
+        ensures outcome { Outcome result self.old (event_of_turn event.now) text.old.items text.new.items self.new }
+        ensures steps { steps.old ≤ steps.new }
     {
-        match self.turn(event, text) {
+        match self.turn(event, text, steps) {
             Ok(()) => Ok(()),
             Err(StepFault::Refused(why)) => self.take_refused(why, text),
             Err(StepFault::Memory) => Err(StepFault::Memory),
@@ -260,15 +273,17 @@ impl World {
         ensures steps { steps.old ≤ steps.new }
     {
         match event {
-            Event::Edit(ops) => self.take_turn(&TurnEvent::Edit(ops), text),
+            Event::Edit(ops) => self.take_turn(&TurnEvent::Edit(ops), text, steps),
             Event::Bind { port, chassis } => {
                 let event = TurnEvent::Bind {
                     port: *port,
                     chassis: *chassis,
                 };
-                self.take_turn(&event, text)
+                self.take_turn(&event, text, steps)
             }
-            Event::AddChassis(name) => self.take_turn(&TurnEvent::AddChassis(*name), text),
+            Event::AddChassis(name) => {
+                self.take_turn(&TurnEvent::AddChassis(*name), text, steps)
+            }
             Event::Unbind { .. }
             | Event::RemoveChassis(_)
             | Event::Keys { .. }

@@ -4,7 +4,7 @@ use Rattle.std.specs.BTreeMap.{is_at}
 use Rattle.std.specs.List.{AllZip}
 use Rattle.std.specs.Map.{remove_entry}
 use Rattle.std.specs.Ordering.{nat_cmp}
-use Rattle.std.proofs.Common.{sym, ap, ◌∙◌, subst, arith, inl, inr}
+use Rattle.std.proofs.Common.{sym, ap, ◌∙◌, subst, append-nil, arith, inl, inr}
 use Rattle.std.proofs.lemmas.Bool.{cases_Bool}
 use Rattle.std.proofs.lemmas.Option.{none-some}
 use Rattle.chassis_sim.specs.Frames.{Carries}
@@ -24,7 +24,7 @@ use Rattle.nb_records.specs.declared.switch.SwitchPort.{SwitchPort}
 use Rattle.net_model.specs.Arrival.{is_switch, arrival}
 use Rattle.net_model.specs.Config.{is_chassis, port_identity}
 use Rattle.net_model.specs.Entry.{Scene}
-use Rattle.net_model.specs.Journey.{joined_by, kept_or_not, arrive_at, comes_as, arrive_one, scene_at, scenes_of, go}
+use Rattle.net_model.specs.Journey.{joined_by, kept_or_not, arrive_at, comes_as, arrive_one, scene_at, scenes_of, go, numbered_from}
 use Rattle.net_model.specs.Leads.{list_owners}
 use Rattle.net_model.specs.State.{State, event_count}
 use Rattle.net_model.specs.Trail.{Trail, Lists, End, is_lost, choices_in, crossings_in}
@@ -71,7 +71,7 @@ use Rattle.sim_laws.specs.journeys.Holding.{HoldsNetwork}
 use Rattle.sim_laws.specs.journeys.InState.{chassis_at, zones_on}
 use Rattle.sim_laws.specs.journeys.Moves.{journey_in}
 use Rattle.sim_laws.specs.journeys.Premises.{HasVirtualPorts, IsReady}
-use Rattle.sim_laws.specs.journeys.Refining.{IsJourney, ArrivalJourneyLaw}
+use Rattle.sim_laws.specs.journeys.Refining.{IsComing, IsJourney, ArrivalJourneyLaw, waiting_on}
 use Rattle.sim_laws.specs.journeys.UnderWay.{IsUnderWay}
 use Rattle.sim_laws.specs.passes.Arriving.{ArrivingLaw}
 use Rattle.sim_laws.specs.passes.Whole.{WholeWalkLaw}
@@ -82,8 +82,7 @@ use Rattle.sim_laws.specs.pipelines.Standing.{Chassis}
 -- ---- what waits then
 
 abbrev rest_of : Bool → State → ℕ → List (ℕ × Crossing)
-rest_of true m n = m.waiting
-rest_of false m n = remove_entry (is_at (nat_cmp n)) m.waiting
+rest_of keep m n = waiting_on keep n m.waiting
 
 frames_kept : (keep : Bool) (m : State) (s : sim.SimState) (n : ℕ) → s.waiting ≡ map (frame_of_crossing m.keys) m.waiting → (arrived s n keep).waiting ≡ map (frame_of_crossing m.keys) (rest_of keep m n)
 frames_kept true m s n waits = waits
@@ -107,7 +106,7 @@ no_scene m chassis none = elim (cases_Bool (is_chassis m.config chassis)) [
 
 module _ (m : State) (zones : Zoned) (sets : Sets) (more : ℕ) (s new : sim.SimState) (n : ℕ) (keep : Bool) (before after : SimOut) (u : IsUnderWay m zones more) (h : HoldsNetwork m zones.numbers sets s) where
   abbrev IsArrival : Type 0
-  IsArrival = IsJourney m zones sets more (arrive_one n keep) before after new
+  IsArrival = IsComing m zones sets more n keep before after new
 
   -- ---- with its ends
 
@@ -127,7 +126,7 @@ module _ (m : State) (zones : Zoned) (sets : Sets) (more : ℕ) (s new : sim.Sim
     pub came : IsArrival
     came =
         let frames = frames_kept keep m s n h.waiting in
-        record {
+        let journey : IsJourney m zones sets more (arrive_one n keep) before after new = record {
           ends = own;
           effects = told_effects m zones.numbers sets s h lists rest zs (arrived s n keep).waiting hold frames x.home (start_of.Frame n) steps own effects numbered on before after new told;
           left = led m lists rest own;
@@ -142,7 +141,8 @@ module _ (m : State) (zones : Zoned) (sets : Sets) (more : ℕ) (s new : sim.Sim
           };
           sound = led_sound m zones more more lists rest own u (at_home_still m.config m.lists lists owners u.at_home) (crossings_rest keep m n u.crossings) may_none few_then;
           held = told_held m zones.numbers sets s h lists rest zs (arrived s n keep).waiting hold frames x.home (start_of.Frame n) steps own effects numbered on before after new told;
-        }
+        } in
+        record { journey = journey; none_sent = none; waiting = ap (λ xs. rest ++ numbered_from m.next xs) none ∙ append-nil rest }
 
   -- ---- through the tables
 

@@ -107,7 +107,7 @@ module _ (entry : EntryJourneyLaw) (arrival : ArrivalJourneyLaw) (zones : Zoned)
   }
   drained (suc k) m s new before after u virtual h (inr f) =
       let first = first_of m f.n f.frame f.behind (sym h.waiting ∙ f.first) in
-      let a = arrival m zones sets more s f.mid any_legal f.n false before f.between u h (λ x waits. virtual x.datapath.name) f.arrives in
+      let a = (arrival m zones sets more s f.mid any_legal f.n false before f.between u h (λ x waits. virtual x.datapath.name) f.arrives).journey in
       let still = a.moves.rest in
       let r =
       drained k a.left f.mid new f.between after a.sound (subst (λ (n : Network). HaveVirtualPorts n) (sym (ap (λ (l : State). l.config.net) still)) virtual) a.held (subst (λ t. AreDrained t k f.mid f.between after new) (sym (ap (λ (l : State). l.clock) still)) f.others) in

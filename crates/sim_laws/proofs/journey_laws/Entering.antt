@@ -123,6 +123,7 @@ module _ (fills : FillingLaw) (visits : VisitLaw) (whole_walk : WholeWalkLaw) (m
             held = told_held m zones.numbers sets s h w.after m.waiting (with_lists s.zones chassis left) s.waiting hold_after h.waiting chassis (start_of.Port i.name) steps w.own effects w.numbered w.on before after new told;
           };
           sent = w.crossings.0;
+          waiting = refl;
         }
 
   enters_at : passing.IsInjected by s i.name m.clock packet before after new → Entry

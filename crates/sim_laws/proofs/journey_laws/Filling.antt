@@ -19,8 +19,9 @@ use Rattle.row_laws.specs.BestRow.{IsLoweredRow, HoldsRows}
 use Rattle.row_laws.specs.CanLower.{CanLower, CanLowerLaw}
 use Rattle.sim_laws.proofs.journey_laws.Premises.{owners_live}
 use Rattle.sim_laws.specs.journeys.Filling.{FillingLaw}
-use Rattle.sim_laws.specs.journeys.Tables.{AroundFlow, ChassisFlow, HoldIn, AreTablesOf}
-use Rattle.sim_laws.specs.journeys.Tables.AroundFlow.{in_entry, in_remote, in_home, in_back, in_output}
+use Rattle.physical_flows.specs.Around.{AroundFlow}
+use Rattle.sim_laws.specs.journeys.Tables.{ChassisFlow, HoldIn, AreTablesOf}
+use Rattle.physical_flows.specs.Around.AroundFlow.{in_entry, in_remote, in_home, in_back, in_output}
 
 -- ---- tables
 

@@ -16,8 +16,8 @@ use Rattle.row_laws.specs.BestRow.{IsLoweredRow}
 use Rattle.tunnel_keys.specs.Keys.{Keys}
 use Rattle.tunnel_keys.specs.declared.owner.HeldDatapath.{HeldDatapath}
 use Rattle.tunnel_keys.specs.declared.owner.HeldPort.{HeldPort}
-use Rattle.sim_laws.specs.journeys.Tables.{AroundFlow}
-use Rattle.sim_laws.specs.journeys.Tables.AroundFlow.{in_entry, in_remote, in_home, in_back, in_output}
+use Rattle.physical_flows.specs.Around.{AroundFlow}
+use Rattle.physical_flows.specs.Around.AroundFlow.{in_entry, in_remote, in_home, in_back, in_output}
 
 -- the same live keys, with these that are retired
 abbrev pub retiring : Keys → List HeldDatapath → List HeldPort → Keys

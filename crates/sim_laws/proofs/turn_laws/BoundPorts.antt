@@ -28,9 +28,10 @@ use Rattle.tunnel_keys.specs.Keys.{Keys}
 use Rattle.sim_laws.proofs.turn_laws.TurnedLists.{list_empty, list_kept, owned}
 use Rattle.sim_laws.specs.journeys.InState.{zones_on}
 use Rattle.sim_laws.specs.journeys.TurnedZones.{BeginsZone, BindingLaw, KeepsZone, binding, turned_with}
+use Rattle.physical_flows.specs.Bindings.{AreBound}
 use Rattle.sim_laws.specs.journeys.UnderWay.{IsUnderWay}
 
-module _ (m : State) (zones later : Zoned) (more most : ℕ) (keys : Keys) (port chassis : Name) (z : ℕ) (u : IsUnderWay m zones more) (v : IsUnderWay (turned_with (bind m.config port chassis) keys m) later most)
+module _ (m : State) (zones later : Zoned) (more : ℕ) (port chassis : Name) (z : ℕ) (u : IsUnderWay m zones more) (v : AreBound (bind m.config port chassis).next later)
     (rezoned : IsRezoned zones (binding port chassis) later) (numbered : number_on later.numbers chassis (zone.Port port) ≡ Some z) where
   abbrev turn : Turn
   turn = bind m.config port chassis
@@ -51,7 +52,7 @@ module _ (m : State) (zones later : Zoned) (more most : ℕ) (keys : Keys) (port
 
   named_alone : named ≡ port ∷ []
   named_alone =
-      let there' = some_of (at m.config.net.switch_ports port) (v.bound.port_there port chassis bound_then) in
+      let there' = some_of (at m.config.net.switch_ports port) (v.port_there port chassis bound_then) in
       ap (λ (o : Option SwitchPort). names_of (listed_if (option_map port_identity o))) there'.1
       ∙ ap (λ (n : Name). n ∷ []) (port_named m.config.net u.valid port there'.0 there'.1)
 
@@ -69,7 +70,7 @@ module _ (m : State) (zones later : Zoned) (more most : ℕ) (keys : Keys) (port
 
   home_then : (q c : Name) (n : ℕ) → number_on later.numbers c (zone.Port q) ≡ Some n → at turn.next.bindings q ≡ Some c
   home_then q c n is =
-      ap (λ (k : KnownHomes). at k.ports q) (sym v.bound.homes) ∙ (v.bound.zoned.at_home c (zone.Port q)).1 (is_some_of (number_on later.numbers c (zone.Port q)) n is)
+      ap (λ (k : KnownHomes). at k.ports q) (sym v.homes) ∙ (v.zoned.at_home c (zone.Port q)).1 (is_some_of (number_on later.numbers c (zone.Port q)) n is)
 
   begins : (c : Name) (n : ℕ) → number_on later.numbers c (zone.Port port) ≡ Some n → IsTold c (of_port port) n
   begins c n is =
@@ -94,7 +95,7 @@ module _ (m : State) (zones later : Zoned) (more most : ℕ) (keys : Keys) (port
 
     number_kept : number_on zones.numbers c (zone.Port q) ≡ Some n
     number_kept =
-        let home = (v.bound.zoned.at_home c (zone.Port q)).1 (is_some_of (number_on later.numbers c (zone.Port q)) n is) in
+        let home = (v.zoned.at_home c (zone.Port q)).1 (is_some_of (number_on later.numbers c (zone.Port q)) n is) in
         sym (rezoned.stay c (zone.Port q) home stayed) ∙ is
 
     -- it has a list
@@ -106,7 +107,7 @@ module _ (m : State) (zones later : Zoned) (more most : ℕ) (keys : Keys) (port
     not_emptied among = elim (among_cases (c, n) (chassis, z) [] among) [
       | inl same ↦
           let number : number_on later.numbers chassis (zone.Port q) ≡ Some z = subst (λ (e : Name × ℕ). number_on later.numbers e.0 (zone.Port q) ≡ Some e.1) same is in
-          let one : zone.Port q ≡ zone.Port port = v.bound.zoned.apart chassis (zone.Port q) (zone.Port port) z number numbered in
+          let one : zone.Port q ≡ zone.Port port = v.zoned.apart chassis (zone.Port q) (zone.Port port) z number numbered in
           apart (port_of one)
       | inr none ↦ among_none (c, n) none
     ]
@@ -130,7 +131,7 @@ module _ (m : State) (zones later : Zoned) (more most : ℕ) (keys : Keys) (port
   -- no router is at home
   no_router : (whose : ZoneUse) → home_for (record { ports = turn.next.bindings; routers = [] }) whose ≡ None → (c : Name) (n : ℕ) → number_on later.numbers c whose ≡ Some n → ⊥
   no_router whose none c n is =
-      none-some c (sym none ∙ ap (λ (k : KnownHomes). home_for k whose) (sym v.bound.homes) ∙ (v.bound.zoned.at_home c whose).1 (is_some_of (number_on later.numbers c whose) n is))
+      none-some c (sym none ∙ ap (λ (k : KnownHomes). home_for k whose) (sym v.homes) ∙ (v.zoned.at_home c whose).1 (is_some_of (number_on later.numbers c whose) n is))
 
   pub is_told : (c : Name) (owner : ListOwner) (n : ℕ) → zones_on later.numbers c owner ≡ Some n → IsTold c owner n
   is_told c (of_port q) n is = elim (one_or_two q port) [
@@ -141,4 +142,4 @@ module _ (m : State) (zones later : Zoned) (more most : ℕ) (keys : Keys) (port
   is_told c (snat_of r) n is = absurd (no_router (zone.Snat r) refl c n is)
 
 pub binds_so : BindingLaw
-binds_so m zones later more most keys port chassis z u v rezoned numbered c then owner n is = is_told m zones later more most keys port chassis z u v rezoned numbered c owner n is
+binds_so m zones later more port chassis z u v rezoned numbered c then owner n is = is_told m zones later more port chassis z u v rezoned numbered c owner n is

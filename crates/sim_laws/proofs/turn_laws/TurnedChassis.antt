@@ -25,13 +25,13 @@ use Rattle.physical_flows.proofs.FlowSearch.{is_some_of, some_of}
 use Rattle.physical_flows.specs.Bindings.{AreBound}
 use Rattle.physical_flows.specs.ChassisFlows.{AreExactly}
 use Rattle.switch_engine.specs.Zones.{ZoneLists, zone_at}
-use Rattle.sim_laws.proofs.turn_laws.Differences.{IsExact, delta_of_held, replaced_exactly}
+use Rattle.sim_laws.proofs.turn_laws.FlowChanges.{IsExact, delta_of_held, replaced_exactly}
 use Rattle.sim_laws.proofs.turn_laws.SetEntries.{among_or_not, emptied_then, found_once, gone_then, kept_then, none_comes, one_comes, stays_there}
 use Rattle.sim_laws.specs.journeys.Holding.{HoldsNetwork}
 use Rattle.sim_laws.specs.journeys.InState.{zones_on}
 use Rattle.sim_laws.specs.journeys.Tables.{ChassisFlow}
 use Rattle.sim_laws.specs.journeys.Turning.{TurnLaw, DeltaLaw}
-use Rattle.sim_laws.specs.journeys.TurnedTables.{IsDifference, IsTurnOfTables}
+use Rattle.sim_laws.specs.journeys.TurnedTables.{IsFlowChange, IsTurnOfTables}
 use Rattle.sim_laws.specs.journeys.TurnedZones.{turned_with}
 use Rattle.sim_laws.specs.pipelines.HeldLists.{IsGoodList, HoldLists}
 
@@ -70,15 +70,15 @@ module _ {T : Type 0} (flows_of : T → List Flow) (m : State) (numbers : GivenN
   -- ---- deltas
 
   pub are_deltas : AllAreDeltas s.chassis change.tables
-  are_deltas = all_among (λ e. IsDeltaOfAny e.1 (at_name s.chassis e.0)) change.tables (λ e among. by e (at_name s.chassis e.0) refl (difference e among))
+  are_deltas = all_among (λ e. IsDeltaOfAny e.1 (at_name s.chassis e.0)) change.tables (λ e among. by e (at_name s.chassis e.0) refl (changes e among))
     where
-      difference : (e : Name × Delta Flow) → Among e change.tables → IsDifference (ChassisFlow m numbers sets e.0) (After e.0) e.1
-      difference e among =
+      changes : (e : Name × Delta Flow) → Among e change.tables → IsFlowChange (ChassisFlow m numbers sets e.0) (After e.0) e.1
+      changes e among =
           let both = t.told e.0 (among_map (λ (x : Name × Delta Flow). x.0) e change.tables among) in
           let has = t.stay e.0 both.0 both.1 in
-          subst (λ d. IsDifference (ChassisFlow m numbers sets e.0) (After e.0) d) (same_Some has.delta e.1 (sym has.is ∙ found_once change.tables e t.told_once among)) has.difference
+          subst (λ d. IsFlowChange (ChassisFlow m numbers sets e.0) (After e.0) d) (same_Some has.delta e.1 (sym has.is ∙ found_once change.tables e t.told_once among)) has.change
 
-      by : (e : Name × Delta Flow) (had : Option (List Flow)) → at_name s.chassis e.0 ≡ had → IsDifference (ChassisFlow m numbers sets e.0) (After e.0) e.1 → IsDeltaOfAny e.1 had
+      by : (e : Name × Delta Flow) (had : Option (List Flow)) → at_name s.chassis e.0 ≡ had → IsFlowChange (ChassisFlow m numbers sets e.0) (After e.0) e.1 → IsDeltaOfAny e.1 had
       by e None is d = tt
       by e (Some flows) is d = delta_of_held (ChassisFlow m numbers sets e.0) (After e.0) flows e.1 (h.tables e.0 flows is) d
 
@@ -113,7 +113,7 @@ module _ {T : Type 0} (flows_of : T → List Flow) (m : State) (numbers : GivenN
         let r : AreReplaced (Some has.delta) (Some had.0) (between c) = subst (λ d. AreReplaced d (Some had.0) (between c)) has.is (subst (λ o. AreReplaced (at_name change.tables c) o (between c)) had.1 (made.chassis c).1) in
         let same : at_name new.chassis c ≡ between c =
         flows_are c ∙ none_comes flows_of change.added c (set_in_turn same_name (map gone change.removed) c (between c)) (not_added c was) ∙ stays_there change.removed c (between c) (not_removed c then) in
-        (r.0, same ∙ r.1, replaced_exactly (ChassisFlow m numbers sets c) (After c) had.0 has.delta (h.tables c had.0 had.1) has.difference exact r.0 r.2 r.3)
+        (r.0, same ∙ r.1, replaced_exactly (ChassisFlow m numbers sets c) (After c) had.0 has.delta (h.tables c had.0 had.1) has.change exact r.0 r.2 r.3)
 
     -- who comes has all of its own
     comes : (c : Name) → Among c (keys_of change.added) → (others : List Flow) × (at_name new.chassis c ≡ Some others) × AreExactly (After c) others
@@ -196,7 +196,7 @@ module _ {T : Type 0} (flows_of : T → List Flow) (m : State) (numbers : GivenN
 
 module _ {T : Type 0} (flows_of : T → List Flow) (exact : IsExact) where
   pub turns : TurnLaw flows_of
-  turns m zones later sets others more most turn keys change s new u v h t made = record {
+  turns m zones later sets others more turn keys change s new u bound h t made = record {
     bindings = λ q. made.bindings q ∙ ap (set_in_turn same_name change.bound q) (h.bindings q) ∙ t.bindings q;
     names = t.names s new h.names made.names;
     held = λ c. (there_held flows_of m zones.numbers sets turn.next.chassis After change s h t.tables new made exact c, held_there flows_of m zones.numbers sets turn.next.chassis After change s h t.tables new made exact c);
@@ -225,7 +225,7 @@ module _ {T : Type 0} (flows_of : T → List Flow) (exact : IsExact) where
       ]
         where
           then : Among c turn.next.chassis
-          then = zone_home later (turned_with turn keys m) v.bound c owner z numbered
+          then = zone_home later (turned_with turn keys m) bound c owner z numbered
 
 pub deltas : {T : Type 0} (flows_of : T → List Flow) → DeltaLaw flows_of
 deltas flows_of m before after sets others turn keys change s h t =

@@ -1,5 +1,5 @@
 -- What the simulated chassis do with packets is what the network does with them.
-use Rattle.std.specs.Prelude.{◌≡◌, ◌++◌, ◌+◌, ℕ, Bool, List, [], Some}
+use Rattle.std.specs.Prelude.{◌≡◌, ◌++◌, ◌+◌, ℕ, Bool, true, false, List, [], Some}
 use Rattle.std.specs.BTreeMap.{is_at}
 use Rattle.std.specs.Map.{remove_entry}
 use Rattle.std.specs.Ordering.{nat_cmp}
@@ -10,7 +10,7 @@ use Rattle.conn_zones.specs.Zoning.{Zoned}
 use Rattle.inet_packet.specs.Whole.{IsWhole}
 use Rattle.inet_packet.specs.declared.packet.Packet.{Packet}
 use Rattle.match_cubes.specs.declared.sets.Sets.{Sets}
-use Rattle.net_model.specs.Journey.{Traffic, enter_one, arrive_one, lose_one}
+use Rattle.net_model.specs.Journey.{Traffic, enter_one, arrive_one, lose_one, numbered_from}
 use Rattle.net_model.specs.State.{State}
 use Rattle.net_model.specs.Trail.{End, crossings_in}
 use Rattle.net_model.specs.declared.crossing.Crossing.{Crossing}
@@ -40,6 +40,18 @@ pub record IsJourney (m : State) (zones : Zoned) (sets : Sets) (more : ℕ) (tra
 pub record IsEntry (m : State) (zones : Zoned) (sets : Sets) (more : ℕ) (port : Name) (packet : Packet) (before after : SimOut) (new : SimState) : Type 0 where
   pub journey : IsJourney m zones sets (more + 64) (enter_one port packet) before after new
   pub sent : (x : Crossing) → Among x (crossings_in journey.ends) → IsSentFrom m port x.home (spelled m.keys x) x
+  pub waiting : journey.left.waiting ≡ m.waiting ++ numbered_from m.next (crossings_in journey.ends)
+
+-- the crossings that wait on where that of the number arrives
+abbrev pub waiting_on : Bool → ℕ → List (ℕ × Crossing) → List (ℕ × Crossing)
+waiting_on true n waiting = waiting
+waiting_on false n waiting = remove_entry (is_at (nat_cmp n)) waiting
+
+-- A frame arrived, and waits on where it is kept; none was sent for it.
+pub record IsComing (m : State) (zones : Zoned) (sets : Sets) (more n : ℕ) (keep : Bool) (before after : SimOut) (new : SimState) : Type 0 where
+  pub journey : IsJourney m zones sets more (arrive_one n keep) before after new
+  pub none_sent : crossings_in journey.ends ≡ []
+  pub waiting : journey.left.waiting ≡ waiting_on keep n m.waiting
 
 -- A packet that goes in at a port enters the network. No port of its switch leads to a router.
 abbrev pub EntryJourneyLaw : Type 0
@@ -57,7 +69,7 @@ ArrivalJourneyLaw =
     → IsUnderWay m zones more → HoldsNetwork m zones.numbers sets s
     → ((x : Crossing) → numbered m.waiting n ≡ Some x → HasVirtualPorts m.config.net x.datapath.name)
     → IsArrived by s n keep m.clock before after new
-    → IsJourney m zones sets more (arrive_one n keep) before after new
+    → IsComing m zones sets more n keep before after new
 
 -- the state without the crossing of the number
 abbrev pub without_crossing : State → ℕ → State

@@ -8,20 +8,13 @@ use Rattle.net_model.specs.State.{State}
 use Rattle.ovn_base.specs.declared.name.Name.{Name}
 use Rattle.ovn_base.specs.declared.stages.TheConstants.{ENTRY_TABLE, REMOTE_TABLE, LOCAL_TABLE, LOOPBACK_TABLE, OUTPUT_TABLE}
 use Rattle.ovn_base.specs.lists.Among.{Among}
+use Rattle.physical_flows.specs.Around.{AroundFlow}
 use Rattle.physical_flows.specs.ChassisFlows.{basis_at}
 use Rattle.physical_flows.specs.Stages.{Basis, EntryRow, RemoteRow, HomeRow, ReturnRow, OutputRow}
 use Rattle.row_laws.specs.BestRow.{HoldsRows, IsLoweredRow}
 use Rattle.row_laws.specs.StageLaws.{OfEachStage}
 
 -- ---- flows
-
--- the flow is one of the tables around the pipelines
-pub data AroundFlow (b : Basis) (f : Flow) : Type 0 where
-  in_entry : EntryRow b f → AroundFlow b f
-  in_remote : RemoteRow b f → AroundFlow b f
-  in_home : HomeRow b f → AroundFlow b f
-  in_back : ReturnRow b f → AroundFlow b f
-  in_output : OutputRow b f → AroundFlow b f
 
 -- the flow is one of the chassis: a lowered row of the network, or one of the tables around the pipelines
 abbrev pub ChassisFlow : State → GivenNumbers → Sets → Name → Flow → Type 0

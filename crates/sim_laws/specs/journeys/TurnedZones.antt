@@ -17,6 +17,7 @@ use Rattle.ovn_base.specs.names.ByName.{at}
 use Rattle.tunnel_keys.specs.Keys.{Keys}
 use Rattle.sim_laws.specs.journeys.AtHome.{AreAtHome}
 use Rattle.sim_laws.specs.journeys.InState.{zones_on}
+use Rattle.physical_flows.specs.Bindings.{AreBound}
 use Rattle.sim_laws.specs.journeys.UnderWay.{HasNoRouter, IsUnderWay}
 use Rattle.sim_laws.specs.pipelines.HeldLists.{list_there}
 
@@ -82,7 +83,7 @@ binding port chassis = record { ports = (port, Some chassis) ∷ []; routers = [
 -- A port that is bound begins with its zone, and all others keep theirs.
 abbrev pub BindingLaw : Type 0
 BindingLaw =
-    (m : State) (zones later : Zoned) (more most : ℕ) (keys : Keys) (port chassis : Name) (z : ℕ)
-    → IsUnderWay m zones more → IsUnderWay (turned_with (bind m.config port chassis) keys m) later most
+    (m : State) (zones later : Zoned) (more : ℕ) (port chassis : Name) (z : ℕ)
+    → IsUnderWay m zones more → AreBound (bind m.config port chassis).next later
     → IsRezoned zones (binding port chassis) later → number_on later.numbers chassis (Port port) ≡ Some z
     → IsTurnOfZones m (bind m.config port chassis) zones.numbers later.numbers ((chassis, z) ∷ [])

@@ -21,12 +21,13 @@ use Rattle.sim_laws.specs.journeys.Holding.{HoldsNetwork}
 use Rattle.sim_laws.specs.journeys.Tables.{ChassisFlow}
 use Rattle.sim_laws.specs.journeys.TurnedTables.{IsTurnOfTables}
 use Rattle.sim_laws.specs.journeys.TurnedZones.{IsTurnOfZones, turned_with}
+use Rattle.physical_flows.specs.Bindings.{AreBound}
 use Rattle.sim_laws.specs.journeys.UnderWay.{IsUnderWay}
 
 module _ {T : Type 0} (flows_of : T → List Flow) where
-  -- The change of the simulated chassis is that of the turn, with the keys, the numbers of zones and the sets that there are then. The frames
-  -- that wait are spelled as before.
-  pub record IsChangeOf (m : State) (turn : Turn) (keys : Keys) (before after : GivenNumbers) (sets others : Sets) (change : SimChange T) : Type 0 where
+  -- The change tells the simulated chassis of the turn, with the keys, the numbers of zones and the sets that there are then: ports are bound as
+  -- they are then, live keys have their owners' names, and tables and zones change so. The frames that wait are spelled as before.
+  pub record TellsTurn (m : State) (turn : Turn) (keys : Keys) (before after : GivenNumbers) (sets others : Sets) (change : SimChange T) : Type 0 where
     pub bindings : (q : Name) → set_in_turn same_name change.bound q (at m.config.bindings q) ≡ at turn.next.bindings q
     pub names : (old new : SimState) → HaveOwnersNames m.keys old → AreSet same_pair (map given_name change.names) old.names new.names → HaveOwnersNames keys new
     pub frames : map (frame_of_crossing keys) m.waiting ≡ map (frame_of_crossing m.keys) m.waiting
@@ -37,13 +38,13 @@ module _ {T : Type 0} (flows_of : T → List Flow) where
   -- Once the change is made, the chassis hold the state after the turn.
   abbrev pub TurnLaw : Type 0
   TurnLaw =
-      (m : State) (zones later : Zoned) (sets others : Sets) (more most : ℕ) (turn : Turn) (keys : Keys) (change : SimChange T) (s new : SimState)
-      → IsUnderWay m zones more → IsUnderWay (turned_with turn keys m) later most → HoldsNetwork m zones.numbers sets s
-      → IsChangeOf m turn keys zones.numbers later.numbers sets others change → IsApplied flows_of s change new
+      (m : State) (zones later : Zoned) (sets others : Sets) (more : ℕ) (turn : Turn) (keys : Keys) (change : SimChange T) (s new : SimState)
+      → IsUnderWay m zones more → AreBound turn.next later → HoldsNetwork m zones.numbers sets s
+      → TellsTurn m turn keys zones.numbers later.numbers sets others change → IsApplied flows_of s change new
       → HoldsNetwork (turned_with turn keys m) later.numbers others new
 
   -- Each delta is one of the flows of its chassis.
   abbrev pub DeltaLaw : Type 0
   DeltaLaw =
       (m : State) (before after : GivenNumbers) (sets others : Sets) (turn : Turn) (keys : Keys) (change : SimChange T) (s : SimState)
-      → HoldsNetwork m before sets s → IsChangeOf m turn keys before after sets others change → AllAreDeltas s.chassis change.tables
+      → HoldsNetwork m before sets s → TellsTurn m turn keys before after sets others change → AllAreDeltas s.chassis change.tables

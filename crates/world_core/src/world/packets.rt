@@ -5,14 +5,13 @@ ghost use Rattle.std.specs.Ordering.{nat_cmp};
 ghost use Rattle.ovn_base.specs.declared.name.Name.{Name};
 ghost use Rattle.ovn_base.specs.names.ByName.{at};
 ghost use Rattle.chassis_sim.specs.InNames.{frames_sent};
-ghost use Rattle.chassis_sim.specs.Passing.{arrived};
-ghost use Rattle.chassis_sim.specs.State.{numbered};
-ghost use Rattle.inet_packet.specs.Frame.{frame_of};
+ghost use Rattle.chassis_sim.specs.State.{numbered, without};
 ghost use Rattle.inet_packet.specs.Whole.{IsWhole};
 ghost use Rattle.sim_laws.specs.PacketSteps.{most_arrivals};
-ghost use Rattle.sim_laws.specs.PlainJourneys.{with_kept};
-ghost use Rattle.sim_laws.specs.Refinement.{IsAmidst};
-ghost use Rattle.sim_laws.specs.Held.{AreHeld};
+ghost use Rattle.sim_laws.specs.journeys.Refining.{without_crossing};
+ghost use Rattle.sim_laws.specs.journeys.UnderWay.{IsUnderWay};
+ghost use Rattle.world_core.specs.Built.{IsBuilt};
+ghost use Rattle.world_core.specs.WorldView.{AreHeld};
 ghost use Rattle.sim_laws.specs.Sound.{AreCrossings};
 ghost use Rattle.net_model.specs.State.{event_count};
 ghost use Rattle.world_core.specs.Packets.{AreGone, CanBeKept, HasArrived, HasEntered, IsNumberOf, most_sent, port_of_key};
@@ -31,6 +30,7 @@ use net_model::crossing::{Aim, Group};
 use ovn_base::limits::{FLOOD_KEY, MAX_ARRIVALS, UNKNOWN_KEY};
 use ovn_base::memory::NoMemory;
 use ovn_base::name::Name;
+use sim_laws::journeys::journeys_refine;
 use switch_engine::effect::NetEffect;
 use tunnel_keys::owner::Identity;
 
@@ -154,13 +154,15 @@ impl World {
         packet: Packet,
         out: &mut SimOut,
     ) -> Result<(), NoMemory>
-        requires amidst { IsAmidst self.old.state self.old.zones 0 }
-        requires held { AreHeld self.old.state self.old.zones.numbers self.old.sim }
+        requires under_way { IsUnderWay self.old.state self.old.zones 0 }
+        requires built { IsBuilt self.old.state.config.net }
+        requires held { AreHeld self.old.state self.old.zones self.old.sim }
         requires taken { self.old.whole ≡ false }
         requires bound { IsSome (at self.old.state.config.bindings port.now) }
         requires whole { IsWhole packet }
-        ensures { OnOk result (HasEntered self.old port.now (frame_of packet) out.old out.new self.new) }
+        ensures { OnOk result (HasEntered self.old port.now packet out.old out.new self.new) }
     {
+        journeys_refine();
         let before = out.effects.len();
         match self.sim.inject(port, packet, 0, out) {
             Ok(()) => {}
@@ -168,6 +170,7 @@ impl World {
             Err(SimFault::NotBound(_)) => unreachable!(),
             Err(SimFault::NoFrame(_)) => unreachable!(),
         }
+        self.sim.state_holds();
         self.keep_crossings(port, &out.effects.as_slice()[before..])?;
         Ok(())
     }
@@ -179,18 +182,21 @@ impl World {
         keep: bool,
         out: &mut SimOut,
     ) -> Result<(), NoMemory>
-        requires amidst { IsAmidst self.old.state self.old.zones most_sent }
-        requires held { AreHeld self.old.state self.old.zones.numbers self.old.sim }
+        requires under_way { IsUnderWay self.old.state self.old.zones most_sent }
+        requires built { IsBuilt self.old.state.config.net }
+        requires held { AreHeld self.old.state self.old.zones self.old.sim }
         requires taken { self.old.whole ≡ false }
         requires waits { IsSome (numbered self.old.state.waiting frame) }
         ensures { OnOk result (HasArrived self.old frame keep out.old out.new self.new) }
     {
+        journeys_refine();
         match self.sim.arrive(frame, keep, 0, out) {
             Ok(()) => {}
             Err(SimFault::Memory) => return Err(NoMemory),
             Err(SimFault::NotBound(_)) => unreachable!(),
             Err(SimFault::NoFrame(_)) => unreachable!(),
         }
+        self.sim.state_holds();
         if !keep {
             self.crossings.remove(&frame);
         }
@@ -200,10 +206,10 @@ impl World {
     // Takes a frame that waits away.
     pub(super) fn lose(&mut self, frame: u128)
         requires crossings { AreCrossings self.old.state }
-        requires held { AreHeld self.old.state self.old.zones.numbers self.old.sim }
+        requires held { AreHeld self.old.state self.old.zones self.old.sim }
         requires taken { self.old.whole ≡ false }
         requires waits { IsSome (numbered self.old.state.waiting frame) }
-        ensures { self.new ≡ record self.old { state = with_kept false self.old.state frame; sim = arrived self.old.sim frame false } }
+        ensures { self.new ≡ record self.old { state = without_crossing self.old.state frame; sim = without self.old.sim frame } }
     {
         match self.sim.lose(frame) {
             Ok(()) => {}
@@ -216,8 +222,9 @@ impl World {
 
     // The lowest frame arrives again and again, until none waits or 65,536 arrived.
     pub(super) fn drain(&mut self, out: &mut SimOut) -> Result<(), NoMemory>
-        requires amidst { IsAmidst self.old.state self.old.zones most_sent }
-        requires held { AreHeld self.old.state self.old.zones.numbers self.old.sim }
+        requires under_way { IsUnderWay self.old.state self.old.zones most_sent }
+        requires built { IsBuilt self.old.state.config.net }
+        requires held { AreHeld self.old.state self.old.zones self.old.sim }
         requires taken { self.old.whole ≡ false }
         ensures { OnOk result (AreGone most_arrivals self.old out.old out.new self.new) }
     {

@@ -87,7 +87,6 @@ impl World {
             Entering::Short => return Err(StepFault::Refused(Refusal::TooShort)),
             Entering::Big => return Err(StepFault::Refused(Refusal::TooBig)),
             Entering::BadIp4 => return Err(StepFault::Refused(Refusal::BadIp4)),
-            Entering::Arp => return Err(StepFault::Refused(Refusal::NotBuilt)),
         };
         if let Some(why) = self.too_many_wait() {
             return Err(StepFault::Refused(why));

@@ -1,7 +1,7 @@
 use Rattle.std.specs.List.{AllByRecursion}
 use Rattle.std.proofs.Common.{sym, subst, ◌∙◌}
 use Rattle.stage_rows.specs.Units.{rows_of}
-use Rattle.northd_core.specs.Lowering.{Lowering, IsLowerable}
+use Rattle.northd_core.specs.Lowering.{IsLowerable}
 use Rattle.northd_core.proofs.Counted.{more_counted}
 use Rattle.northd_core.proofs.LoweredRows.{can_be_lowered}
 use Rattle.northd_core.proofs.lowering.lower_unit.Goals as goal

@@ -1,5 +1,4 @@
 use Rattle.world_core.proofs.OneStep.{same_run, same_step}
-use Rattle.world_core.proofs.OnePass.{same_walks}
 use Rattle.world_core.proofs.one_run.one_run.Goals as goal
 
 pub returns-clause-step : goal.returns-clause-step
@@ -7,6 +6,3 @@ returns-clause-step c = same_step
 
 pub returns-clause-run : goal.returns-clause-run
 returns-clause-run c = same_run
-
-pub returns-clause-walks : goal.returns-clause-walks
-returns-clause-walks c = same_walks

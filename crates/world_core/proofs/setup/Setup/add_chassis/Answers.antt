@@ -29,9 +29,17 @@ pub prepare-requires-clause-fits : goal.prepare-requires-clause-fits
 prepare-requires-clause-fits c =
     (chassis_readied c.args.self.now.ground c.args.number c.args.chassis c.requires.may.0 c.requires.may.1 (allowed c) c.args.self.now.ground refl c.in_ok-names_with.field-0 (names_are c)).fits
 
-pub prepare-requires-clause-tables : goal.prepare-requires-clause-tables
-prepare-requires-clause-tables c =
-    (chassis_readied c.args.self.now.ground c.args.number c.args.chassis c.requires.may.0 c.requires.may.1 (allowed c) c.args.self.now.ground refl c.in_ok-names_with.field-0 (names_are c)).tables
+pub prepare-requires-clause-before : goal.prepare-requires-clause-before
+prepare-requires-clause-before c =
+    (chassis_readied c.args.self.now.ground c.args.number c.args.chassis c.requires.may.0 c.requires.may.1 (allowed c) c.args.self.now.ground refl c.in_ok-names_with.field-0 (names_are c)).tables.switched
+
+pub prepare-requires-clause-switched : goal.prepare-requires-clause-switched
+prepare-requires-clause-switched c =
+    (chassis_readied c.args.self.now.ground c.args.number c.args.chassis c.requires.may.0 c.requires.may.1 (allowed c) c.args.self.now.ground refl c.in_ok-names_with.field-0 (names_are c)).tables_then.switched
+
+pub prepare-requires-clause-compiled : goal.prepare-requires-clause-compiled
+prepare-requires-clause-compiled c =
+    (chassis_readied c.args.self.now.ground c.args.number c.args.chassis c.requires.may.0 c.requires.may.1 (allowed c) c.args.self.now.ground refl c.in_ok-names_with.field-0 (names_are c)).tables_then.compiled
 
 pub prepare-requires-clause-once : goal.prepare-requires-clause-once
 prepare-requires-clause-once c =
@@ -58,8 +66,8 @@ returns-clause-turn c =
     (subst (λ (x : GroundView). nat_le 64 (length x.config.chassis) ≡ false) (ap (λ (i : Inside). i.ground) c.self-inside.view_is) (lt-leb 64 _ (subst (λ k. k < 64) c.len.ensures c.if-len-ge-MAX_CHASSIS.false))) in
     record {
       patch = c.in_ok-turn.ensures.patch;
-      tables = tables_then g g refl turn.patch.change _ c.in_ok-turn.ensures.change turn.sim turn.sim refl refl refl refl c.in_ok-turn.ensures.turned;
+      tables = tables_then g g refl turn.patch.change _ c.in_ok-turn.ensures.change turn.sim turn.sim refl refl refl c.in_ok-turn.ensures.turned;
       turned = λ m may.
           subst (λ ch. IsTurned m g.zones (event_of.AddChassis chassis) turn.effects turn.sim (changed ch g)) (sym c.in_ok-turn.ensures.change)
-          (chassis_turns g n chassis m may (allowed_then m may) c.in_ok-names_with.field-0 names turn.effects c.in_ok-turn.ensures.bare.effects turn.sim c.in_ok-turn.ensures.bare.bound c.in_ok-turn.ensures.bare.names);
+          (chassis_turns g n chassis m may (allowed_then m may) c.in_ok-names_with.field-0 names turn.effects c.in_ok-turn.ensures.bare.effects turn.sim c.in_ok-turn.ensures.bare.bound c.in_ok-turn.ensures.bare.names c.in_ok-turn.ensures.bare.emptied);
     }

@@ -5,19 +5,21 @@ use Rattle.event_lines.specs.declared.refusal.Refusal.TheVariants as why
 use Rattle.nb_edits.specs.OpFaults.{fault_of}
 use Rattle.nb_edits.specs.Plans.{StandsFor}
 use Rattle.nb_records.specs.Editing.{accepted}
+use Rattle.net_model.specs.State.{State}
+use Rattle.northd_core.specs.Lowering.{CanCompile, IsLoweredPlan}
 use Rattle.tunnel_keys.specs.Causes.{HasKeys}
 use Rattle.tunnel_keys.specs.Edits.{IsAfter}
 use Rattle.tunnel_keys.specs.Keys.{Keys}
 use Rattle.world_core.specs.Ground.{GroundView}
 use Rattle.world_core.specs.Refusing.{refusal}
-use Rattle.world_core.specs.Setup.{SetupView}
-use Rattle.world_core.specs.Turning.{IsPlannedEdit, Tells}
+use Rattle.world_core.specs.Setup.{SetupView, lowering_in}
+use Rattle.world_core.specs.Turning.{IsPlannedEdit, MayTurn, Tells}
 use Rattle.world_core.specs.declared.setup.Setup.TheInside.{Inside}
-use Rattle.world_core.proofs.ReadiedChanges.{edit_tells, ground_with, keys_fit, keys_tell}
+use Rattle.world_core.proofs.ReadiedChanges.{edit_tables, edit_tells, ground_with, keys_fit, keys_tell}
 use Rattle.world_core.proofs.setup.Setup.edit.Goals as goal
 
 pub keys_for-requires : goal.keys_for-requires
-keys_for-requires c =
+keys_for-requires bounds c =
     let g = c.args.self.now.ground in
     let n = c.args.number in
     let ops = c.args.ops.now in
@@ -29,7 +31,7 @@ keys_for-requires c =
     }
 
 pub returns-in_err-records-clause-refused : goal.returns-in_err-records-clause-refused
-returns-in_err-records-clause-refused c =
+returns-in_err-records-clause-refused bounds c =
     let g = c.args.self.now.ground in
     let n = c.args.number in
     let ops = c.args.ops.now in
@@ -39,7 +41,7 @@ returns-in_err-records-clause-refused c =
     rw failed.1 (λ m may. edit_tells g n ops m may failed.0 (sym c.is_built_edit.ensures ∙ c.if-not-is_built_edit.false) (subst (λ f. Tells f (option_map (λ f. why.Schema f) (fault_of g.config.net ops n))) (sym failed.2) told))
 
 pub returns-in_err-keys-clause-refused : goal.returns-in_err-keys-clause-refused
-returns-in_err-keys-clause-refused c =
+returns-in_err-keys-clause-refused bounds c =
     let g = c.args.self.now.ground in
     let n = c.args.number in
     let ops = c.args.ops.now in
@@ -51,8 +53,8 @@ returns-in_err-keys-clause-refused c =
     rw failed.1 (λ m may. subst (λ f. Tells f (refusal m (event_of.Edit ops))) (sym failed.2)
     (keys_tell g n ops m may plan (sym c.is_built_edit.ensures ∙ c.if-not-is_built_edit.false) none stands _ (ap (λ (x : GroundView). x.keys) start) c.in_err-keys.field-0.0 c.in_err-keys.ensures.lacks))
 
-pub edited-requires-clause-planned : goal.edited-requires-clause-planned
-edited-requires-clause-planned c =
+pub lower-requires-clause-had : goal.lower-requires-clause-had
+lower-requires-clause-had bounds c =
     let g = c.args.self.now.ground in
     let n = c.args.number in
     let ops = c.args.ops.now in
@@ -68,4 +70,52 @@ edited-requires-clause-planned c =
       after = subst (λ (k : Keys). IsAfter k plan.added plan.removed keys) held c.in_ok-keys.ensures.after;
       enough = subst (λ (k : Keys). HasKeys k plan.added plan.removed) held c.in_ok-keys.ensures.enough;
     } in
-    subst (λ x. IsPlannedEdit x n ops plan keys) (sym now) planned
+    subst (λ (x : GroundView). CanCompile (lowering_in x)) (sym now) (edit_tables g n ops c.requires.may.0 c.requires.may.1 plan keys planned).0.compiled
+
+pub lower-requires-clause-after : goal.lower-requires-clause-after
+lower-requires-clause-after bounds c =
+    let g = c.args.self.now.ground in
+    let n = c.args.number in
+    let ops = c.args.ops.now in
+    let plan = c.in_ok-records.records in
+    let keys = c.in_ok-keys.keys in
+    let start = ap (λ (i : Inside). i.ground) c.self-inside.view_is ∙ ap (λ (s : SetupView). s.ground) c.self.view_is in
+    let held = ap (λ (x : GroundView). x.keys) start in
+    let now = (λ i. ground_with (c.planned.ensures.kept i) c.self-inside.inside.0.0.chassis (c.keys_for.ensures.kept i) c.self-inside.inside.0.0.zones) ∙ start in
+    let planned : IsPlannedEdit g n ops plan keys = record {
+      built = sym c.is_built_edit.ensures ∙ c.if-not-is_built_edit.false;
+      faultless = subst (λ (x : GroundView). fault_of x.config.net ops n ≡ None) start c.in_ok-records.ensures.faultless;
+      stands = subst (λ (x : GroundView). StandsFor x.config.net (accepted x.config.net ops n) plan) start c.in_ok-records.ensures.stands;
+      after = subst (λ (k : Keys). IsAfter k plan.added plan.removed keys) held c.in_ok-keys.ensures.after;
+      enough = subst (λ (k : Keys). HasKeys k plan.added plan.removed) held c.in_ok-keys.ensures.enough;
+    } in
+    (edit_tables g n ops c.requires.may.0 c.requires.may.1 plan keys planned).1.compiled
+
+pub edited-requires-clause-may : goal.edited-requires-clause-may
+edited-requires-clause-may bounds c =
+    let start = ap (λ (i : Inside). i.ground) c.self-inside.view_is ∙ ap (λ (s : SetupView). s.ground) c.self.view_is in
+    let now = (λ i. ground_with (c.planned.ensures.kept i) c.self-inside.inside.0.0.chassis (c.keys_for.ensures.kept i) c.self-inside.inside.0.0.zones) ∙ start in
+    subst (λ (x : GroundView). (m : State) × MayTurn x c.args.number (event_of.Edit c.args.ops.now) m) (sym (c.lower.ensures.kept ∙ now)) c.requires.may
+
+pub edited-requires-clause-lowered : goal.edited-requires-clause-lowered
+edited-requires-clause-lowered bounds c =
+    subst (λ (x : GroundView). IsLoweredPlan (lowering_in x) (record { net = c.in_ok-records.records.after; keys = c.in_ok-keys.keys }) c.lower.new.self.lowered c.in_ok-lowered.lowered) (sym c.lower.ensures.kept) c.in_ok-lowered.ensures.planned
+
+pub edited-requires-clause-planned : goal.edited-requires-clause-planned
+edited-requires-clause-planned bounds c =
+    let g = c.args.self.now.ground in
+    let n = c.args.number in
+    let ops = c.args.ops.now in
+    let plan = c.in_ok-records.records in
+    let keys = c.in_ok-keys.keys in
+    let start = ap (λ (i : Inside). i.ground) c.self-inside.view_is ∙ ap (λ (s : SetupView). s.ground) c.self.view_is in
+    let held = ap (λ (x : GroundView). x.keys) start in
+    let now = (λ i. ground_with (c.planned.ensures.kept i) c.self-inside.inside.0.0.chassis (c.keys_for.ensures.kept i) c.self-inside.inside.0.0.zones) ∙ start in
+    let planned : IsPlannedEdit g n ops plan keys = record {
+      built = sym c.is_built_edit.ensures ∙ c.if-not-is_built_edit.false;
+      faultless = subst (λ (x : GroundView). fault_of x.config.net ops n ≡ None) start c.in_ok-records.ensures.faultless;
+      stands = subst (λ (x : GroundView). StandsFor x.config.net (accepted x.config.net ops n) plan) start c.in_ok-records.ensures.stands;
+      after = subst (λ (k : Keys). IsAfter k plan.added plan.removed keys) held c.in_ok-keys.ensures.after;
+      enough = subst (λ (k : Keys). HasKeys k plan.added plan.removed) held c.in_ok-keys.ensures.enough;
+    } in
+    subst (λ x. IsPlannedEdit x n ops plan keys) (sym (c.lower.ensures.kept ∙ now)) planned

@@ -33,8 +33,17 @@ prepare-requires-clause-fits c = (readied c).fits
 pub prepare-requires-clause-once : goal.prepare-requires-clause-once
 prepare-requires-clause-once c = (readied c).once
 
-pub prepare-requires-clause-tables : goal.prepare-requires-clause-tables
-prepare-requires-clause-tables c = (readied c).tables
+pub prepare-requires-clause-before : goal.prepare-requires-clause-before
+prepare-requires-clause-before c = (readied c).tables.switched
+
+pub prepare-requires-clause-switched : goal.prepare-requires-clause-switched
+prepare-requires-clause-switched c = (readied c).tables_then.switched
+
+pub prepare-requires-clause-compiled : goal.prepare-requires-clause-compiled
+prepare-requires-clause-compiled c = (readied c).tables_then.compiled
+
+pub prepare-requires-clause-planned : goal.prepare-requires-clause-planned
+prepare-requires-clause-planned c = c.requires.lowered
 
 pub prepare-requires-clause-touched : goal.prepare-requires-clause-touched
 prepare-requires-clause-touched c = (readied c).touched_alone
@@ -53,8 +62,8 @@ returns-clause-turn c =
     let named : c.in_ok-names.names ≡ map (key_name keys) plan.added = c.in_ok-names.ensures ∙ (λ i. map (key_name (c.after-2.ensures i)) (c.added-2.ensures i)) in
     record {
       patch = c.in_ok-turn.ensures.patch;
-      tables = tables_then g g refl turn.patch.change _ c.in_ok-turn.ensures.change turn.sim sim refl refl refl refl c.in_ok-turn.ensures.turned;
+      tables = tables_then g g refl turn.patch.change _ c.in_ok-turn.ensures.change turn.sim sim refl refl refl c.in_ok-turn.ensures.turned;
       turned = λ m may.
           subst (λ ch. IsTurned m g.zones (event_of.Edit ops) effects sim (changed ch g)) (sym c.in_ok-turn.ensures.change)
-          (edit_turns g n ops m may plan keys c.requires.planned effects told sim c.in_ok-turn.ensures.bare.bound named);
+          (edit_turns g n ops m may plan keys c.requires.planned effects told sim c.in_ok-turn.ensures.bare.bound c.in_ok-turn.ensures.bare.emptied named);
     }

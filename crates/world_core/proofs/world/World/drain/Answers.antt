@@ -1,5 +1,7 @@
 use Rattle.std.proofs.Common.{◌≡◌, ◌-◌, [], ◌∷◌, sym, ap, ◌∙◌, subst, inl, inr, arith, false}
 use Rattle.std.proofs.lemmas.Bool.{false≢true}
+use Rattle.net_model.specs.State.{State}
+use Rattle.world_core.specs.Built.{IsBuilt}
 use Rattle.world_core.specs.Packets.{HasArrived}
 use Rattle.world_core.specs.Waiting.{crossing_of, crossings_of, frame_under}
 use Rattle.world_core.specs.WorldView.{WorldView}
@@ -7,7 +9,7 @@ use Rattle.world_core.proofs.DrainSteps.{AreDraining, drain_begins, drain_goes_o
 use Rattle.world_core.proofs.world.World.drain.Goals as goal
 
 pub arrivals-init : goal.arrivals-init
-arrivals-init c = record { draining = drain_begins c.args.self.now c.args.out.now c.requires.amidst c.requires.held; taken = c.requires.taken }
+arrivals-init c = record { draining = drain_begins c.args.self.now c.args.out.now c.requires.under_way c.requires.held; taken = c.requires.taken }
 
 pub returns-in_default : goal.returns-in_default
 returns-in_default c =
@@ -24,6 +26,9 @@ arrive-requires-clause-waits c =
     let x = crossing_of c.in-Some.field-0-1.now (frame_under frames n) in
     let behind = crossings_of first.0 frames in
     first_waits c.arrivals.self.state n x behind (ap (λ (v : WorldView). v.state.waiting) (sym c.self.view_is) ∙ ap (λ names. crossings_of names frames) first.1)
+
+pub arrive-requires-clause-built : goal.arrive-requires-clause-built
+arrive-requires-clause-built c = subst (λ (m : State). IsBuilt m.config.net) (sym c.arrivals.invariant.draining.still) c.requires.built
 
 pub arrivals-preserved : goal.arrivals-preserved
 arrivals-preserved c =

@@ -1,70 +1,71 @@
-use Rattle.std.proofs.Common.{refl, ◌≡◌, ◌++◌, ℕ, List, IsSome, drop, sym, ap, ◌∙◌, subst}
+use Rattle.std.proofs.Common.{refl, ◌≡◌, ◌++◌, ℕ, List, drop, length, sym, ap, ◌∙◌, subst}
 use Rattle.std.proofs.lemmas.List.{take_rest}
-use Rattle.inet_packet.specs.Frame.{frame_of}
-use Rattle.ovn_base.specs.names.ByName.{at}
-use Rattle.ovn_base.specs.declared.name.Name.{Name}
-use Rattle.net_model.specs.declared.crossing.Crossing.{Crossing}
-use Rattle.switch_engine.specs.declared.effect.NetEffect.{NetEffect}
-use Rattle.world_core.specs.Inside.{seen_of}
+use Rattle.chassis_sim.specs.Holding.{AreZoned}
+use Rattle.chassis_sim.specs.Passing.{IsInjected}
+use Rattle.chassis_sim.specs.State as sim
+use Rattle.chassis_sim.specs.declared.out.SimOut.{SimOut}
+use Rattle.inet_packet.specs.Whole.{IsWhole}
+use Rattle.inet_packet.specs.declared.packet.Packet as inet
+use Rattle.sim_laws.specs.journeys.Refining.{EntryJourneyLaw}
+use Rattle.switch_engine.specs.Outcome.{any_legal}
+use Rattle.world_core.specs.declared.world.World.TheInside.{Inside}
 use Rattle.net_model.specs.State.{State}
-use Rattle.world_core.specs.Packets.{CanBeKept, HasEntered}
-use Rattle.sim_laws.specs.Passing.{GoesIn, clock}
-use Rattle.sim_laws.specs.Refinement.{IsAmidst}
-use Rattle.world_core.specs.WorldView.{WorldView}
-use Rattle.sim_laws.specs.Held.{AreHeld}
-use Rattle.world_core.proofs.PacketState.{goes_on, behind_with}
+use Rattle.net_model.specs.declared.crossing.Crossing.{Crossing}
+use Rattle.ovn_base.specs.declared.name.Name.{Name}
+use Rattle.sim_laws.specs.journeys.UnderWay.{IsUnderWay}
+use Rattle.switch_engine.specs.declared.effect.NetEffect.{NetEffect}
+use Rattle.world_core.proofs.PacketState.{GoesOn, behind_with, goes_on, world_with}
 use Rattle.world_core.proofs.WaitingNames.{names_back, others_wait, seen_front}
+use Rattle.world_core.specs.Built.{IsBuilt}
+use Rattle.world_core.specs.Inside.{seen_of}
+use Rattle.world_core.specs.Packets.{CanBeKept, HasEntered}
+use Rattle.world_core.specs.WorldView.{AreHeld, WorldView}
 use Rattle.world_core.proofs.world.World.enter.Goals as goal
 
 -- they can be kept as well behind the same crossings
 can_also : (m : State) (waiting : List (ℕ × Crossing)) (p : Name) (effects : List NetEffect) (ws : List (ℕ × Crossing)) → waiting ≡ m.waiting → CanBeKept m p effects ws → CanBeKept (record m { waiting = waiting }) p effects ws
 can_also m waiting p effects ws same can = subst (λ l. CanBeKept (record m { waiting = l }) p effects ws) (sym same) can
 
+-- the packet goes in from the world as it is kept
+goes : EntryJourneyLaw → (w : Inside) (v : WorldView) → seen_of w ≡ v → (p : Name) (packet : inet.Packet) (before after : SimOut) (s : sim.SimState) (effects : List NetEffect) → IsUnderWay v.state v.zones 0 → IsBuilt v.state.config.net → AreHeld v.state v.zones v.sim → IsWhole packet
+    → IsInjected any_legal w.sim.state p 0 packet before after s → AreZoned s.chassis s.zones → effects ≡ drop (length before.effects) after.effects → GoesOn (seen_of w) p packet before after s effects
+goes law w v view p packet before after s effects under_way built held whole injected zoned are =
+    goes_on law (seen_of w) p packet before after s effects (subst (λ (v : WorldView). IsUnderWay v.state v.zones 0) (sym view) under_way) (subst (λ (v : WorldView). IsBuilt v.state.config.net) (sym view) built)
+    (subst (λ (v : WorldView). AreHeld v.state v.zones v.sim) (sym view) held) whole injected zoned are
+
 pub keep_crossings-requires-clause-sent : goal.keep_crossings-requires-clause-sent
 keep_crossings-requires-clause-sent c =
     let old = seen_of c.self.inside in
-    let amidst : IsAmidst old.state old.zones 0 = subst (λ (v : WorldView). IsAmidst v.state v.zones 0) (sym c.self.view_is) c.requires.amidst in
-    let held : AreHeld old.state old.zones.numbers old.sim = subst (λ (v : WorldView). AreHeld v.state v.zones.numbers v.sim) (sym c.self.view_is) c.requires.held in
-    let bound : IsSome (at old.state.config.bindings c.args.port.now) = subst (λ (v : WorldView). IsSome (at v.state.config.bindings c.args.port.now)) (sym c.self.view_is) c.requires.bound in
-    let in' : GoesIn clock old.sim c.args.port.now (frame_of c.args.packet) c.args.out.now c.inject.new.out c.inject.new.self.state =
-    record { packet = c.args.packet; whole = c.requires.whole; frame_is = refl; injected = c.in-Ok.ensures.answer.0 } in
-    let after = c.inject.new.out.effects in
-    let slice = take_rest c.as_slice.result.now c.len-before.result ∙ ap (λ l. drop c.len-before.result l) c.as_slice.ensures ∙ ap (λ n. drop n after) c.len-before.ensures in
     let s = c.inject.new.self.state in
-    let g = goes_on old c.args.port.now (frame_of c.args.packet) c.args.out.now c.inject.new.out s _ amidst held bound in' slice in
-    let m : State = record old.state { next = s.next } in
-    let seen = seen_front old.state g.crossings old.zones.numbers s c.self.inside.crossings.entries g.entered.amidst.crossings g.entered.held (sym (names_back c.self.inside.crossings.entries old.sim.waiting)) in
-    (g.crossings, can_also m _ c.args.port.now _ g.crossings seen g.can)
+    let g =
+    goes c.journeys_refine.ensures.enters c.self.inside c.args.self.now c.self.view_is c.args.port.now c.args.packet c.args.out.now c.inject.new.out c.inject.new.self.state _ c.requires.under_way c.requires.built c.requires.held c.requires.whole c.in-Ok.ensures.answer.0 c.state_holds.ensures.state.zoned
+    (take_rest c.as_slice.result.now c.len-before.result ∙ ap (λ l. drop c.len-before.result l) c.as_slice.ensures ∙ ap (λ n. drop n c.inject.new.out.effects) c.len-before.ensures) in
+    let k = (behind_with old g.crossings s).state in
+    let seen = seen_front k old.state.waiting g.crossings s refl g.entered.under_way.crossings g.entered.held.waiting c.self.inside.crossings.entries (sym (names_back c.self.inside.crossings.entries old.sim.waiting)) in
+    (g.crossings, can_also (world_with old old.state.waiting s).state _ c.args.port.now _ g.crossings seen g.can)
 
 pub keep_crossings-requires-clause-waiting : goal.keep_crossings-requires-clause-waiting
 keep_crossings-requires-clause-waiting c =
     let old = seen_of c.self.inside in
-    let amidst : IsAmidst old.state old.zones 0 = subst (λ (v : WorldView). IsAmidst v.state v.zones 0) (sym c.self.view_is) c.requires.amidst in
-    let held : AreHeld old.state old.zones.numbers old.sim = subst (λ (v : WorldView). AreHeld v.state v.zones.numbers v.sim) (sym c.self.view_is) c.requires.held in
-    let bound : IsSome (at old.state.config.bindings c.args.port.now) = subst (λ (v : WorldView). IsSome (at v.state.config.bindings c.args.port.now)) (sym c.self.view_is) c.requires.bound in
-    let in' : GoesIn clock old.sim c.args.port.now (frame_of c.args.packet) c.args.out.now c.inject.new.out c.inject.new.self.state =
-    record { packet = c.args.packet; whole = c.requires.whole; frame_is = refl; injected = c.in-Ok.ensures.answer.0 } in
-    let after = c.inject.new.out.effects in
-    let slice = take_rest c.as_slice.result.now c.len-before.result ∙ ap (λ l. drop c.len-before.result l) c.as_slice.ensures ∙ ap (λ n. drop n after) c.len-before.ensures in
     let s = c.inject.new.self.state in
-    let g = goes_on old c.args.port.now (frame_of c.args.packet) c.args.out.now c.inject.new.out s _ amidst held bound in' slice in
-    others_wait old.state g.crossings old.zones.numbers s _ g.entered.amidst.crossings g.entered.held g.can.sent.frames
+    let g =
+    goes c.journeys_refine.ensures.enters c.self.inside c.args.self.now c.self.view_is c.args.port.now c.args.packet c.args.out.now c.inject.new.out c.inject.new.self.state _ c.requires.under_way c.requires.built c.requires.held c.requires.whole c.in-Ok.ensures.answer.0 c.state_holds.ensures.state.zoned
+    (take_rest c.as_slice.result.now c.len-before.result ∙ ap (λ l. drop c.len-before.result l) c.as_slice.ensures ∙ ap (λ n. drop n c.inject.new.out.effects) c.len-before.ensures) in
+    let k = (behind_with old g.crossings s).state in
+    others_wait k old.state.waiting g.crossings s refl g.entered.under_way.crossings g.entered.held.waiting _ g.can.sent.frames
 
 pub returns : goal.returns
 returns c =
     let old = seen_of c.self.inside in
-    let amidst : IsAmidst old.state old.zones 0 = subst (λ (v : WorldView). IsAmidst v.state v.zones 0) (sym c.self.view_is) c.requires.amidst in
-    let held : AreHeld old.state old.zones.numbers old.sim = subst (λ (v : WorldView). AreHeld v.state v.zones.numbers v.sim) (sym c.self.view_is) c.requires.held in
-    let bound : IsSome (at old.state.config.bindings c.args.port.now) = subst (λ (v : WorldView). IsSome (at v.state.config.bindings c.args.port.now)) (sym c.self.view_is) c.requires.bound in
-    let in' : GoesIn clock old.sim c.args.port.now (frame_of c.args.packet) c.args.out.now c.inject.new.out c.inject.new.self.state =
-    record { packet = c.args.packet; whole = c.requires.whole; frame_is = refl; injected = c.in-Ok.ensures.answer.0 } in
-    let after = c.inject.new.out.effects in
-    let slice = take_rest c.as_slice.result.now c.len-before.result ∙ ap (λ l. drop c.len-before.result l) c.as_slice.ensures ∙ ap (λ n. drop n after) c.len-before.ensures in
     let s = c.inject.new.self.state in
-    let g = goes_on old c.args.port.now (frame_of c.args.packet) c.args.out.now c.inject.new.out s _ amidst held bound in' slice in
-    let m : State = record old.state { next = s.next } in
-    let seen = seen_front old.state g.crossings old.zones.numbers s c.self.inside.crossings.entries g.entered.amidst.crossings g.entered.held (sym (names_back c.self.inside.crossings.entries old.sim.waiting)) in
-    let can = can_also m _ c.args.port.now _ g.crossings seen g.can in
-    let now : c.keep_crossings.new.self ≡ behind_with old g.crossings s = c.in_ok-keep_crossings.ensures g.crossings can ∙ (λ i. record old { state = record m { waiting = seen i ++ g.crossings }; sim = s }) in
-    subst (λ (v : WorldView). HasEntered v c.args.port.now (frame_of c.args.packet) c.args.out.now c.inject.new.out c.keep_crossings.new.self) c.self.view_is
-    (subst (λ (v : WorldView). HasEntered old c.args.port.now (frame_of c.args.packet) c.args.out.now c.inject.new.out v) (sym now) g.entered)
+    let g =
+    goes c.journeys_refine.ensures.enters c.self.inside c.args.self.now c.self.view_is c.args.port.now c.args.packet c.args.out.now c.inject.new.out c.inject.new.self.state _ c.requires.under_way c.requires.built c.requires.held c.requires.whole c.in-Ok.ensures.answer.0 c.state_holds.ensures.state.zoned
+    (take_rest c.as_slice.result.now c.len-before.result ∙ ap (λ l. drop c.len-before.result l) c.as_slice.ensures ∙ ap (λ n. drop n c.inject.new.out.effects) c.len-before.ensures) in
+    let k = (behind_with old g.crossings s).state in
+    let names = c.self.inside.crossings.entries in
+    let seen = seen_front k old.state.waiting g.crossings s refl g.entered.under_way.crossings g.entered.held.waiting names (sym (names_back names old.sim.waiting)) in
+    let can = can_also (world_with old old.state.waiting s).state _ c.args.port.now _ g.crossings seen g.can in
+    let now : c.keep_crossings.new.self ≡ behind_with old g.crossings s =
+    c.in_ok-keep_crossings.ensures g.crossings can ∙ (λ i. world_with old (seen i ++ g.crossings) s) in
+    subst (λ (v : WorldView). HasEntered v c.args.port.now c.args.packet c.args.out.now c.inject.new.out c.keep_crossings.new.self) c.self.view_is
+    (subst (λ (v : WorldView). HasEntered old c.args.port.now c.args.packet c.args.out.now c.inject.new.out v) (sym now) g.entered)

@@ -1,11 +1,15 @@
 use Rattle.std.proofs.Common.{◌≡◌, None, subst}
 use Rattle.edit_reader.specs.declared.event.Event.TheVariants as event_of
-use Rattle.world_core.specs.Packets.{HasEntered}
 use Rattle.world_core.specs.Refusing.{cause_of_entry}
 use Rattle.world_core.specs.StepParts.{IsDone}
-use Rattle.world_core.proofs.PacketEvents.{entry_done, handed_on}
-use Rattle.world_core.proofs.Refusals.{no_arp_in}
+use Rattle.world_core.proofs.PacketEvents.{entry_done, handed_on, under_way_of}
 use Rattle.world_core.proofs.world.World.inject.Goals as goal
+
+pub enter-requires-clause-under_way : goal.enter-requires-clause-under_way
+enter-requires-clause-under_way c = under_way_of c.args.self.now c.requires.taken
+
+pub enter-requires-clause-built : goal.enter-requires-clause-built
+enter-requires-clause-built c = c.requires.taken.consistent.built
 
 pub returns : goal.returns
 returns c =
@@ -13,10 +17,9 @@ returns c =
     let port = c.args.port.now in
     let frame = c.as_slice.result.now in
     let done = c.done_from.result in
-    let entered : HasEntered old port frame c.new-out.result c.enter.new.out c.enter.new.self = subst (λ f. HasEntered old port f c.new-out.result c.enter.new.out c.enter.new.self) c.in_ok-packet.ensures.packet.frame_is c.in_ok-enter.ensures in
     subst (λ f. (cause_of_entry old.state port f ≡ None) × IsDone old (event_of.Inject port f) done.effects done.walks done.matched c.finish.new.self) c.as_slice.ensures (
       c.in_ok-packet.ensures.allowed,
       handed_on old c.finish.new.self (event_of.Inject port frame) c.enter.new.out done.effects done.walks done.matched c.done_from.ensures.effects c.done_from.ensures.walks
-          (entry_done old port frame c.new-out.result c.enter.new.out c.enter.new.self c.finish.new.self done.matched (no_arp_in old.state port frame c.in_ok-packet.ensures.allowed) c.requires.taken c.requires.room
-          (record { effects = c.new-out.ensures.effects; walks = c.new-out.ensures.walks }) entered c.finish.ensures c.done_from.ensures.matched),
+          (entry_done old port frame c.in_ok-packet.packet c.new-out.result c.enter.new.out c.enter.new.self c.finish.new.self done.matched c.in_ok-packet.ensures.packet c.requires.taken c.requires.room
+          (record { effects = c.new-out.ensures.effects; walks = c.new-out.ensures.walks }) c.in_ok-enter.ensures c.finish.ensures c.done_from.ensures.matched),
     )

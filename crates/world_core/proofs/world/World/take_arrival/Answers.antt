@@ -1,8 +1,14 @@
 use Rattle.std.proofs.Common.{subst, cond}
 use Rattle.edit_reader.specs.declared.event.Event.TheVariants as event_of
 use Rattle.world_core.specs.StepParts.{IsDone}
-use Rattle.world_core.proofs.PacketEvents.{arrival_done, handed_on}
+use Rattle.world_core.proofs.PacketEvents.{arrival_done, handed_on, under_way_most}
 use Rattle.world_core.proofs.world.World.take_arrival.Goals as goal
+
+pub arrive-requires-clause-under_way : goal.arrive-requires-clause-under_way
+arrive-requires-clause-under_way c = under_way_most c.args.self.now c.requires.taken
+
+pub arrive-requires-clause-built : goal.arrive-requires-clause-built
+arrive-requires-clause-built c = c.requires.taken.consistent.built
 
 pub returns : goal.returns
 returns c =

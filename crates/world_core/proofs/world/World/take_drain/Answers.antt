@@ -1,14 +1,18 @@
 use Rattle.std.specs.Prelude.{◌<◌, ◌^◌}
-use Rattle.std.proofs.Common.{sym, subst}
+use Rattle.std.proofs.Common.{ap, sym, subst}
 use Rattle.edit_reader.specs.declared.event.Event.TheVariants as event_of
-use Rattle.sim_laws.specs.PacketSteps.{most_arrivals}
-use Rattle.world_core.proofs.PacketEvents.{drain_done, drains_events, handed_on}
+use Rattle.net_model.specs.State.{event_count}
+use Rattle.world_core.proofs.PacketEvents.{drain_done, handed_on, under_way_most}
 use Rattle.world_core.proofs.world.World.take_drain.Goals as goal
 
+pub drain-requires-clause-under_way : goal.drain-requires-clause-under_way
+drain-requires-clause-under_way c = under_way_most c.args.self.now c.requires.taken
+
+pub drain-requires-clause-built : goal.drain-requires-clause-built
+drain-requires-clause-built c = c.requires.taken.consistent.built
+
 pub finish-requires-clause-room : goal.finish-requires-clause-room
-finish-requires-clause-room c =
-    let gone = c.in_ok-drain.ensures in
-    subst (λ n. n < 2 ^ 42) (sym (drains_events most_arrivals c.args.self.now.state gone.effects c.drain.new.self.state gone.happens)) c.requires.room
+finish-requires-clause-room c = subst (λ n. n < 2 ^ 42) (sym (ap event_count c.in_ok-drain.ensures.still)) c.requires.room
 
 pub returns : goal.returns
 returns c =

@@ -11,7 +11,7 @@ use Rattle.world_core.proofs.PacketEvents.{counted_world, loss_taken, lost_world
 use Rattle.world_core.proofs.world.World.take_loss.Goals as goal
 
 pub lose-requires-clause-crossings : goal.lose-requires-clause-crossings
-lose-requires-clause-crossings c = subst (λ (v : WorldView). AreCrossings v.state) (sym c.self.view_is) c.requires.sound.consistent.on_the_way.crossings
+lose-requires-clause-crossings c = subst (λ (v : WorldView). AreCrossings v.state) (sym c.self.view_is) c.requires.sound.consistent.at_rest.on_the_way.crossings
 
 pub invariant_of-self-3 : goal.invariant_of-self-3
 invariant_of-self-3 c =

@@ -1,4 +1,4 @@
--- What the difference of two sets of flows is for flows that are held as a list: a delta of them, that leads to the flows of the other set.
+-- What a change of flows is for those that are held as a list: a delta of them, that leads to the flows of the other set.
 use Rattle.std.specs.Prelude.{◌≡◌, ◌↔◌, ◌⊎◌, Bool, true, false, List, refl}
 use Rattle.std.specs.Set.{is_member}
 use Rattle.std.proofs.Common.{sym, ◌∙◌, inl, inr}
@@ -11,7 +11,7 @@ use Rattle.ovn_base.specs.lists.Among.{Among}
 use Rattle.ovn_base.specs.lists.Once.{EachOnce}
 use Rattle.physical_flows.specs.ChassisFlows.{AreExactly}
 use Rattle.physical_flows.specs.UnitFlows.{same_flow}
-use Rattle.sim_laws.specs.journeys.TurnedTables.{IsDifference}
+use Rattle.sim_laws.specs.journeys.TurnedTables.{IsFlowChange}
 
 -- equal flows are the same
 abbrev pub IsExact : Type 0
@@ -24,10 +24,10 @@ listed_or_not exact f fs = by (is_member same_flow fs f) refl
     by true is = inl (member_among same_flow (λ g h e. (exact g h).0 e) f fs is)
     by false is = inr (λ m. false≢true (sym is ∙ among_member same_flow (λ g. (exact g g).1 refl) f fs m))
 
-module _ (Before After : Flow → Type 0) (held : List Flow) (delta : Delta Flow) (exactly : AreExactly Before held) (difference : IsDifference Before After delta) where
+module _ (Before After : Flow → Type 0) (held : List Flow) (delta : Delta Flow) (exactly : AreExactly Before held) (change : IsFlowChange Before After delta) where
   -- what comes isn't there
   pub delta_of_held : IsDeltaOf held delta
-  delta_of_held = record { once = difference.come_once; new = λ f a m. absurd (((difference.come f).0 a).0 ((exactly.same f).0 m)) }
+  delta_of_held = record { once = change.come_once; new = λ f a m. absurd (((change.come f).0 a).0 ((exactly.same f).0 m)) }
 
   -- and the list that it leads to has exactly the flows of the other set
   pub replaced_exactly : IsExact → (others : List Flow) → IsReplaced held delta others → EachOnce others → AreExactly After others
@@ -35,12 +35,12 @@ module _ (Before After : Flow → Type 0) (held : List Flow) (delta : Delta Flow
     where
       is_one : (f : Flow) → Among f others → After f
       is_one f m = elim ((replaced f).0 m) [
-        | inl a ↦ ((difference.come f).0 a).1
-        | inr k ↦ elim (difference.rest f ((exactly.same f).0 k.0)) [ inl stays ↦ stays | inr goes ↦ absurd (k.1 goes) ]
+        | inl a ↦ ((change.come f).0 a).1
+        | inr k ↦ elim (change.rest f ((exactly.same f).0 k.0)) [ inl stays ↦ stays | inr goes ↦ absurd (k.1 goes) ]
       ]
 
       is_listed : (f : Flow) → After f → Among f others
       is_listed f after = elim (listed_or_not exact f held) [
-        | inl m ↦ (replaced f).1 (inr (m, λ g. (difference.go f g).1 after))
-        | inr out ↦ (replaced f).1 (inl ((difference.come f).1 (λ before. out ((exactly.same f).1 before), after)))
+        | inl m ↦ (replaced f).1 (inr (m, λ g. (change.go f g).1 after))
+        | inr out ↦ (replaced f).1 (inl ((change.come f).1 (λ before. out ((exactly.same f).1 before), after)))
       ]
