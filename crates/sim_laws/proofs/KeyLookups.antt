@@ -10,6 +10,17 @@ use Rattle.tunnel_keys.specs.declared.owner.HeldDatapath.{HeldDatapath}
 use Rattle.tunnel_keys.specs.declared.owner.HeldPort.{HeldPort}
 use Rattle.tunnel_keys.specs.declared.owner.Identity.{Identity}
 use Rattle.sim_laws.specs.Effects.{datapath_key, port_key}
+use Rattle.std.proofs.lemmas.Option.{same_Some}
+use Rattle.ovn_base.specs.names.ByName.{at}
+use Rattle.ovn_base.specs.declared.name.Name.{Name}
+use Rattle.nb_records.specs.declared.switch.Switch.{Switch}
+use Rattle.nb_records.specs.declared.switch.SwitchPort.{SwitchPort}
+use Rattle.tunnel_keys.specs.declared.owner.DatapathKey.{DatapathKey}
+use Rattle.tunnel_keys.proofs.HeldKeys.{on_datapath_key}
+use Rattle.physical_flows.specs.RecordKeys.{HaveKeys}
+use Rattle.sim_laws.specs.Sound.{IsOnLive}
+use Rattle.net_model.specs.State.{State}
+use Rattle.physical_flows.proofs.KeyLaws.{datapath_under, port_held}
 
 -- what a search finds that has something to find
 record Finds {X : Type 0} (test : X → Bool) (xs : List X) : Type 0 where
@@ -42,3 +53,32 @@ module _ (keys : Keys) (hold : IsKeys keys) where
       let r = finds test (held_ports keys) h m (subst (λ o. same_identity o id ≡ true) (sym owns) (identity_own id)) in
       let same : r.first ≡ h = hold.port_once r.first h r.among m (identity_exact r.first.owner id r.passes ∙ sym owns) in
       ap (λ o. unwrap_or (option_map (λ (g : HeldPort). g.key) o) 0) r.found ∙ ap (λ (g : HeldPort). g.key) same
+
+-- ---- who has keys
+
+module _ (m : State) (have : HaveKeys m.config.net m.keys) where
+  -- a port of a switch has a key of that switch, and no other
+  pub record HasKeyOn (datapath port : Identity) : Type 0 where
+    pub held : HeldPort
+    pub among : Among held (held_ports m.keys)
+    pub owner : held.owner ≡ port
+    pub on : held.datapath ≡ datapath
+
+  pub key_on : (q a : Name) (port : SwitchPort) (switch : Switch) → at m.config.net.switch_ports q ≡ Some port → port.switch ≡ a → at m.config.net.switches a ≡ Some switch
+      → HasKeyOn (record { name = a; birth = switch.birth }) (record { name = q; birth = port.birth })
+  key_on q a port switch is_there of on =
+      let k = have.port_has q port is_there in
+      let d = datapath_under m.config.net m.keys have q k.0 k.1 in
+      let s = have.datapath_has a switch on in
+      let name : k.0.datapath ≡ a = k.3 ∙ of in
+      let same : d.0 ≡ s.0 = same_Some d.0 s.0 (sym d.1 ∙ ap (λ n. at m.keys.datapaths n) name ∙ s.1) in
+      let birth = ap (λ (x : DatapathKey). x.birth) same ∙ s.2 in
+      record {
+        held = on_datapath_key q k.0 d.0;
+        among = port_held m.config.net m.keys have q k.0 d.0 k.1 d.1;
+        owner = λ i. record { name = q; birth = k.2 i };
+        on = λ i. record { name = name i; birth = birth i };
+      }
+
+  pub on_live : (datapath port : Identity) → HasKeyOn datapath port → IsOnLive m datapath port
+  on_live datapath port k live h among owner = ap (λ (x : HeldPort). x.datapath) (have.hold.port_once h k.held among k.among (owner ∙ sym k.owner)) ∙ k.on

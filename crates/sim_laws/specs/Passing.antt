@@ -9,11 +9,11 @@ use Rattle.chassis_sim.specs.Passing.{IsArrived, IsInjected}
 use Rattle.chassis_sim.specs.State as sim
 use Rattle.chassis_sim.specs.declared.out.SimOut.{SimOut}
 use Rattle.chassis_sim.specs.declared.underlay.WaitingFrame.{WaitingFrame}
-use Rattle.sim_laws.specs.PacketSteps.{most_arrivals}
+use Rattle.ovn_base.specs.declared.limits.TheConstants.{MAX_ARRIVALS}
 
--- the time of every event of today's program, in which no event moves the clock yet
-abbrev pub clock : ℕ
-clock = 0
+-- so many arrive at most in one event
+abbrev pub most_arrivals : ℕ
+most_arrivals = MAX_ARRIVALS
 
 -- nothing came of it yet
 abbrev pub no_out : SimOut

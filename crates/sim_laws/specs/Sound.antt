@@ -1,12 +1,12 @@
 -- What holds of the births, of the crossings that wait and of their number, after every event.
-use Rattle.std.specs.Prelude.{◌≡◌, ◌≢◌, ◌≤◌, ◌<◌, ◌+◌, ◌*◌, ◌^◌, ℕ, IsTrue, [], Some}
+use Rattle.std.specs.Prelude.{◌≡◌, ◌≢◌, ◌≤◌, ◌<◌, ◌+◌, ◌*◌, ◌^◌, ℕ, IsTrue, [], Some, Bool, false, Option, None, option_map}
 use Rattle.std.specs.List.Sorted.{IsStrictlySortedBy}
 use Rattle.std.specs.Map.{keys_of}
 use Rattle.std.specs.Ordering.{nat_cmp}
 use Rattle.ovn_base.specs.lists.Among.{Among}
 use Rattle.ovn_base.specs.declared.name.Name.{Name}
 use Rattle.inet_packet.specs.Whole.{IsWhole}
-use Rattle.nb_records.specs.Network.{birth_of, empty_network, record_at}
+use Rattle.nb_records.specs.Network.{birth_of, empty_network, record_at, Network}
 use Rattle.nb_records.specs.declared.kinds.Kind.{Kind}
 use Rattle.nb_records.specs.declared.record.Record.{Record}
 use Rattle.tunnel_keys.specs.Births.{AreKeysBorn}
@@ -17,8 +17,20 @@ use Rattle.tunnel_keys.specs.declared.owner.Identity.{Identity}
 use Rattle.net_model.specs.declared.crossing.Crossing.{Crossing}
 use Rattle.net_model.specs.declared.crossing.Aim.{Aim}
 use Rattle.net_model.specs.declared.crossing.Aim.TheVariants.{ToPort, ToGroup}
-use Rattle.sim_laws.specs.Visit.{is_switch}
 use Rattle.net_model.specs.State.{State, event_count}
+use Rattle.std.proofs.Math.Dec.{eqb as nat_eq}
+use Rattle.ovn_base.specs.names.ByName.{at}
+use Rattle.nb_records.specs.declared.switch.Switch.{Switch}
+use Rattle.ovn_base.specs.declared.address.Birth.{Birth}
+
+-- the number of the event that added the record, if the record is there, is this one
+abbrev pub has_birth : Option Birth → Birth → Bool
+has_birth None birth = false
+has_birth (Some own) birth = nat_eq own.0 birth.0
+
+-- the switch of that identity is there
+abbrev pub is_switch : Network → Identity → Bool
+is_switch net id = has_birth (option_map (λ (s : Switch). s.birth) (at net.switches id.name)) id.birth
 
 -- no record, no owner of a key and no datapath of a port's key is younger than the last event, and where no event was accepted
 -- there is no record

@@ -4,6 +4,4 @@
 pub mod end_names;
 pub mod journeys;
 pub mod one_count;
-pub mod plain;
 pub mod switches;
-pub mod walks;

@@ -1,5 +1,5 @@
 -- The crossings of the frames that were sent are kept, one after another.
-use Rattle.std.specs.Prelude.{◌≡◌, ◌<◌, ℕ, Bool, true, false, cond, List, [], ◌∷◌, ◌++◌, Some, map, unwrap_or, refl}
+use Rattle.std.specs.Prelude.{◌≡◌, ◌<◌, ℕ, Bool, true, false, cond, List, [], ◌∷◌, ◌++◌, Some, map, unwrap_or, refl, nat_lt}
 use Rattle.std.proofs.Common.{sym, ap, ◌∙◌, subst, append_assoc, append-nil, ltb-true}
 use Rattle.std.specs.List.{AllByRecursion}
 use Rattle.std.specs.List.Sorted.{IsStrictlySortedBy}
@@ -7,7 +7,6 @@ use Rattle.std.specs.Map.{keys_of}
 use Rattle.std.specs.BTreeMap.{insert_entry}
 use Rattle.std.specs.Ordering.{nat_cmp}
 use Rattle.std.specs.declared.cmp.Ordering.TheVariants.{Less, Equal, Greater}
-use Rattle.std.specs.Prelude.{nat_lt}
 use Rattle.std.proofs.Math.Dec.{eqb as nat_eq}
 use Rattle.ovn_base.specs.lists.Among.{Among, here, there}
 use Rattle.ovn_base.specs.declared.name.Name.{Name}
@@ -27,7 +26,7 @@ use Rattle.world_core.specs.declared.crossing_names.CrossingNames.{CrossingNames
 use Rattle.world_core.proofs.WaitingNames.{crossing_back}
 use Rattle.sim_laws.specs.Held.{frame_of_crossing}
 use Rattle.net_model.specs.State.{State}
-use Rattle.sim_laws.proofs.Refinements.{may_still}
+use Rattle.sim_laws.proofs.WaitingCrossings.{may_still}
 use Rattle.sim_laws.proofs.WaitingLists.{put_behind}
 
 -- ---- numbers before a number

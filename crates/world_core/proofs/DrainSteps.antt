@@ -14,14 +14,13 @@ use Rattle.world_core.specs.Packets.{AreGone, HasArrived, most_sent, state_with}
 use Rattle.sim_laws.proofs.journey_laws.Draining.{effects_append}
 use Rattle.sim_laws.proofs.journey_laws.Ways.{crossings_append}
 use Rattle.sim_laws.specs.Effects.{effects_of}
-use Rattle.sim_laws.specs.Passing.{AreDrained}
+use Rattle.sim_laws.specs.Passing.{AreDrained, most_arrivals}
 use Rattle.sim_laws.specs.journeys.Moves.{AreMoved}
 use Rattle.sim_laws.specs.journeys.UnderWay.{IsUnderWay}
 use Rattle.world_core.specs.WorldView.{AreHeld, WorldView}
 use Rattle.sim_laws.specs.Held.{frame_of_crossing}
 use Rattle.net_model.specs.State.{State}
 use Rattle.net_model.specs.Trail.{End, crossings_in}
-use Rattle.sim_laws.specs.PacketSteps.{most_arrivals}
 use Rattle.physical_flows.proofs.FlowSearch.{is_some_of}
 
 -- some frames arrived, and however those that are left arrive, so do all

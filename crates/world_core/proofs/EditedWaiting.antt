@@ -18,7 +18,7 @@ use Rattle.tunnel_keys.specs.declared.owner.Identity.{Identity}
 use Rattle.tunnel_keys.specs.declared.owner.KeyOwner.{KeyOwner}
 use Rattle.tunnel_keys.specs.declared.owner.KeyOwner.TheVariants.{Datapath}
 use Rattle.tunnel_keys.proofs.KeyStays.{datapaths_stay, ports_stay}
-use Rattle.sim_laws.specs.Visit.{has_birth, is_switch}
+use Rattle.sim_laws.specs.Sound.{has_birth, is_switch}
 use Rattle.world_core.proofs.ComingOwners.{HasNoRouters, switch_of}
 use Rattle.world_core.proofs.WaitingFrames.{AreKept}
 

@@ -24,9 +24,8 @@ use Rattle.sim_laws.specs.Effects.{datapath_key, port_key, aim_key}
 use Rattle.world_core.specs.Packets.{IsNumberOf}
 use Rattle.sim_laws.specs.SentFrames.{IsSentFrom}
 use Rattle.physical_flows.specs.RecordKeys.{HaveKeys}
-use Rattle.sim_laws.specs.Sound.{HasAimKey, IsAimOnLive}
+use Rattle.sim_laws.specs.Sound.{HasAimKey, IsAimOnLive, has_birth, is_switch}
 use Rattle.net_model.specs.State.{State}
-use Rattle.sim_laws.specs.Visit.{has_birth, is_switch}
 use Rattle.physical_flows.proofs.FlowSearch.{some_of}
 use Rattle.sim_laws.proofs.KeyLookups.{port_key_is}
 use Rattle.world_core.proofs.OneCrossing.{are_small}

@@ -23,9 +23,8 @@ use Rattle.net_model.specs.declared.crossing.Crossing.{Crossing}
 use Rattle.sim_laws.specs.Effects.{spelled, datapath_key, port_key, aim_key}
 use Rattle.sim_laws.specs.SentFrames.{IsSentFrom}
 use Rattle.physical_flows.specs.RecordKeys.{HaveKeys}
-use Rattle.sim_laws.specs.Sound.{HasAimKey, IsAimOnLive, MayWait}
+use Rattle.sim_laws.specs.Sound.{HasAimKey, IsAimOnLive, MayWait, has_birth, is_switch}
 use Rattle.net_model.specs.State.{State}
-use Rattle.sim_laws.specs.Visit.{has_birth, is_switch}
 use Rattle.sim_laws.proofs.KeyLookups.{datapath_key_is, port_key_is}
 
 module _ (m : State) (have : HaveKeys m.config.net m.keys) where

@@ -17,8 +17,7 @@ use Rattle.sim_laws.proofs.journey_laws.Finishing.{begins, finishes}
 use Rattle.sim_laws.proofs.journey_laws.Losing.{loses_so}
 use Rattle.sim_laws.proofs.journey_laws.Moving.{all_drain, enters_and_drains, travels}
 use Rattle.sim_laws.specs.Effects.{effects_of}
-use Rattle.sim_laws.specs.PacketSteps.{most_arrivals}
-use Rattle.sim_laws.specs.Passing.{AreDrained, no_out}
+use Rattle.sim_laws.specs.Passing.{most_arrivals, AreDrained, no_out}
 use Rattle.sim_laws.specs.journeys.Refining.{without_crossing}
 use Rattle.sim_laws.specs.journeys.UnderWay.{IsUnderWay}
 use Rattle.switch_engine.specs.Outcome.{any_legal}

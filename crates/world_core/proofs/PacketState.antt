@@ -17,7 +17,7 @@ use Rattle.net_model.specs.State.{State}
 use Rattle.net_model.specs.Trail.{Lists, crossings_in}
 use Rattle.net_model.specs.declared.crossing.Crossing.{Crossing}
 use Rattle.sim_laws.proofs.EffectNames.{frames_named}
-use Rattle.sim_laws.proofs.Refinements.{from_among}
+use Rattle.sim_laws.proofs.WaitingCrossings.{from_among}
 use Rattle.sim_laws.proofs.journey_laws.ListsSeen.{lists_are_seen}
 use Rattle.sim_laws.proofs.journey_laws.Telling.{may_still}
 use Rattle.sim_laws.specs.Effects.{effects_of, spelled}

@@ -16,9 +16,8 @@ use Rattle.net_model.specs.declared.crossing.Aim.{Aim}
 use Rattle.net_model.specs.declared.crossing.Aim.TheVariants.{ToPort, ToGroup}
 use Rattle.sim_laws.specs.Effects.{datapath_key, port_key, aim_key, spelled}
 use Rattle.sim_laws.specs.Held.{frame_of_crossing}
-use Rattle.sim_laws.specs.Sound.{AreBorn, AreOnTheWay, HasAimKey, IsAimOnLive, IsOnLive, MayWait}
+use Rattle.sim_laws.specs.Sound.{AreBorn, AreOnTheWay, HasAimKey, IsAimOnLive, IsOnLive, MayWait, is_switch}
 use Rattle.net_model.specs.State.{State, event_count}
-use Rattle.sim_laws.specs.Visit.{is_switch}
 use Rattle.sim_laws.proofs.KeyLookups.{datapath_key_is, port_key_is}
 
 -- no key is lost, and a switch that is there then, and isn't younger than the last event before, was there before

@@ -6,11 +6,7 @@ use Rattle.chassis_sim.specs.State as sim
 use Rattle.chassis_sim.specs.declared.out.SimOut.{SimOut}
 use Rattle.edit_reader.specs.declared.event.Event.{Event}
 use Rattle.edit_reader.specs.declared.event.Event.TheVariants.{Edit, Bind, Unbind, AddChassis, RemoveChassis, Keys, Health, Clock, Inject, Deliver, Lose, Repeat, Drain, Packet, Unread}
-use Rattle.sim_laws.specs.PacketSteps.{most_arrivals}
-use Rattle.sim_laws.specs.Passing.{no_out}
-use Rattle.sim_laws.specs.Passing.{GoesIn}
-use Rattle.sim_laws.specs.Passing.{AreDrained}
-use Rattle.sim_laws.specs.Passing.{GoesThrough}
+use Rattle.sim_laws.specs.Passing.{most_arrivals, no_out, GoesIn, AreDrained, GoesThrough}
 
 -- what came of the packets of the event on the chassis at the time: other events have none
 abbrev pub Passes : ℕ → sim.SimState → Event → SimOut → sim.SimState → Type 0

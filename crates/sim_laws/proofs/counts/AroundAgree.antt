@@ -21,8 +21,8 @@ use Rattle.physical_flows.specs.Rows.{entry_row, arrival_row, remote_row, spread
 use Rattle.physical_flows.specs.Stages.{Basis, zone_of, IsDatapath, IsPort, IsHere, EntryRow, RemoteRow, HomeRow, ReturnRow, OutputRow, homes_of, members_here}
 use Rattle.tunnel_keys.specs.declared.owner.DatapathKey.{DatapathKey}
 use Rattle.tunnel_keys.specs.declared.owner.PortKey.{PortKey}
-use Rattle.sim_laws.proofs.EntryWalk.{name_at, is_local}
-use Rattle.sim_laws.proofs.Table33.{no_group, one_group}
+use Rattle.sim_laws.proofs.Places.{name_at, is_local}
+use Rattle.sim_laws.proofs.GroupNumbers.{no_group, one_group}
 use Rattle.sim_laws.specs.journeys.UnderWay.{IsUnderWay}
 
 -- the flag of one row that holds a packet is that of another

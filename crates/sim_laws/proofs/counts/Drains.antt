@@ -18,8 +18,7 @@ use Rattle.switch_engine.specs.Outcome.{any_legal}
 use Rattle.sim_laws.proofs.counts.Cames.{told_of_ends, told_both, matched_both, came_none, came_as, came_then, came_injected, came_arrived, came_drained}
 use Rattle.sim_laws.proofs.counts.OneWalks.{Alike, injected_alike, arrived_alike}
 use Rattle.sim_laws.specs.Effects.{effects_of}
-use Rattle.sim_laws.specs.PacketSteps.{most_arrivals}
-use Rattle.sim_laws.specs.Passing.{AreDrained, no_out}
+use Rattle.sim_laws.specs.Passing.{most_arrivals, AreDrained, no_out}
 use Rattle.sim_laws.specs.journeys.Counts.{ChassisWalksLaw, Came, HaveSameZones, BothHold, DrainCountLaw, ThroughCountLaw, choices_told}
 use Rattle.sim_laws.specs.journeys.Holding.{HoldsNetwork}
 use Rattle.sim_laws.specs.journeys.Moves.{Moves, MovesFor, journey_in}

@@ -49,9 +49,9 @@ use Rattle.switch_engine.specs.declared.walk.Step.{Step}
 use Rattle.tunnel_keys.proofs.HeldKeys.{found}
 use Rattle.tunnel_keys.specs.Same.{identity_exact}
 use Rattle.tunnel_keys.specs.declared.owner.Identity.{Identity}
-use Rattle.sim_laws.proofs.Crossings.{key_on}
+use Rattle.sim_laws.proofs.KeyLookups.{key_on}
 use Rattle.sim_laws.proofs.EffectNames.{AreEndsOn}
-use Rattle.sim_laws.proofs.Refinements.{crossings_kept}
+use Rattle.sim_laws.proofs.WaitingCrossings.{crossings_kept}
 use Rattle.sim_laws.proofs.WaitingLists.{numbered_among, removed_map}
 use Rattle.sim_laws.proofs.journey_laws.Entering.{scene_there}
 use Rattle.sim_laws.proofs.journey_laws.Premises.{born_so, may_arrive}
@@ -65,7 +65,7 @@ use Rattle.sim_laws.proofs.journey_laws.Walked.{IsWalked, walked}
 use Rattle.sim_laws.specs.Held.{frame_of_crossing}
 use Rattle.sim_laws.specs.Naming.{IsNumbered}
 use Rattle.sim_laws.specs.Sound.{AreCrossings, MayWait, IsAimOnLive}
-use Rattle.sim_laws.specs.WalkLaw.{tunnel_entry_of}
+use Rattle.sim_laws.specs.passes.Arriving.{tunnel_entry_of, ArrivingLaw}
 use Rattle.sim_laws.specs.journeys.Filling.{FillingLaw}
 use Rattle.sim_laws.specs.journeys.Holding.{HoldsNetwork}
 use Rattle.sim_laws.specs.journeys.InState.{chassis_at, zones_on}
@@ -73,7 +73,6 @@ use Rattle.sim_laws.specs.journeys.Moves.{journey_in}
 use Rattle.sim_laws.specs.journeys.Premises.{HasVirtualPorts, IsReady}
 use Rattle.sim_laws.specs.journeys.Refining.{IsComing, IsJourney, ArrivalJourneyLaw, waiting_on}
 use Rattle.sim_laws.specs.journeys.UnderWay.{IsUnderWay}
-use Rattle.sim_laws.specs.passes.Arriving.{ArrivingLaw}
 use Rattle.sim_laws.specs.passes.Whole.{WholeWalkLaw}
 use Rattle.sim_laws.specs.pipelines.HeldLists.{HoldLists}
 use Rattle.sim_laws.specs.pipelines.Pieces.{trail_with}

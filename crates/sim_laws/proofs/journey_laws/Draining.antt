@@ -17,8 +17,7 @@ use Rattle.tunnel_keys.specs.Keys.{Keys}
 use Rattle.sim_laws.proofs.journey_laws.Moving.{all_drain, enters_and_drains}
 use Rattle.sim_laws.specs.Effects.{effects_of, spelled}
 use Rattle.sim_laws.specs.Held.{frame_of_crossing}
-use Rattle.sim_laws.specs.PacketSteps.{most_arrivals}
-use Rattle.sim_laws.specs.Passing.{AreDrained, no_out}
+use Rattle.sim_laws.specs.Passing.{most_arrivals, AreDrained, no_out}
 use Rattle.sim_laws.specs.journeys.Events.{AllArriveLaw, GoesThroughLaw}
 use Rattle.sim_laws.specs.journeys.Holding.{HoldsNetwork}
 use Rattle.sim_laws.specs.journeys.Moves.{AreMoved}

@@ -5,7 +5,7 @@ use Rattle.std.specs.Map.{remove_entry}
 use Rattle.std.specs.Ordering.{nat_cmp}
 use Rattle.std.proofs.Common.{sym, ap, ◌∙◌, append-nil, arith}
 use Rattle.net_model.specs.declared.crossing.Crossing.{Crossing}
-use Rattle.sim_laws.proofs.Refinements.{crossings_kept}
+use Rattle.sim_laws.proofs.WaitingCrossings.{crossings_kept}
 use Rattle.sim_laws.proofs.WaitingLists.{removed_map}
 use Rattle.sim_laws.proofs.journey_laws.Telling.{held_with}
 use Rattle.sim_laws.specs.Held.{frame_of_crossing}

@@ -1,16 +1,27 @@
 -- Moves one after another, and what they are in the network's own words.
-use Rattle.std.specs.Prelude.{◌≡◌, ◌+◌, ◌++◌, ℕ, zero, suc, false, List, [], ◌∷◌, length}
+use Rattle.std.specs.Prelude.{◌≡◌, ◌+◌, ◌++◌, ℕ, zero, suc, false, List, [], ◌∷◌, length, refl}
 use Rattle.std.proofs.Common.{sym, ap, ◌∙◌, subst, append_assoc, append-nil, arith, inl, inr}
 use Rattle.conn_table.specs.Picks.{Choice}
 use Rattle.net_model.specs.Journey.{Journey, Scenes, begin_journey, ended_journey, comes, drain, drain_from, travel, places_of, scenes_of, enter_one, arrive_one}
 use Rattle.net_model.specs.State.{State}
-use Rattle.net_model.specs.Trail.{End, choices_in, crossings_in}
+use Rattle.net_model.specs.Trail.{End, choices_in, crossings_in, leaves, is_dropped, crosses, picks_backend, picks_port, is_lost, choice_in}
 use Rattle.net_model.specs.declared.crossing.Crossing.{Crossing}
 use Rattle.ovn_base.specs.declared.limits.TheConstants.{MAX_ARRIVALS}
-use Rattle.sim_laws.proofs.PlainTravels.{choices_append}
 use Rattle.sim_laws.proofs.journey_laws.Ways.{crossings_append}
 use Rattle.sim_laws.specs.journeys.Events.{TravelLaw, DrainLaw, EnterAndDrainLaw}
 use Rattle.sim_laws.specs.journeys.Moves.{journey_in, Moves, AreMoved}
+
+pub choice_first : (e : End) (xs ys : List Choice) → choice_in e (xs ++ ys) ≡ choice_in e xs ++ ys
+choice_first (leaves port p) xs ys = refl
+choice_first (is_dropped datapath port why) xs ys = refl
+choice_first (crosses here x) xs ys = refl
+choice_first (picks_backend datapath vip backend) xs ys = refl
+choice_first (picks_port router port) xs ys = refl
+choice_first (is_lost n) xs ys = refl
+
+pub choices_append : (es fs : List End) → choices_in (es ++ fs) ≡ choices_in es ++ choices_in fs
+choices_append [] fs = refl
+choices_append (e ∷ es) fs = ap (choice_in e) (choices_append es fs) ∙ choice_first e (choices_in es) (choices_in fs)
 
 length_append : {X : Type 0} (xs ys : List X) → length (xs ++ ys) ≡ length xs + length ys
 length_append [] ys = omega arith

@@ -36,9 +36,8 @@ use Rattle.tunnel_keys.specs.Keys.{Keys}
 use Rattle.tunnel_keys.specs.Same.{identity_exact}
 use Rattle.tunnel_keys.specs.declared.owner.Identity.{Identity}
 use Rattle.tunnel_keys.specs.declared.owner.KeyOwner.{KeyOwner}
-use Rattle.sim_laws.specs.Sound.{MayWait, IsOnLive, IsAimOnLive}
-use Rattle.sim_laws.specs.Visit as old
-use Rattle.sim_laws.specs.Visit.{has_birth}
+use Rattle.sim_laws.specs.Sound.{MayWait, IsOnLive, IsAimOnLive, has_birth}
+use Rattle.sim_laws.specs.Sound as old
 use Rattle.sim_laws.specs.journeys.InState.{use_of, zones_on, chassis_at}
 use Rattle.sim_laws.specs.journeys.Premises.{SoundOnLaw}
 use Rattle.sim_laws.specs.journeys.UnderWay.{HasNoRouter}

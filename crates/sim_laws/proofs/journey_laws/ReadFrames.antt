@@ -25,7 +25,7 @@ use Rattle.sim_laws.proofs.WaitingLists.{numbered_map}
 use Rattle.sim_laws.specs.Effects.{spelled, datapath_key, port_key, aim_key}
 use Rattle.sim_laws.specs.Held.{frame_of_crossing}
 use Rattle.sim_laws.specs.Sound.{MayWait, HasAimKey}
-use Rattle.sim_laws.specs.WalkLaw.{tunnel_entry_of}
+use Rattle.sim_laws.specs.passes.Arriving.{tunnel_entry_of}
 use Rattle.sim_laws.specs.journeys.Holding.{HoldsNetwork}
 
 module _ (m : State) (have : HaveKeys m.config.net m.keys) (x : Crossing) (w : MayWait m x) where

@@ -23,7 +23,7 @@ use Rattle.ovn_base.specs.lists.Among.{Among, here, there}
 use Rattle.ovn_base.specs.names.ByName.{at}
 use Rattle.ovn_base.specs.names.SameName.{same_name, bytes_decides}
 use Rattle.physical_flows.specs.Homes.{is_home}
-use Rattle.sim_laws.proofs.Groups.{bound_to}
+use Rattle.sim_laws.proofs.Homes.{bound_to}
 use Rattle.sim_laws.proofs.journey_laws.SwitchWays.{leave_on}
 use Rattle.sim_laws.proofs.journey_laws.Ways.{WayOn, stays, both, told}
 use Rattle.sim_laws.proofs.passes.Members.{virtual_is}

@@ -40,7 +40,7 @@ use Rattle.row_laws.specs.StageActions.{found_target}
 use Rattle.tunnel_keys.specs.Keys.{held_datapath, held_datapaths}
 use Rattle.tunnel_keys.specs.declared.owner.HeldDatapath.{HeldDatapath}
 use Rattle.tunnel_keys.specs.declared.owner.Identity.{Identity}
-use Rattle.sim_laws.proofs.Crossings.{HasKeyOn, key_on, on_live}
+use Rattle.sim_laws.proofs.KeyLookups.{HasKeyOn, key_on, on_live}
 use Rattle.sim_laws.proofs.journey_laws.SendingWays.{Suits}
 use Rattle.sim_laws.proofs.pipelines.TargetKeys.{IsFoundTarget, found_so}
 use Rattle.sim_laws.specs.Effects.{spelled}

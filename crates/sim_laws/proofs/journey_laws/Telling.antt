@@ -23,7 +23,7 @@ use Rattle.switch_engine.specs.declared.effect.Effect.{Effect}
 use Rattle.switch_engine.specs.declared.walk.Start.{Start}
 use Rattle.switch_engine.specs.declared.walk.Step.{Step}
 use Rattle.sim_laws.proofs.EffectNames.{AreEndsOn, all_named, next_named, frames_named}
-use Rattle.sim_laws.proofs.Refinements.{crossings_behind}
+use Rattle.sim_laws.proofs.WaitingCrossings.{crossings_behind}
 use Rattle.sim_laws.specs.Effects.{effects_of}
 use Rattle.sim_laws.specs.Held.{HaveOwnersNames, frame_of_crossing}
 use Rattle.sim_laws.specs.Naming.{IsNumbered}

@@ -24,7 +24,7 @@ use Rattle.ovn_base.specs.names.ByName.{at}
 use Rattle.physical_flows.specs.RecordKeys.{HaveKeys}
 use Rattle.tunnel_keys.specs.Same.{same_identity}
 use Rattle.tunnel_keys.specs.declared.owner.Identity.{Identity}
-use Rattle.sim_laws.proofs.Groups.{bound_to}
+use Rattle.sim_laws.proofs.Homes.{bound_to}
 use Rattle.sim_laws.proofs.journey_laws.SendingWays.{OnWay, Sends, quiet, copies_on, target_sends}
 use Rattle.sim_laws.proofs.journey_laws.SentCrossings.{from, IsOwn, to_port, to_members, target_suits}
 use Rattle.sim_laws.proofs.journey_laws.SwitchWays.{enter_on, leave_on}

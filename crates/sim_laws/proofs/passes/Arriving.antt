@@ -51,17 +51,16 @@ use Rattle.tunnel_keys.specs.declared.owner.DatapathKey.{DatapathKey}
 use Rattle.tunnel_keys.specs.declared.owner.HeldPort.{HeldPort}
 use Rattle.tunnel_keys.specs.declared.owner.Identity.{Identity}
 use Rattle.tunnel_keys.specs.declared.owner.PortKey.{PortKey}
-use Rattle.sim_laws.proofs.EntryWalk.{is_local}
-use Rattle.sim_laws.proofs.Groups.{bound_to, is_bound_to}
+use Rattle.sim_laws.proofs.Places.{is_local}
+use Rattle.sim_laws.proofs.Homes.{bound_to, is_bound_to}
 use Rattle.sim_laws.proofs.KeyLookups.{port_key_is}
-use Rattle.sim_laws.proofs.LookupTarget.{same_tests}
-use Rattle.sim_laws.proofs.Table33.{no_group, group_short}
+use Rattle.sim_laws.proofs.passes.Members.{same_tests, home_is, on_so, member_is}
+use Rattle.sim_laws.proofs.GroupNumbers.{no_group, group_short}
 use Rattle.sim_laws.proofs.passes.Ends.{ends_so}
 use Rattle.sim_laws.proofs.passes.GroupCopies.{IsMember, key_is, those_here, copies_go, group_33}
 use Rattle.sim_laws.proofs.passes.Identities.{vni, in_key, vni_held, in_held, its_there, the_switch, vni_on, its_port, came_stands}
 use Rattle.sim_laws.proofs.passes.Leaving.{leaves_by, dp_within, to_within}
 use Rattle.sim_laws.proofs.passes.LiveNumbers.{hold, one_datapath, port_among, port_live, switch_live, port_of, same_port_key}
-use Rattle.sim_laws.proofs.passes.Members.{home_is, on_so, member_is}
 use Rattle.sim_laws.proofs.passes.OnePort.{IsFor, IsHomed, homes_33}
 use Rattle.sim_laws.proofs.passes.RowSteps.{Does, Taken, row_step, no_row, row_fits, as_row, comes_unmatched}
 use Rattle.sim_laws.proofs.pipelines.Copies.{goes_so}
@@ -69,8 +68,7 @@ use Rattle.sim_laws.proofs.pipelines.Pieces.{comes_then}
 use Rattle.sim_laws.specs.Effects.{port_key, aim_key}
 use Rattle.sim_laws.specs.Naming.{IsNumbered}
 use Rattle.sim_laws.specs.Sound.{HasAimKey}
-use Rattle.sim_laws.specs.WalkLaw.{tunnel_entry_of}
-use Rattle.sim_laws.specs.passes.Arriving.{AreOwned, IsOnSwitch, IsAimOnSwitch, MayArrive, ArrivingLaw}
+use Rattle.sim_laws.specs.passes.Arriving.{tunnel_entry_of, AreOwned, IsOnSwitch, IsAimOnSwitch, MayArrive, ArrivingLaw}
 use Rattle.sim_laws.specs.passes.Physical.{AreVirtual, basis_of, IsWired}
 use Rattle.sim_laws.specs.passes.ToEnd.{Never, EndsAs}
 use Rattle.sim_laws.specs.pipelines.Egress.{EgressLaw}

@@ -52,13 +52,12 @@ use Rattle.switch_engine.specs.declared.effect.Effect.TheVariants as effect
 use Rattle.tunnel_keys.proofs.HeldKeys.{found}
 use Rattle.tunnel_keys.specs.declared.owner.Identity.{Identity}
 use Rattle.tunnel_keys.specs.declared.owner.PortKey.{PortKey}
-use Rattle.sim_laws.proofs.Groups.{bound_to}
-use Rattle.sim_laws.proofs.LookupTarget.{same_tests}
-use Rattle.sim_laws.proofs.Table33.{no_group, one_group, group_short}
+use Rattle.sim_laws.proofs.Homes.{bound_to}
+use Rattle.sim_laws.proofs.passes.Members.{same_tests, is_here_where, member_is, members_so, others_so}
+use Rattle.sim_laws.proofs.GroupNumbers.{no_group, one_group, group_short}
 use Rattle.sim_laws.proofs.passes.Ends.{ends_none, ends_then}
 use Rattle.sim_laws.proofs.passes.Leaving.{dp_within, to_within, leaves_by}
 use Rattle.sim_laws.proofs.passes.LiveNumbers.{hold, one_datapath, one_port, same_port_key, port_low, port_live, switch_key, port_number, datapath_of, port_of, is_datapath}
-use Rattle.sim_laws.proofs.passes.Members.{is_here_where, member_is, members_so, others_so}
 use Rattle.sim_laws.proofs.passes.RowSteps.{Does, Taken, row_step, row_fits, as_row, spread_does, copies_does}
 use Rattle.sim_laws.proofs.pipelines.Pieces.{comes_then}
 use Rattle.sim_laws.proofs.pipelines.WalkOn.{comes_on}

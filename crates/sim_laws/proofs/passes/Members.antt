@@ -1,5 +1,5 @@
 -- The groups of a switch: where their members are at home by the tables, and by the network.
-use Rattle.std.specs.Prelude.{◌≡◌, ◌&&◌, ◌||◌, not, true, List, [], ◌∷◌, map, filter, Option, Some, None, refl}
+use Rattle.std.specs.Prelude.{◌≡◌, ◌&&◌, ◌||◌, not, true, List, [], ◌∷◌, map, filter, Option, Some, None, refl, Bool, false}
 use Rattle.std.specs.List.{list_any}
 use Rattle.std.proofs.Common.{sym, ap, ◌∙◌}
 use Rattle.std.proofs.lemmas.Bool.{false≢true}
@@ -25,6 +25,12 @@ use Rattle.physical_flows.specs.Stages.{homes_of}
 use Rattle.row_laws.proofs.records.SwitchPorts.{IsEnabled, enabled_is}
 use Rattle.sim_laws.specs.passes.Physical.{AreVirtual, basis_of}
 use Rattle.sim_laws.specs.pipelines.Standing.{Chassis, net_of, IsLaidOut}
+
+-- two tests that say the same
+pub same_tests : (v w : Bool) → (v ≡ true → w ≡ true) → (w ≡ true → v ≡ true) → v ≡ w
+same_tests true w f g = sym (f refl)
+same_tests false true f g = g refl
+same_tests false false f g = refl
 
 pub virtual_is : (k : PortKind) → is_virtual_kind k ≡ true → k ≡ port_kind.Virtual
 virtual_is port_kind.Virtual h = refl

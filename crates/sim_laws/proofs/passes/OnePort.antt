@@ -39,7 +39,7 @@ use Rattle.switch_engine.specs.declared.effect.Entry.{Entry}
 use Rattle.switch_engine.specs.declared.effect.Entry.TheVariants.{Vif, Tunnel}
 use Rattle.tunnel_keys.proofs.HeldKeys.{found}
 use Rattle.tunnel_keys.specs.declared.owner.Identity.{Identity}
-use Rattle.sim_laws.proofs.Table33.{no_group}
+use Rattle.sim_laws.proofs.GroupNumbers.{no_group}
 use Rattle.sim_laws.proofs.passes.Ends.{ends_so}
 use Rattle.sim_laws.proofs.passes.Leaving.{IsAtExit, dp_within, to_within}
 use Rattle.sim_laws.proofs.passes.LiveNumbers.{port_low, is_port, same_exit, switch_key, port_number}

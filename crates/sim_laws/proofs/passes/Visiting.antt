@@ -31,7 +31,7 @@ use Rattle.switch_engine.specs.Zones.{ZoneLists}
 use Rattle.switch_engine.specs.declared.carried.Carried.{Carried}
 use Rattle.switch_engine.specs.declared.effect.Entry.TheVariants.{Vif}
 use Rattle.tunnel_keys.proofs.HeldKeys.{found}
-use Rattle.sim_laws.proofs.EntryWalk.{name_at, is_local}
+use Rattle.sim_laws.proofs.Places.{name_at, is_local}
 use Rattle.sim_laws.proofs.passes.Ends.{ends_same}
 use Rattle.sim_laws.proofs.passes.LiveNumbers.{datapath_low, port_low, switch_live, port_live, is_port, datapath_of, port_of}
 use Rattle.sim_laws.proofs.passes.RowSteps.{Does, Taken, row_step, row_fits, as_row}

@@ -24,10 +24,9 @@ use Rattle.ovn_base.specs.names.ByName.{at}
 use Rattle.ovn_base.specs.names.SameName.{bytes_decides, same_name}
 use Rattle.physical_flows.proofs.FlowSearch.{is_some_of, some_of}
 use Rattle.row_laws.proofs.records.ValidPorts.{port_named}
-use Rattle.tunnel_keys.specs.Keys.{Keys}
 use Rattle.sim_laws.proofs.turn_laws.TurnedLists.{list_empty, list_kept, owned}
 use Rattle.sim_laws.specs.journeys.InState.{zones_on}
-use Rattle.sim_laws.specs.journeys.TurnedZones.{BeginsZone, BindingLaw, KeepsZone, binding, turned_with}
+use Rattle.sim_laws.specs.journeys.TurnedZones.{BeginsZone, BindingLaw, KeepsZone, binding}
 use Rattle.physical_flows.specs.Bindings.{AreBound}
 use Rattle.sim_laws.specs.journeys.UnderWay.{IsUnderWay}
 

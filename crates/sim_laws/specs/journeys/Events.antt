@@ -10,8 +10,7 @@ use Rattle.net_model.specs.State.{State}
 use Rattle.net_model.specs.Trail.{End}
 use Rattle.ovn_base.specs.declared.limits.TheConstants.{MAX_ARRIVALS}
 use Rattle.ovn_base.specs.declared.name.Name.{Name}
-use Rattle.sim_laws.specs.PacketSteps.{most_arrivals}
-use Rattle.sim_laws.specs.Passing.{AreDrained, GoesThrough, no_out}
+use Rattle.sim_laws.specs.Passing.{most_arrivals, AreDrained, GoesThrough, no_out}
 use Rattle.sim_laws.specs.journeys.Holding.{HoldsNetwork}
 use Rattle.sim_laws.specs.journeys.Moves.{MovesFor, AreMoved}
 use Rattle.sim_laws.specs.journeys.Premises.{HaveVirtualPorts}

@@ -10,7 +10,7 @@ use Rattle.ovn_base.specs.declared.stages.TheConstants.{ENTRY_TABLE, REMOTE_TABL
 use Rattle.ovn_base.specs.lists.Among.{Among}
 use Rattle.physical_flows.specs.Around.{AroundFlow}
 use Rattle.physical_flows.specs.ChassisFlows.{basis_at}
-use Rattle.physical_flows.specs.Stages.{Basis, EntryRow, RemoteRow, HomeRow, ReturnRow, OutputRow}
+use Rattle.physical_flows.specs.Stages.{EntryRow, RemoteRow, HomeRow, ReturnRow, OutputRow}
 use Rattle.row_laws.specs.BestRow.{HoldsRows, IsLoweredRow}
 use Rattle.row_laws.specs.StageLaws.{OfEachStage}
 

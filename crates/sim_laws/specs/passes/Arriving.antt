@@ -12,18 +12,24 @@ use Rattle.ovn_base.specs.lists.Among.{Among}
 use Rattle.ovn_base.specs.names.ByName.{at}
 use Rattle.switch_engine.specs.Walk.{start}
 use Rattle.switch_engine.specs.Zones.{ZoneLists}
-use Rattle.tunnel_keys.specs.Keys.{held_datapaths, held_ports}
+use Rattle.tunnel_keys.specs.Keys.{held_datapaths, held_ports, Keys}
 use Rattle.tunnel_keys.specs.declared.owner.HeldDatapath.{HeldDatapath}
 use Rattle.tunnel_keys.specs.declared.owner.HeldPort.{HeldPort}
 use Rattle.tunnel_keys.specs.declared.owner.Identity.{Identity}
 use Rattle.tunnel_keys.specs.declared.owner.PortKey.{PortKey}
 use Rattle.sim_laws.specs.Sound.{HasAimKey}
-use Rattle.sim_laws.specs.WalkLaw.{tunnel_entry_of}
 use Rattle.sim_laws.specs.passes.Physical.{IsWired, AreVirtual}
 use Rattle.sim_laws.specs.passes.ToEnd.{EndsAs}
 use Rattle.sim_laws.specs.pipelines.HeldLists.{HoldLists}
 use Rattle.sim_laws.specs.pipelines.Standing.{Chassis, net_of, course_of, IsLaidOut}
 use Rattle.sim_laws.specs.pipelines.WalkOn.{Comes}
+use Rattle.switch_engine.specs.declared.effect.Entry.{Entry}
+use Rattle.switch_engine.specs.declared.effect.Entry.TheVariants.{Tunnel}
+use Rattle.sim_laws.specs.Effects.{datapath_key, port_key, aim_key}
+
+-- how the frame of a crossing comes in
+abbrev pub tunnel_entry_of : Keys → Crossing → Entry
+tunnel_entry_of keys x = Tunnel (datapath_key keys x.datapath) (port_key keys x.in_port) (aim_key keys x.aim)
 
 -- a live key of a port on a switch is that of a port of the records
 abbrev pub AreOwned : Chassis → Type 0

@@ -7,7 +7,7 @@ ghost use Rattle.ovn_base.specs.names.ByName.{at};
 ghost use Rattle.chassis_sim.specs.InNames.{frames_sent};
 ghost use Rattle.chassis_sim.specs.State.{numbered, without};
 ghost use Rattle.inet_packet.specs.Whole.{IsWhole};
-ghost use Rattle.sim_laws.specs.PacketSteps.{most_arrivals};
+ghost use Rattle.sim_laws.specs.Passing.{most_arrivals};
 ghost use Rattle.sim_laws.specs.journeys.Refining.{without_crossing};
 ghost use Rattle.sim_laws.specs.journeys.UnderWay.{IsUnderWay};
 ghost use Rattle.world_core.specs.Built.{IsBuilt};

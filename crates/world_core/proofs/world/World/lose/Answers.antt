@@ -5,7 +5,7 @@ use Rattle.std.proofs.Common.{◌≡◌, false, [], IsSome, map, option_map, sym
 use Rattle.std.proofs.lemmas.Option.{none-some}
 use Rattle.chassis_sim.specs.State.{SimView, numbered, without}
 use Rattle.physical_flows.proofs.FlowSearch.{some_of}
-use Rattle.sim_laws.proofs.Refinements.{crossings_kept}
+use Rattle.sim_laws.proofs.WaitingCrossings.{crossings_kept}
 use Rattle.sim_laws.proofs.WaitingLists.{numbered_map, removed_map}
 use Rattle.sim_laws.specs.Held.{frame_of_crossing}
 use Rattle.sim_laws.specs.Sound.{AreCrossings}
