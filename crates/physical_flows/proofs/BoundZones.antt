@@ -1,18 +1,13 @@
 -- The numbers of the zones of bound ports.
-use Rattle.std.specs.Prelude.{◌≡◌, ◌≤◌, ◌<◌, ◌^◌, ℕ, Some, IsSome}
-use Rattle.std.proofs.Common.{ap, ◌∙◌, arith}
+use Rattle.std.specs.Prelude.{◌≡◌, ◌≤◌, ◌<◌, ◌^◌, ℕ, Some}
+use Rattle.std.proofs.Common.{arith}
 use Rattle.ovn_base.specs.declared.name.Name.{Name}
-use Rattle.ovn_base.specs.names.ByName.{at}
 use Rattle.conn_zones.specs.Zoning.{Zoned, number_on}
 use Rattle.conn_zones.specs.declared.numbers.ZoneUse.TheVariants.{Port}
 use Rattle.net_model.specs.Config.{Config}
 use Rattle.physical_flows.specs.Bindings.{AreBound}
 
 module _ (config : Config) (zones : Zoned) (bound : AreBound config zones) (c q : Name) where
-  -- a port that is bound to a chassis has one there
-  pub has_zone : at config.bindings q ≡ Some c → IsSome (number_on zones.numbers c (Port q))
-  has_zone home = (bound.zoned.at_home c (Port q)).0 (ap (λ h. at h.ports q) bound.homes ∙ home)
-
-  -- and it fits into a register
+  -- the number of a zone fits into a register
   pub zone_fits : (zone : ℕ) → number_on zones.numbers c (Port q) ≡ Some zone → zone < 2 ^ 16
   zone_fits zone is = let most : zone ≤ 65535 = (bound.zoned.in_range c (Port q) zone is).1 in omega (arith, most)

@@ -1,5 +1,5 @@
 -- The groups of a switch are those of the network.
-use Rattle.std.specs.Prelude.{◌≡◌, Bool, true, false, ◌&&◌, cond, List, [], ◌∷◌, map, filter, Some, refl}
+use Rattle.std.specs.Prelude.{◌≡◌, Bool, true, false, ◌&&◌, cond, List, [], ◌∷◌, map, filter, refl}
 use Rattle.std.specs.List.{AllByRecursion}
 use Rattle.std.specs.Map.{keys_of, values_of}
 use mathlib.Core.Path.{sym, ap, ◌∙◌}
@@ -9,10 +9,7 @@ use Rattle.nb_records.specs.declared.switch.SwitchPort.{SwitchPort}
 use Rattle.net_model.specs.Targets as targets
 use Rattle.net_model.specs.declared.crossing.Group.{Group}
 use Rattle.net_model.specs.declared.crossing.Group.TheVariants.{Flood, Unknown}
-use Rattle.ovn_base.proofs.AmongLaws.{all_among}
-use Rattle.ovn_base.proofs.ByNameLaws.{among_at}
 use Rattle.ovn_base.specs.declared.name.Name.{Name}
-use Rattle.ovn_base.specs.names.ByName.{at, IsByName}
 use Rattle.ovn_base.specs.names.SameName.{same_name}
 use Rattle.physical_flows.specs.Homes.{ArePortsNamed, members}
 
@@ -47,7 +44,3 @@ same_members net switch group named = by group
         ∙ ap (map (λ (q : SwitchPort). q.name))
         (sym (filter_twice (λ q. takes_unknown q.addresses) (λ q. q.enabled) (filter (λ q. same_name q.switch switch) (values_of net.switch_ports))
         ∙ filter_twice (λ q. q.enabled && takes_unknown q.addresses) (λ q. same_name q.switch switch) (values_of net.switch_ports)))
-
--- where records are sorted, it is enough that each is found under its own name
-pub named_where_found : (net : Network) → IsByName net.switch_ports → ((q : Name) (port : SwitchPort) → at net.switch_ports q ≡ Some port → port.name ≡ q) → ArePortsNamed net
-named_where_found net sorted names = all_among (λ e. e.1.name ≡ e.0) net.switch_ports (λ e m. names e.0 e.1 (among_at e.0 e.1 net.switch_ports sorted m))

@@ -1,5 +1,5 @@
 -- The members of a group, found by the keys of the switch's ports.
-use Rattle.std.specs.Prelude.{◌≡◌, ℕ, Bool, true, false, ◌&&◌, ◌||◌, not, cond, nat_lt, List, [], ◌∷◌, ◌++◌, length, map, filter, Option, Some, None, IsSome, is_some, unwrap_or, refl}
+use Rattle.std.specs.Prelude.{◌≡◌, ℕ, Bool, true, false, ◌&&◌, ◌||◌, not, cond, List, [], ◌∷◌, ◌++◌, map, filter, Option, Some, None, IsSome, is_some, unwrap_or, refl}
 use Rattle.std.specs.List.{list_any, cons_option}
 use Rattle.std.specs.List.Sorted.{IsStrictlySortedBy}
 use Rattle.std.specs.Map.{keys_of}
@@ -10,7 +10,6 @@ use Rattle.std.specs.declared.cmp.Ordering.TheVariants.{Less}
 use Rattle.std.proofs.Common.{append_assoc}
 use Rattle.std.proofs.lemmas.Bool.{false≢true}
 use Rattle.std.proofs.lemmas.Cmp.{nat_list_cmp_total}
-use Rattle.std.proofs.lemmas.List.{length-map}
 use Rattle.std.proofs.lemmas.Option.{same_Some}
 use mathlib.Core.Path.{sym, ap, subst, ◌∙◌}
 use mathlib.Core.Logic.{inl, inr}
@@ -30,8 +29,8 @@ use Rattle.net_model.specs.declared.crossing.Group.TheVariants.{Flood, Unknown}
 use Rattle.physical_flows.specs.Homes.{is_home, is_at, is_group_member, members}
 use Rattle.physical_flows.specs.Numbers.{port_number}
 use Rattle.physical_flows.specs.RecordKeys.{HaveKeys}
-use Rattle.physical_flows.specs.Stages.{Basis, zone_of, member_of, members_here, homes_of, has_unknown}
-use Rattle.physical_flows.specs.TableList.{ingress_rows, egress_rows, group_rows, is_record_in, group_among, here_among, bound_among, others_among, rows_among}
+use Rattle.physical_flows.specs.Stages.{Basis, zone_of, member_of, members_here, homes_of}
+use Rattle.physical_flows.specs.TableList.{group_rows, is_record_in, group_among, here_among, bound_among, others_among, rows_among}
 
 -- ---- names in order
 
@@ -193,18 +192,8 @@ module _ (b : Basis) (sorted : IsByName b.net.switch_ports) (keys : HaveKeys b.n
         ap (λ ms. filter (λ c. not (same_name c b.chassis) && list_any (λ q. is_at b.bindings q c) ms) b.all) members_are
         ∙ (λ i. filter (λ c. not (same_name c b.chassis) && bound_same c (group_among b group ports) i) b.all)
 
-  pub taken_is : has_unknown b a ≡ nat_lt 0 (length (group_among b Unknown ports))
-  taken_is = ap (λ ms. nat_lt 0 (length ms)) (members_are Unknown) ∙ ap (λ n. nat_lt 0 n) (length-map (group_among b Unknown ports) (λ e. e.0))
-
   module _ (dp : ℕ) (all : List (Name × ℕ)) (flows : List Flow) (is_all : all ≡ ports) where
-    -- the rows that the compiler adds for the switch, on every chassis
-    pub everywhere_are : (unknown : List (Name × ℕ)) → unknown ≡ group_among b Unknown all → (flows ++ ingress_rows dp (nat_lt 0 (length unknown))) ++ egress_rows dp ≡ flows ++ (ingress_rows dp (has_unknown b a) ++ egress_rows dp)
-    everywhere_are unknown is_unknown =
-        let among_ports : unknown ≡ group_among b Unknown ports = is_unknown ∙ ap (λ es. group_among b Unknown es) is_all in
-        ap (λ t. (flows ++ ingress_rows dp t) ++ egress_rows dp) (ap (λ (es : List (Name × ℕ)). nat_lt 0 (length es)) among_ports ∙ sym taken_is)
-        ∙ append_assoc flows (ingress_rows dp (has_unknown b a)) (egress_rows dp)
-
-    -- and those of its groups
+    -- the rows that the compiler adds for the switch's groups
     group_is : (group : Group) → rows_among b dp group (group_among b group all) ≡ group_rows dp group (homes_of b a group) (members_here b a group)
     group_is group = ap (λ es. rows_among b dp group (group_among b group es)) is_all ∙ (λ i. group_rows dp group (sym (homes_are group) i) (sym (here_are group) i))
 

@@ -1,9 +1,7 @@
 -- When the cube of a row holds a packet, and what follows where it does.
 use Rattle.std.specs.Prelude.{◌≡◌, ◌<◌, ◌-◌, ◌^◌, ℕ, Bool, cond, Some, None, Option, bit_and}
 use Rattle.std.specs.Int.Bits.{and_zero_r}
-use Rattle.std.proofs.Common.{sym, ap, ◌∙◌, arith}
-use Rattle.ovn_base.specs.addresses.EtherAddress.{mac_number, same_ether}
-use Rattle.ovn_base.specs.declared.address.Mac.{Mac}
+use Rattle.std.proofs.Common.{sym, ap, ◌∙◌}
 use Rattle.ovn_base.specs.declared.name.Name.{Name}
 use Rattle.ovn_base.proofs.MacLemmas.{and_all}
 use Rattle.inet_packet.specs.declared.cube.Bits.{Bits}
@@ -12,12 +10,11 @@ use Rattle.inet_packet.specs.declared.packet.Packet.{Packet}
 use Rattle.inet_packet.specs.declared.regs.At.{At}
 use Rattle.inet_packet.specs.declared.regs.At.TheVariants.{Local, Tunnel}
 use Rattle.inet_packet.specs.declared.regs.Regs.{Regs}
-use Rattle.inet_packet.specs.Fields.{ether_type}
 use Rattle.inet_packet.specs.Fits.{BitsFit, EntryFits, CubeFits}
 use Rattle.physical_flows.specs.GroupKeys.{group_key}
 use Rattle.net_model.specs.declared.crossing.Group.{Group}
 use Rattle.inet_packet.specs.Cubes.{any, exactly, everything}
-use Rattle.physical_flows.specs.Rows.{of_a_group, arrived_is, on_entry, on_tunnel, on_datapath, on_address, on_exit, on_return, on_group, from_a_group, to_a_group, with_tag}
+use Rattle.physical_flows.specs.Rows.{arrived_is, on_entry, on_tunnel, on_exit, on_return, on_group}
 
 -- ---- one field
 
@@ -33,19 +30,18 @@ exactly_is width n m small fits = sym (and_all m width small) ∙ fits
 -- ---- the cubes of rows
 
 -- the fields that rows ask for, whatever they are; the others are free
-abbrev asking : Option At → Bits → Bits → Bits → Bits → Bits → Bits → Bits → Cube
-asking entry datapath from to word source address kind =
-    record everything { at = entry; dp = datapath; in_port = from; out_port = to; flags = word; eth_src = source; eth_dst = address; eth_type = kind }
+abbrev asking : Option At → Bits → Bits → Bits → Bits → Cube
+asking entry datapath from to word = record everything { at = entry; dp = datapath; in_port = from; out_port = to; flags = word }
 
 module _ (regs : Regs) (packet : Packet) where
-  asking_fits : (entry : Option At) (datapath from to word source address kind : Bits) → EntryFits entry regs.at → BitsFit datapath regs.dp → BitsFit from regs.in_port → BitsFit to regs.out_port → BitsFit word regs.flags.0
-      → BitsFit source (mac_number packet.src) → BitsFit address (mac_number packet.dst) → BitsFit kind (ether_type packet.body) → CubeFits (asking entry datapath from to word source address kind) regs packet
-  asking_fits entry datapath from to word source address kind e d f t w s a k = record {
+  asking_fits : (entry : Option At) (datapath from to word : Bits) → EntryFits entry regs.at → BitsFit datapath regs.dp → BitsFit from regs.in_port → BitsFit to regs.out_port → BitsFit word regs.flags.0
+      → CubeFits (asking entry datapath from to word) regs packet
+  asking_fits entry datapath from to word e d f t w = record {
     entry = e;
     place = record { dp_fits = d; in_port_fits = f; out_port_fits = t; next_fits = any_fits _ };
     zones = record { z_in_fits = any_fits _; z_out_fits = any_fits _; z_dnat_fits = any_fits _; z_snat_fits = any_fits _ };
     state = record { state_fits = any_fits _; verdict_fits = any_fits _; tier_fits = any_fits _; flags_fits = w };
-    ether = record { eth_src_fits = s; eth_dst_fits = a; eth_type_fits = k };
+    ether = record { eth_src_fits = any_fits _; eth_dst_fits = any_fits _; eth_type_fits = any_fits _ };
     ip = record { ip4_src_fits = any_fits _; ip4_dst_fits = any_fits _; ip_proto_fits = any_fits _; ip_ttl_fits = any_fits _ };
     ports = record { tcp_src_fits = any_fits _; tcp_dst_fits = any_fits _; udp_src_fits = any_fits _; udp_dst_fits = any_fits _ };
     icmp = record { icmp4_type_fits = any_fits _; icmp4_code_fits = any_fits _ };
@@ -61,47 +57,19 @@ module _ (regs : Regs) (packet : Packet) where
   any_word : BitsFit any regs.flags.0
   any_word = any_fits regs.flags.0
 
-  any_source : BitsFit any (mac_number packet.src)
-  any_source = any_fits (mac_number packet.src)
-
-  any_address : BitsFit any (mac_number packet.dst)
-  any_address = any_fits (mac_number packet.dst)
-
-  any_kind : BitsFit any (ether_type packet.body)
-  any_kind = any_fits (ether_type packet.body)
-
   pub everything_fits : CubeFits everything regs packet
-  everything_fits = asking_fits None any any any any any any any tt (any_fits regs.dp) any_from any_to any_word any_source any_address any_kind
+  everything_fits = asking_fits None any any any any tt (any_fits regs.dp) any_from any_to any_word
 
   pub entry_fits : (port : Name) → regs.at ≡ Local port → CubeFits (on_entry port) regs packet
-  entry_fits port at = asking_fits (Some (Local port)) any any any any any any any at (any_fits regs.dp) any_from any_to any_word any_source any_address any_kind
+  entry_fits port at = asking_fits (Some (Local port)) any any any any at (any_fits regs.dp) any_from any_to any_word
 
   pub tunnel_fits : regs.at ≡ Tunnel → CubeFits on_tunnel regs packet
-  tunnel_fits at = asking_fits (Some Tunnel) any any any any any any any at (any_fits regs.dp) any_from any_to any_word any_source any_address any_kind
+  tunnel_fits at = asking_fits (Some Tunnel) any any any any at (any_fits regs.dp) any_from any_to any_word
 
   -- those of one datapath
   module _ (dp : ℕ) (small : dp < 2 ^ 24) (on : regs.dp ≡ dp) where
     on_fits : BitsFit (exactly 24 dp) regs.dp
     on_fits = exactly_fits 24 dp regs.dp small on
-
-    pub datapath_fits : CubeFits (on_datapath dp) regs packet
-    datapath_fits = asking_fits None (exactly 24 dp) any any any any any any tt on_fits any_from any_to any_word any_source any_address any_kind
-
-    pub address_fits : (mac : Mac) → packet.dst ≡ mac → CubeFits (on_address dp mac) regs packet
-    address_fits mac to =
-        asking_fits None (exactly 24 dp) any any any any (exactly 48 (mac_number mac)) any tt on_fits any_from any_to any_word any_source
-        (exactly_fits 48 (mac_number mac) (mac_number packet.dst) mac.below (ap (λ m. mac_number m) to)) any_kind
-
-    pub from_group_fits : BitsFit of_a_group (mac_number packet.src) → CubeFits (from_a_group dp) regs packet
-    from_group_fits s = asking_fits None (exactly 24 dp) any any any of_a_group any any tt on_fits any_from any_to any_word s any_address any_kind
-
-    pub to_group_fits : BitsFit of_a_group (mac_number packet.dst) → CubeFits (to_a_group dp) regs packet
-    to_group_fits a = asking_fits None (exactly 24 dp) any any any any of_a_group any tt on_fits any_from any_to any_word any_source a any_kind
-
-    pub tag_fits : ether_type packet.body ≡ 0x8100 → CubeFits (with_tag dp) regs packet
-    tag_fits tagged =
-        asking_fits None (exactly 24 dp) any any any any any (exactly 16 0x8100) tt on_fits any_from any_to any_word any_source any_address
-        (exactly_fits 16 0x8100 (ether_type packet.body) (omega arith) tagged)
 
     -- and of one exit
     module _ (key : ℕ) (short : key < 2 ^ 16) (aimed : regs.out_port ≡ key) where
@@ -109,16 +77,14 @@ module _ (regs : Regs) (packet : Packet) where
       to_fits = exactly_fits 16 key regs.out_port short aimed
 
       pub exit_fits : CubeFits (on_exit dp key) regs packet
-      exit_fits = asking_fits None (exactly 24 dp) any (exactly 16 key) any any any any tt on_fits any_from to_fits any_word any_source any_address any_kind
+      exit_fits = asking_fits None (exactly 24 dp) any (exactly 16 key) any tt on_fits any_from to_fits any_word
 
       -- the flag `loopback` is off
       pub return_fits : regs.in_port ≡ key → bit_and regs.flags.0 1 ≡ 0 → CubeFits (on_return dp key) regs packet
-      return_fits entered off =
-          asking_fits None (exactly 24 dp) (exactly 16 key) (exactly 16 key) (exactly 1 0) any any any tt on_fits (exactly_fits 16 key regs.in_port short entered) to_fits off any_source any_address any_kind
+      return_fits entered off = asking_fits None (exactly 24 dp) (exactly 16 key) (exactly 16 key) (exactly 1 0) tt on_fits (exactly_fits 16 key regs.in_port short entered) to_fits off
 
     pub group_fits : (group : Group) (arrived : Bool) → group_key group < 2 ^ 16 → regs.out_port ≡ group_key group → bit_and regs.flags.0 16 ≡ cond arrived 16 0 → CubeFits (on_group dp group arrived) regs packet
-    group_fits group arrived short aimed word =
-        asking_fits None (exactly 24 dp) any (exactly 16 (group_key group)) (arrived_is arrived) any any any tt on_fits any_from (to_fits (group_key group) short aimed) word any_source any_address any_kind
+    group_fits group arrived short aimed word = asking_fits None (exactly 24 dp) any (exactly 16 (group_key group)) (arrived_is arrived) tt on_fits any_from (to_fits (group_key group) short aimed) word
 
   -- ---- and back
 
@@ -127,24 +93,6 @@ module _ (regs : Regs) (packet : Packet) where
 
   pub fits_tunnel : CubeFits on_tunnel regs packet → regs.at ≡ Tunnel
   fits_tunnel fits = fits.entry
-
-  pub fits_address : (dp : ℕ) (mac : Mac) → regs.dp < 2 ^ 24 → CubeFits (on_address dp mac) regs packet → (regs.dp ≡ dp) × (packet.dst ≡ mac)
-  fits_address dp mac small fits = (
-    exactly_is 24 dp regs.dp small fits.place.dp_fits,
-    same_ether packet.dst mac (exactly_is 48 (mac_number mac) (mac_number packet.dst) packet.dst.below fits.ether.eth_dst_fits),
-  )
-
-  pub fits_datapath : (dp : ℕ) → regs.dp < 2 ^ 24 → CubeFits (on_datapath dp) regs packet → regs.dp ≡ dp
-  fits_datapath dp small fits = exactly_is 24 dp regs.dp small fits.place.dp_fits
-
-  pub fits_from_group : (dp : ℕ) → regs.dp < 2 ^ 24 → CubeFits (from_a_group dp) regs packet → (regs.dp ≡ dp) × BitsFit of_a_group (mac_number packet.src)
-  fits_from_group dp small fits = (exactly_is 24 dp regs.dp small fits.place.dp_fits, fits.ether.eth_src_fits)
-
-  pub fits_to_group : (dp : ℕ) → regs.dp < 2 ^ 24 → CubeFits (to_a_group dp) regs packet → (regs.dp ≡ dp) × BitsFit of_a_group (mac_number packet.dst)
-  fits_to_group dp small fits = (exactly_is 24 dp regs.dp small fits.place.dp_fits, fits.ether.eth_dst_fits)
-
-  pub fits_tag : (dp : ℕ) → regs.dp < 2 ^ 24 → ether_type packet.body < 2 ^ 16 → CubeFits (with_tag dp) regs packet → (regs.dp ≡ dp) × (ether_type packet.body ≡ 0x8100)
-  fits_tag dp small short fits = (exactly_is 24 dp regs.dp small fits.place.dp_fits, exactly_is 16 0x8100 (ether_type packet.body) short fits.ether.eth_type_fits)
 
   pub fits_exit : (dp key : ℕ) → regs.dp < 2 ^ 24 → regs.out_port < 2 ^ 16 → CubeFits (on_exit dp key) regs packet → (regs.dp ≡ dp) × (regs.out_port ≡ key)
   fits_exit dp key small short fits = (exactly_is 24 dp regs.dp small fits.place.dp_fits, exactly_is 16 key regs.out_port short fits.place.out_port_fits)

@@ -32,8 +32,8 @@ use Rattle.physical_flows.specs.Homes.{is_home, is_at, is_group_member, members}
 use Rattle.physical_flows.specs.Stages.{Basis, zone_of}
 use Rattle.physical_flows.specs.Touching as touching
 use Rattle.physical_flows.specs.Touching.{BindTouches, ChassisTouches, EditTouches}
-use Rattle.physical_flows.specs.Units.{unit_rows, ChangeOnly}
-use Rattle.physical_flows.proofs.UnitReads.{AreReadSo, IsSameMember, all_read_so, around_read_so, only_these}
+use Rattle.physical_flows.specs.Units.{ChangeOnly}
+use Rattle.physical_flows.proofs.UnitReads.{AreReadSo, IsSameMember, around_read_so, only_these}
 
 -- ---- tests
 
@@ -110,9 +110,6 @@ binds rows read before after q home port zones is found sorted others =
     subst (λ b. ((p : Name) → p ≢ q → zone_of b p ≡ zone_of before p) → ChangeOnly (unit.Switch port.switch ∷ unit.Port q ∷ []) (rows before) (rows b)) (sym is)
     (λ kept. bound_touches rows read before q home port zones found sorted kept) others
 
-pub bind_touches : BindTouches unit_rows
-bind_touches = binds unit_rows all_read_so
-
 pub around_bind : BindTouches around_rows
 around_bind = binds around_rows around_read_so
 
@@ -168,9 +165,6 @@ module _ (rows : Basis → FlowUnit → List Flow) (read : AreReadSo rows) (befo
 -- a chassis that is added changes no rows on the others: nobody is at home there yet
 comes : (rows : Basis → FlowUnit → List Flow) → AreReadSo rows → ChassisTouches rows
 comes rows read before after c is new homes = subst (λ b. ChangeOnly [] (rows before) (rows b)) (sym is) (with_chassis_touches rows read before c new homes)
-
-pub chassis_touches : ChassisTouches unit_rows
-chassis_touches = comes unit_rows all_read_so
 
 pub around_chassis : ChassisTouches around_rows
 around_chassis = comes around_rows around_read_so
@@ -238,9 +232,6 @@ module _ (rows : Basis → FlowUnit → List Flow) (read : AreReadSo rows) (befo
 edits : (rows : Basis → FlowUnit → List Flow) → AreReadSo rows → EditTouches rows
 edits rows read before after units next keys is sorted sorted_after same =
     subst (λ b. ChangeOnly units (rows before) (rows b)) (sym is) (edited_touches rows read before units next keys sorted sorted_after same)
-
-pub edit_touches : EditTouches unit_rows
-edit_touches = edits unit_rows all_read_so
 
 pub around_edit : EditTouches around_rows
 around_edit = edits around_rows around_read_so

@@ -1,5 +1,5 @@
 -- Which units have rows, and what the rows follow from.
-use Rattle.std.specs.Prelude.{◌≡◌, ◌++◌, ℕ, Bool, true, false, List, [], ◌∷◌, map, Option, Some, None, refl}
+use Rattle.std.specs.Prelude.{◌≡◌, ◌++◌, Bool, true, false, List, [], ◌∷◌, map, Option, Some, None, refl}
 use mathlib.Core.Path.{sym, ap, subst, ◌∙◌}
 use mathlib.Core.Logic.{inl, inr}
 use Rattle.std.proofs.lemmas.Bool.{false≢true}
@@ -21,8 +21,7 @@ use Rattle.physical_flows.specs.AroundLaws.{AroundAlikeLaw, AroundUnitsLaw, Unit
 use Rattle.physical_flows.specs.Numbers.{datapath_number}
 use Rattle.physical_flows.specs.Stages.{Basis}
 use Rattle.physical_flows.specs.UnitFlows.{HaveRows}
-use Rattle.physical_flows.specs.Units.{switch_everywhere, switch_here, port_everywhere, port_here, rows_everywhere, unit_rows, ChangeOnly, all_units, no_rows}
-use Rattle.physical_flows.specs.Valid.{IsValid}
+use Rattle.physical_flows.specs.Units.{switch_here, port_here, ChangeOnly, all_units, no_rows}
 
 -- ---- the units of the records
 
@@ -48,26 +47,7 @@ module _ (net : Network) where
       by (f ∷ fs) e = absurd (out (listed u f (subst (λ gs. Among f gs) (sym e) here)))
 
 module _ (b : Basis) where
-  switch_there : (a : Name) (o : Option Switch) → at b.net.switches a ≡ o → (f : Flow) → Among f (switch_everywhere b a o (datapath_number b.keys a) ++ switch_here b a o (datapath_number b.keys a))
-      → Among (unit.Switch a) (all_units b.net)
-  switch_there a None is f m = absurd (among_none f m)
-  switch_there a (Some switch) is f m = switch_listed b.net a switch is
-
-  port_there : (q : Name) (o : Option SwitchPort) → at b.net.switch_ports q ≡ o → (f : Flow) → Among f (port_everywhere b q o ++ port_here b q o) → Among (unit.Port q) (all_units b.net)
-  port_there q None is f m = absurd (among_none f m)
-  port_there q (Some port) is f m = port_listed b.net q port is
-
-  -- a unit that has a row is one of the records
-  pub unit_there : (u : FlowUnit) (f : Flow) → Among f (unit_rows b u) → Among u (all_units b.net)
-  unit_there unit.Common f m = here
-  unit_there (unit.Switch a) f m = switch_there a (at b.net.switches a) refl f m
-  unit_there (unit.Port q) f m = port_there q (at b.net.switch_ports q) refl f m
-
-  -- so all others have none
-  pub all_units_change : ChangeOnly (all_units b.net) no_rows (unit_rows b)
-  all_units_change = others_none b.net (unit_rows b) unit_there
-
-  -- nor have they one around the pipelines
+  -- a unit that has a row around the pipelines is one of the records
   around_switch : (a : Name) (o : Option Switch) → at b.net.switches a ≡ o → (f : Flow) → Among f (switch_here b a o (datapath_number b.keys a)) → Among (unit.Switch a) (all_units b.net)
   around_switch a None is f m = absurd (among_none f m)
   around_switch a (Some switch) is f m = switch_listed b.net a switch is
@@ -81,6 +61,7 @@ module _ (b : Basis) where
   around_there (unit.Switch a) f m = around_switch a (at b.net.switches a) refl f m
   around_there (unit.Port q) f m = around_port q (at b.net.switch_ports q) refl f m
 
+-- so all others have none
 pub around_units : AroundUnitsLaw
 around_units b = others_none b.net (around_rows b) (around_there b)
 
@@ -122,9 +103,6 @@ module _ (net : Network) where
         (once_named (λ (e : Name × SwitchPort). unit.Port e.0) (λ d e same. ap name_in same) net.switch_ports ports) units_apart,
   )
 
-pub all_units_once : (b : Basis) → IsValid b.net → EachOnce (all_units b.net)
-all_units_once b valid = units_once b.net valid.switches_sorted valid.ports_sorted
-
 pub switched_units_once : UnitsOnceLaw
 switched_units_once net keys switched = units_once net switched.valid.in_order.switches switched.valid.in_order.switch_ports
 
@@ -138,21 +116,7 @@ module _ (b : Basis) (c : Name) where
   abbrev elsewhere : Basis
   elsewhere = record b { chassis = c }
 
-  switch_alike : (a : Name) (o : Option Switch) (number : Option ℕ) → switch_everywhere elsewhere a o number ≡ switch_everywhere b a o number
-  switch_alike a None number = refl
-  switch_alike a (Some switch) None = refl
-  switch_alike a (Some switch) (Some dp) = refl
-
-  port_alike : (q : Name) (o : Option SwitchPort) → port_everywhere elsewhere q o ≡ port_everywhere b q o
-  port_alike q None = refl
-  port_alike q (Some port) = refl
-
   -- these rows don't follow from the chassis
-  pub everywhere_alike : (u : FlowUnit) → rows_everywhere (record b { chassis = c }) u ≡ rows_everywhere b u
-  everywhere_alike unit.Common = refl
-  everywhere_alike (unit.Switch a) = switch_alike a (at b.net.switches a) (datapath_number b.keys a)
-  everywhere_alike (unit.Port q) = port_alike q (at b.net.switch_ports q)
-
   around_alike : (u : FlowUnit) → around_everywhere elsewhere u ≡ around_everywhere b u
   around_alike unit.Common = refl
   around_alike (unit.Switch a) = refl

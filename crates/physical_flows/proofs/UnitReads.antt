@@ -1,7 +1,6 @@
--- What the rows of a unit follow from: where that stays the same, so do the rows. And which numbers an event leaves.
-use Rattle.std.specs.Prelude.{◌≡◌, ◌≢◌, ℕ, Bool, true, false, ◌&&◌, ◌||◌, not, cond, nat_lt, List, [], ◌∷◌, ◌++◌, length, map, filter, Option, Some, None, is_some, unwrap_or, refl}
+-- What the rows of a unit follow from: where that stays the same, so do the rows. And which zones keep their numbers where a port is bound.
+use Rattle.std.specs.Prelude.{◌≡◌, ◌≢◌, ℕ, Bool, true, false, ◌&&◌, ◌||◌, not, cond, List, [], ◌∷◌, ◌++◌, map, filter, Option, Some, None, is_some, unwrap_or, refl}
 use Rattle.std.specs.List.{list_any}
-use Rattle.std.specs.Option.{option_map}
 use mathlib.Core.Path.{sym, ap, ◌∙◌}
 use mathlib.Core.Logic.{inl, inr}
 use Rattle.std.proofs.lemmas.Bool.{false≢true}
@@ -9,7 +8,6 @@ use Rattle.std.proofs.lemmas.Option.{none-some, same_Some}
 use Rattle.ovn_base.specs.lists.Among.{Among, here, there}
 use Rattle.ovn_base.specs.names.ByName.{at}
 use Rattle.ovn_base.specs.names.SameName.{bytes_decides, same_name}
-use Rattle.ovn_base.specs.declared.address.Birth.{Birth}
 use Rattle.ovn_base.specs.declared.name.Name.{Name}
 use Rattle.ovn_base.proofs.ByNameLaws.{one_or_two, at_tail}
 use Rattle.conn_zones.specs.Rezoning.{IsRezoned, is_home_on}
@@ -19,13 +17,6 @@ use Rattle.conn_zones.specs.declared.numbers.ZoneUse.TheVariants as zone_use
 use Rattle.flow_table.specs.declared.flow.Flow.{Flow}
 use Rattle.nb_records.specs.declared.switch.Switch.{Switch}
 use Rattle.nb_records.specs.declared.switch.SwitchPort.{SwitchPort}
-use Rattle.tunnel_keys.specs.Edits.{GivesKeysAfter}
-use Rattle.tunnel_keys.specs.Keys.{Keys}
-use Rattle.tunnel_keys.specs.Owners.{name_in}
-use Rattle.tunnel_keys.specs.declared.owner.DatapathKey.{DatapathKey}
-use Rattle.tunnel_keys.specs.declared.owner.KeyOwner.TheVariants.{Datapath, Port}
-use Rattle.tunnel_keys.specs.declared.owner.PortKey.{PortKey}
-use Rattle.tunnel_keys.proofs.OwnerLaws.{not_port, the_one}
 use Rattle.net_model.specs.declared.crossing.Group.{Group}
 use Rattle.net_model.specs.declared.crossing.Group.TheVariants.{Flood, Unknown}
 use Rattle.physical_flows.specs.declared.unit.FlowUnit.{FlowUnit}
@@ -34,8 +25,8 @@ use Rattle.physical_flows.specs.Around.{keyed_around, port_around, around_everyw
 use Rattle.physical_flows.specs.Homes.{is_home, is_at, members, other_homes}
 use Rattle.physical_flows.specs.Numbers.{datapath_number, port_number}
 use Rattle.physical_flows.specs.Stages.{Basis, zone_of, member_of, members_here, homes_of}
-use Rattle.physical_flows.specs.TableList.{ingress_rows, egress_rows, group_rows, bound_rows}
-use Rattle.physical_flows.specs.Units.{switch_everywhere, switch_here, keyed_everywhere, keyed_here, port_everywhere, port_here, rows_everywhere, rows_here, unit_rows, ChangeOnly}
+use Rattle.physical_flows.specs.TableList.{group_rows, bound_rows}
+use Rattle.physical_flows.specs.Units.{switch_here, keyed_here, port_here, rows_here, ChangeOnly}
 use Rattle.physical_flows.proofs.FlowSearch.{is_some_of}
 
 -- ---- lists
@@ -111,13 +102,6 @@ module _ (before after : Basis) (q : Name) (same : IsSamePort before after q) wh
   port_here_same : rows_here after (unit.Port q) ≡ rows_here before (unit.Port q)
   port_here_same = ap (λ o. port_here after q o) same.entry ∙ here_same (at before.net.switch_ports q) refl
 
-  everywhere_same : (o : Option SwitchPort) → at before.net.switch_ports q ≡ o → port_everywhere after q o ≡ port_everywhere before q o
-  everywhere_same None is = refl
-  everywhere_same (Some port) is = let dp = same.beneath port is in let key = same.own.number in λ i. keyed_everywhere q port (dp i) (key i)
-
-  port_everywhere_same : rows_everywhere after (unit.Port q) ≡ rows_everywhere before (unit.Port q)
-  port_everywhere_same = ap (λ o. port_everywhere after q o) same.entry ∙ everywhere_same (at before.net.switch_ports q) refl
-
   around_same : (o : Option SwitchPort) → at before.net.switch_ports q ≡ o → port_around after q o ≡ port_around before q o
   around_same None is = refl
   around_same (Some port) is = let dp = same.beneath port is in let key = same.own.number in λ i. keyed_around q (dp i) (key i)
@@ -149,17 +133,6 @@ module _ (before after : Basis) (a : Name) (same : IsSameSwitch before after a) 
     groups_same : (dp : ℕ) → group_rows dp group (homes_of after a group) (members_here after a group) ≡ group_rows dp group (homes_of before a group) (members_here before a group)
     groups_same dp = λ i. group_rows dp group (homes_same i) (members_same i)
 
-  all_same : (o p : Option Switch) (number : Option ℕ) → is_some o ≡ is_some p → switch_everywhere after a o number ≡ switch_everywhere before a p number
-  all_same None None number e = refl
-  all_same None (Some p) number e = absurd (false≢true e)
-  all_same (Some o) None number e = absurd (false≢true (sym e))
-  all_same (Some o) (Some p) None e = refl
-  all_same (Some o) (Some p) (Some dp) e = ap (λ ms. ingress_rows dp (nat_lt 0 (length ms)) ++ egress_rows dp) (same.in_group Unknown)
-
-  switch_everywhere_same : rows_everywhere after (unit.Switch a) ≡ rows_everywhere before (unit.Switch a)
-  switch_everywhere_same =
-      ap (λ n. switch_everywhere after a (at after.net.switches a) n) same.number ∙ all_same (at after.net.switches a) (at before.net.switches a) (datapath_number before.keys a) same.entry
-
   own_same : (o p : Option Switch) (number : Option ℕ) → is_some o ≡ is_some p → switch_here after a o number ≡ switch_here before a p number
   own_same None None number e = refl
   own_same None (Some p) number e = absurd (false≢true e)
@@ -172,15 +145,7 @@ module _ (before after : Basis) (a : Name) (same : IsSameSwitch before after a) 
 
 -- ---- all units
 
--- all rows of a unit
-pub all_read_so : AreReadSo unit_rows
-all_read_so = record {
-  common = λ before after. refl;
-  switch = λ before after a same. let all = switch_everywhere_same before after a same in let own = switch_here_same before after a same in λ i. all i ++ own i;
-  port = λ before after q same. let all = port_everywhere_same before after q same in let own = port_here_same before after q same in λ i. all i ++ own i;
-}
-
--- and those around the pipelines
+-- the rows around the pipelines are
 pub around_read_so : AreReadSo around_rows
 around_read_so = record {
   common = λ before after. refl;
@@ -232,49 +197,3 @@ module _ (before after : Zoned) (q home : Name) (hold : IsZoned before) (rezoned
           | inl same ↦ let has = is ∙ ap (λ n. Some n) same in rezoned.stay c (zone_use.Port p) has (stays has)
           | inr other ↦ neither (λ has. other (same_Some h c (sym is ∙ has)))
         ]
-
--- ---- the numbers of keys, where a switch or a port gets one
-
--- a look-up that finds what it found, and nothing else
-same_found : {X : Type 0} (o p : Option X) → ((x : X) → o ≡ Some x → p ≡ Some x) → ((x : X) → p ≡ Some x → o ≡ Some x) → p ≡ o
-same_found (Some x) p kept no_other = kept x refl
-same_found None None kept no_other = refl
-same_found None (Some x) kept no_other = absurd (none-some x (no_other x refl))
-
-module _ (keys after : Keys) (a : Name) (birth : Birth) (gives : GivesKeysAfter keys (Datapath a birth ∷ []) after) where
-  -- a switch that gets a key leaves the numbers of the other switches
-  pub switch_leaves_datapaths : (x : Name) → x ≢ a → datapath_number after x ≡ datapath_number keys x
-  switch_leaves_datapaths x apart =
-      ap (λ (o : Option DatapathKey). option_map (λ d. d.key) o)
-      (same_found (at keys.datapaths x) (at after.datapaths x) (λ d is. gives.datapath_kept x d is) (λ d is. elim (gives.datapath_cases x d is) [
-        | inl old ↦ old
-        | inr new ↦ absurd (apart (ap name_in (the_one (Datapath x d.birth) (Datapath a birth) new)))
-      ]))
-
-  -- and those of all ports
-  pub switch_leaves_ports : (p : Name) → port_number after p ≡ port_number keys p
-  switch_leaves_ports p =
-      ap (λ (o : Option PortKey). option_map (λ k. k.key) o)
-      (same_found (at keys.ports p) (at after.ports p) (λ k is. gives.port_kept p k is) (λ k is. elim (gives.port_cases p k is) [
-        | inl old ↦ old
-        | inr new ↦ absurd (not_port a birth k.datapath p k.birth (sym (the_one (Port k.datapath p k.birth) (Datapath a birth) new)))
-      ]))
-
-module _ (keys after : Keys) (s q : Name) (birth : Birth) (gives : GivesKeysAfter keys (Port s q birth ∷ []) after) where
-  -- a port that gets a key leaves the numbers of all switches
-  pub port_leaves_datapaths : (x : Name) → datapath_number after x ≡ datapath_number keys x
-  port_leaves_datapaths x =
-      ap (λ (o : Option DatapathKey). option_map (λ d. d.key) o)
-      (same_found (at keys.datapaths x) (at after.datapaths x) (λ d is. gives.datapath_kept x d is) (λ d is. elim (gives.datapath_cases x d is) [
-        | inl old ↦ old
-        | inr new ↦ absurd (not_port x d.birth s q birth (the_one (Datapath x d.birth) (Port s q birth) new))
-      ]))
-
-  -- and those of the other ports
-  pub port_leaves_ports : (p : Name) → p ≢ q → port_number after p ≡ port_number keys p
-  port_leaves_ports p apart =
-      ap (λ (o : Option PortKey). option_map (λ k. k.key) o)
-      (same_found (at keys.ports p) (at after.ports p) (λ k is. gives.port_kept p k is) (λ k is. elim (gives.port_cases p k is) [
-        | inl old ↦ old
-        | inr new ↦ absurd (apart (ap name_in (the_one (Port k.datapath p k.birth) (Port s q birth) new)))
-      ]))

@@ -1,4 +1,4 @@
--- The flows of a chassis in a state, each once.
+-- What the flows of a chassis follow from in a state, and lists of exactly the flows of a set.
 use Rattle.std.specs.Prelude.{◌↔◌, List}
 use Rattle.ovn_base.specs.lists.Among.{Among}
 use Rattle.ovn_base.specs.declared.name.Name.{Name}
@@ -7,7 +7,6 @@ use Rattle.flow_table.specs.declared.flow.Flow.{Flow}
 use Rattle.conn_zones.specs.Zoning.{GivenNumbers}
 use Rattle.net_model.specs.State.{State}
 use Rattle.physical_flows.specs.Stages.{Basis}
-use Rattle.physical_flows.specs.Tables.{TableFlow}
 
 -- the flows are exactly those of the set, each once
 pub record AreExactly (Wanted : Flow → Type 0) (held : List Flow) : Type 0 where
@@ -17,7 +16,3 @@ pub record AreExactly (Wanted : Flow → Type 0) (held : List Flow) : Type 0 whe
 -- what the flows of a chassis follow from, in this state
 abbrev pub basis_at : State → GivenNumbers → Name → Basis
 basis_at m zones chassis = record { chassis = chassis; all = m.config.chassis; net = m.config.net; bindings = m.config.bindings; keys = m.keys; zones = zones }
-
--- the flows of a chassis in this state
-abbrev pub AreFlowsOf : State → GivenNumbers → Name → List Flow → Type 0
-AreFlowsOf m zones chassis flows = AreExactly (TableFlow (basis_at m zones chassis)) flows

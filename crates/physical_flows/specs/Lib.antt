@@ -1,9 +1,7 @@
 -- Definitions that contracts cite.
-pub mod Addresses
 pub mod Around
 pub mod AroundLaws
 pub mod Bindings
-pub mod Built
 pub mod ChassisFlows
 pub mod Compiling
 pub mod GroupKeys
@@ -14,8 +12,6 @@ pub mod Rows
 pub mod Stages
 pub mod Switched
 pub mod TableList
-pub mod Tables
 pub mod Touching
 pub mod UnitFlows
 pub mod Units
-pub mod Valid

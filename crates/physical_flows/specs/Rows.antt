@@ -1,23 +1,20 @@
--- The flows that a chassis holds, row by row. A row without a word on its entry is of rank 0 and cookie 0.
-use Rattle.std.specs.Prelude.{ℕ, ◌^◌, Bool, true, false, cond, List, [], ◌∷◌, ◌++◌, map, Some}
+-- The flows of the tables around the pipelines, row by row. A row without a word on its entry is of rank 0 and cookie 0.
+use Rattle.std.specs.Prelude.{ℕ, Bool, false, cond, List, [], ◌∷◌, ◌++◌, map, Some}
 use Rattle.ovn_base.specs.declared.name.Name.{Name}
-use Rattle.ovn_base.specs.declared.address.Mac.{Mac}
-use Rattle.ovn_base.specs.addresses.EtherAddress.{mac_number}
-use Rattle.ovn_base.specs.declared.stages.TheConstants.{ADMIT_TABLE, EGRESS_TRACK_TABLE, ENTRY_TABLE, LOCAL_TABLE, LOOKUP_TABLE, LOOPBACK_TABLE, OUTPUT_TABLE, REMOTE_TABLE}
+use Rattle.ovn_base.specs.declared.stages.TheConstants.{ADMIT_TABLE, EGRESS_TRACK_TABLE, ENTRY_TABLE, LOCAL_TABLE, LOOPBACK_TABLE, OUTPUT_TABLE, REMOTE_TABLE}
 use Rattle.inet_packet.specs.Cubes.{exactly, everything}
 use Rattle.inet_packet.specs.declared.cube.Bits.{Bits}
 use Rattle.inet_packet.specs.declared.cube.Cube.{Cube}
 use Rattle.inet_packet.specs.declared.regs.At.TheVariants.{Local, Tunnel}
-use Rattle.inet_packet.specs.declared.regs.Reg.TheVariants.{Dp, InPort, OutPort, ZIn, ZOut, Tracked, State, Blocked, Verdict, Arrived}
-use Rattle.flow_table.specs.declared.flow.Cause.TheVariants.{UnknownAddress, Loopback, BadSource, Vlan}
+use Rattle.inet_packet.specs.declared.regs.Reg.TheVariants.{Dp, InPort, ZIn, ZOut, Tracked, State, Blocked, Verdict, Arrived}
+use Rattle.flow_table.specs.declared.flow.Cause.TheVariants.{Loopback}
 use Rattle.flow_table.specs.declared.flow.Flow.{Flow}
 use Rattle.flow_table.specs.declared.flow.FlowOp.{FlowOp}
 use Rattle.flow_table.specs.declared.flow.FlowOp.TheVariants.{Set, Go, Drop, Header, Frame, Copies, Output}
 use Rattle.flow_table.specs.declared.flow.Member.{Member}
-use Rattle.physical_flows.specs.declared.priorities.TheConstants.{ADDRESS_PRIORITY, BAD_SOURCE_PRIORITY, BASE_PRIORITY, FLOOD_PRIORITY, PHYSICAL_PRIORITY, VLAN_PRIORITY}
+use Rattle.physical_flows.specs.declared.priorities.TheConstants.{BASE_PRIORITY, PHYSICAL_PRIORITY}
 use Rattle.physical_flows.specs.GroupKeys.{group_key}
 use Rattle.net_model.specs.declared.crossing.Group.{Group}
-use Rattle.net_model.specs.declared.crossing.Group.TheVariants.{Flood, Unknown}
 
 -- packets that come in at the port, and those that come out of a tunnel
 abbrev pub on_entry : Name → Cube
@@ -26,29 +23,12 @@ on_entry port = record everything { at = Some (Local port) }
 abbrev pub on_tunnel : Cube
 on_tunnel = record everything { at = Some Tunnel }
 
--- packets on the datapath, and those of them that go to an Ethernet address, or to a port
+-- packets on the datapath, and those of them that go to a port
 abbrev pub on_datapath : ℕ → Cube
 on_datapath dp = record everything { dp = exactly 24 dp }
 
-abbrev pub on_address : ℕ → Mac → Cube
-on_address dp mac = record (on_datapath dp) { eth_dst = exactly 48 (mac_number mac) }
-
 abbrev pub on_exit : ℕ → ℕ → Cube
 on_exit dp key = record (on_datapath dp) { out_port = exactly 16 key }
-
--- the lowest bit of an Ethernet address's first byte, which the addresses of groups have
-abbrev pub of_a_group : Bits
-of_a_group = record { value = 2 ^ 40; mask = 2 ^ 40 }
-
--- packets from a group's address, packets to one, and packets with a tag
-abbrev pub from_a_group : ℕ → Cube
-from_a_group dp = record (on_datapath dp) { eth_src = of_a_group }
-
-abbrev pub to_a_group : ℕ → Cube
-to_a_group dp = record (on_datapath dp) { eth_dst = of_a_group }
-
-abbrev pub with_tag : ℕ → Cube
-with_tag dp = record (on_datapath dp) { eth_type = exactly 16 0x8100 }
 
 -- packets that would go back to where they came from, but for those that may: the flag `loopback` is the word's lowest bit
 abbrev pub on_return : ℕ → ℕ → Cube
@@ -71,32 +51,6 @@ entry_row name dp key zone = flow_of ENTRY_TABLE PHYSICAL_PRIORITY (on_entry nam
 
 abbrev pub arrival_row : Flow
 arrival_row = flow_of ENTRY_TABLE PHYSICAL_PRIORITY on_tunnel (Header ∷ Set Arrived 1 ∷ Go LOCAL_TABLE ∷ [])
-
--- the row of a stage that a packet passes where nothing else matches
-abbrev pub pass_row : ℕ → ℕ → ℕ → Flow
-pass_row dp table next = flow_of table BASE_PRIORITY (on_datapath dp) (Go next ∷ [])
-
--- table 8: no packet comes from a group's address, and none with a tag
-abbrev pub bad_source_row : ℕ → Flow
-bad_source_row dp = flow_of ADMIT_TABLE BAD_SOURCE_PRIORITY (from_a_group dp) (Drop BadSource ∷ [])
-
-abbrev pub vlan_row : ℕ → Flow
-vlan_row dp = flow_of ADMIT_TABLE VLAN_PRIORITY (with_tag dp) (Drop Vlan ∷ [])
-
--- table 14: a packet to a group's address goes to all ports, another to the port that has the address
-abbrev pub flood_row : ℕ → Flow
-flood_row dp = flow_of LOOKUP_TABLE FLOOD_PRIORITY (to_a_group dp) (Set OutPort (group_key Flood) ∷ Go REMOTE_TABLE ∷ [])
-
-abbrev pub address_row : ℕ → Mac → ℕ → Flow
-address_row dp mac key = flow_of LOOKUP_TABLE ADDRESS_PRIORITY (on_address dp mac) (Set OutPort key ∷ Go REMOTE_TABLE ∷ [])
-
--- and where none has it, to the ports that take such packets, if there is one
-abbrev pub unknown_ops : Bool → List FlowOp
-unknown_ops true = Set OutPort (group_key Unknown) ∷ Go REMOTE_TABLE ∷ []
-unknown_ops false = Drop UnknownAddress ∷ []
-
-abbrev pub unknown_row : ℕ → Bool → Flow
-unknown_row dp taken = flow_of LOOKUP_TABLE BASE_PRIORITY (on_datapath dp) (unknown_ops taken)
 
 -- table 32: a packet for a port that is at home elsewhere goes there as a frame
 abbrev pub remote_row : ℕ → ℕ → Name → Flow

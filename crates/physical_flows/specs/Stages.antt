@@ -1,25 +1,21 @@
--- The rows of each stage, as sets: a constructor for each kind of row.
-use Rattle.std.specs.Prelude.{◌≡◌, ◌≢◌, ℕ, Bool, List, length, map, nat_lt, Option, Some, unwrap_or}
+-- The rows of each table around the pipelines, as sets: a constructor for each kind of row.
+use Rattle.std.specs.Prelude.{◌≡◌, ◌≢◌, ℕ, Bool, List, map, Option, Some, unwrap_or}
 use Rattle.ovn_base.specs.declared.name.Name.{Name}
-use Rattle.ovn_base.specs.declared.stages.TheConstants.{ACL_TABLE, ADMIT_TABLE, ARP_TABLE, EGRESS_ACL_TABLE, EGRESS_SECURITY_TABLE, EGRESS_STATE_TABLE, EGRESS_TRACK_TABLE, LOOKUP_TABLE, OUTPUT_TABLE, PORT_SECURITY_TABLE, STATE_TABLE, TRACK_TABLE}
 use Rattle.flow_table.specs.declared.flow.Flow.{Flow}
 use Rattle.ovn_base.specs.names.ByName.{at}
 use Rattle.conn_zones.specs.Zoning.{GivenNumbers, number_on}
 use Rattle.conn_zones.specs.declared.numbers.ZoneUse.TheVariants.{Port}
 use Rattle.nb_records.specs.Network.{Network}
-use Rattle.ovn_base.specs.declared.address.Mac.{Mac}
 use Rattle.flow_table.specs.declared.flow.Member.{Member}
 use Rattle.nb_records.specs.declared.switch.Switch.{Switch}
 use Rattle.nb_records.specs.declared.switch.SwitchPort.{SwitchPort}
 use Rattle.tunnel_keys.specs.Keys.{Keys}
 use Rattle.tunnel_keys.specs.declared.owner.DatapathKey.{DatapathKey}
 use Rattle.tunnel_keys.specs.declared.owner.PortKey.{PortKey}
-use Rattle.physical_flows.specs.Addresses.{HasMac}
 use Rattle.net_model.specs.declared.crossing.Group.{Group}
-use Rattle.net_model.specs.declared.crossing.Group.TheVariants.{Unknown}
-use Rattle.physical_flows.specs.Homes.{members, members_at, other_homes}
+use Rattle.physical_flows.specs.Homes.{members_at, other_homes}
 use Rattle.physical_flows.specs.Numbers.{port_number}
-use Rattle.physical_flows.specs.Rows.{entry_row, arrival_row, pass_row, bad_source_row, vlan_row, flood_row, address_row, unknown_row, remote_row, spread_row, stay_row, home_row, copies_row, return_row, leave_row, output_row}
+use Rattle.physical_flows.specs.Rows.{entry_row, arrival_row, remote_row, spread_row, stay_row, home_row, copies_row, return_row, leave_row, output_row}
 
 -- what the flows of a chassis follow from: its name, all chassis, the records, the chassis of each bound port, the keys, and the
 -- numbers of the zones
@@ -67,46 +63,10 @@ members_here b a group = map (λ q. member_of b q) (members_at b.net b.bindings 
 abbrev pub homes_of : Basis → Name → Group → List Name
 homes_of b a group = other_homes b.net b.bindings b.all a group b.chassis
 
--- some port of the switch takes packets for unknown addresses
-abbrev pub has_unknown : Basis → Name → Bool
-has_unknown b a = nat_lt 0 (length (members b.net a Unknown))
-
 -- table 0: entry
 pub data EntryRow (b : Basis) (f : Flow) : Type 0 where
   entry : (q : Name) (port : SwitchPort) (dp key zone : ℕ) → IsPort b q port dp key → IsHere b q zone → f ≡ entry_row q dp key zone → EntryRow b f
   arrival : f ≡ arrival_row → EntryRow b f
-
--- table 8: s_admit
-pub data AdmitRow (b : Basis) (f : Flow) : Type 0 where
-  bad_source : (a : Name) (dp : ℕ) → IsDatapath b a dp → f ≡ bad_source_row dp → AdmitRow b f
-  vlan : (a : Name) (dp : ℕ) → IsDatapath b a dp → f ≡ vlan_row dp → AdmitRow b f
-  s_admit_base : (a : Name) (dp : ℕ) → IsDatapath b a dp → f ≡ pass_row dp ADMIT_TABLE PORT_SECURITY_TABLE → AdmitRow b f
-
--- table 9: s_port_sec
-pub data PortSecRow (b : Basis) (f : Flow) : Type 0 where
-  s_port_sec_base : (a : Name) (dp : ℕ) → IsDatapath b a dp → f ≡ pass_row dp PORT_SECURITY_TABLE TRACK_TABLE → PortSecRow b f
-
--- table 10: s_track
-pub data TrackRow (b : Basis) (f : Flow) : Type 0 where
-  s_track_base : (a : Name) (dp : ℕ) → IsDatapath b a dp → f ≡ pass_row dp TRACK_TABLE ACL_TABLE → TrackRow b f
-
--- table 11: s_acl_in
-pub data AclInRow (b : Basis) (f : Flow) : Type 0 where
-  s_acl_in_base : (a : Name) (dp : ℕ) → IsDatapath b a dp → f ≡ pass_row dp ACL_TABLE STATE_TABLE → AclInRow b f
-
--- table 12: s_state_in
-pub data StateInRow (b : Basis) (f : Flow) : Type 0 where
-  s_state_in_base : (a : Name) (dp : ℕ) → IsDatapath b a dp → f ≡ pass_row dp STATE_TABLE ARP_TABLE → StateInRow b f
-
--- table 13: s_arp
-pub data ArpRow (b : Basis) (f : Flow) : Type 0 where
-  s_arp_base : (a : Name) (dp : ℕ) → IsDatapath b a dp → f ≡ pass_row dp ARP_TABLE LOOKUP_TABLE → ArpRow b f
-
--- table 14: s_lookup
-pub data LookupRow (b : Basis) (f : Flow) : Type 0 where
-  flood_to : (a : Name) (dp : ℕ) → IsDatapath b a dp → f ≡ flood_row dp → LookupRow b f
-  address : (q : Name) (port : SwitchPort) (dp key : ℕ) (mac : Mac) → IsPort b q port dp key → HasMac port.addresses mac → f ≡ address_row dp mac key → LookupRow b f
-  unknown_to : (a : Name) (dp : ℕ) → IsDatapath b a dp → f ≡ unknown_row dp (has_unknown b a) → LookupRow b f
 
 -- table 32: other chassis
 pub data RemoteRow (b : Basis) (f : Flow) : Type 0 where
@@ -123,22 +83,6 @@ pub data HomeRow (b : Basis) (f : Flow) : Type 0 where
 pub data ReturnRow (b : Basis) (f : Flow) : Type 0 where
   back : (q : Name) (port : SwitchPort) (dp key : ℕ) → IsPort b q port dp key → f ≡ return_row dp key → ReturnRow b f
   leave : f ≡ leave_row → ReturnRow b f
-
--- table 40: s_track_out
-pub data TrackOutRow (b : Basis) (f : Flow) : Type 0 where
-  s_track_out_base : (a : Name) (dp : ℕ) → IsDatapath b a dp → f ≡ pass_row dp EGRESS_TRACK_TABLE EGRESS_ACL_TABLE → TrackOutRow b f
-
--- table 41: s_acl_out
-pub data AclOutRow (b : Basis) (f : Flow) : Type 0 where
-  s_acl_out_base : (a : Name) (dp : ℕ) → IsDatapath b a dp → f ≡ pass_row dp EGRESS_ACL_TABLE EGRESS_STATE_TABLE → AclOutRow b f
-
--- table 42: s_state_out
-pub data StateOutRow (b : Basis) (f : Flow) : Type 0 where
-  s_state_out_base : (a : Name) (dp : ℕ) → IsDatapath b a dp → f ≡ pass_row dp EGRESS_STATE_TABLE EGRESS_SECURITY_TABLE → StateOutRow b f
-
--- table 43: s_sec_out
-pub data SecOutRow (b : Basis) (f : Flow) : Type 0 where
-  s_sec_out_base : (a : Name) (dp : ℕ) → IsDatapath b a dp → f ≡ pass_row dp EGRESS_SECURITY_TABLE OUTPUT_TABLE → SecOutRow b f
 
 -- table 64: output
 pub data OutputRow (b : Basis) (f : Flow) : Type 0 where

@@ -1,57 +1,26 @@
 -- The rows of switches, of ports and of all chassis, as lists in the compiler's order.
-use Rattle.std.specs.Prelude.{◌++◌, ℕ, Bool, true, false, ◌&&◌, not, cond, List, [], ◌∷◌, Some, None, Option, filter, filter_map, map, unwrap_or}
+use Rattle.std.specs.Prelude.{ℕ, Bool, true, false, ◌&&◌, not, cond, List, [], ◌∷◌, Some, None, Option, filter, filter_map, map, unwrap_or}
 use Rattle.std.specs.List.{list_any}
 use Rattle.ovn_base.specs.declared.name.Name.{Name}
-use Rattle.ovn_base.specs.declared.stages.TheConstants.{ACL_TABLE, ADMIT_TABLE, ARP_TABLE, EGRESS_ACL_TABLE, EGRESS_SECURITY_TABLE, EGRESS_STATE_TABLE, EGRESS_TRACK_TABLE, LOOKUP_TABLE, OUTPUT_TABLE, PORT_SECURITY_TABLE, STATE_TABLE, TRACK_TABLE}
 use Rattle.flow_table.specs.declared.flow.Flow.{Flow}
 use Rattle.flow_table.specs.declared.flow.Member.{Member}
 use Rattle.ovn_base.specs.names.ByName.{at}
 use Rattle.ovn_base.specs.names.SameName.{same_name}
-use Rattle.nb_records.specs.declared.switch.PortAddress.{PortAddress}
 use Rattle.nb_records.specs.declared.switch.SwitchPort.{SwitchPort}
-use Rattle.physical_flows.specs.Addresses.{macs_in}
 use Rattle.net_model.specs.declared.crossing.Group.{Group}
 use Rattle.physical_flows.specs.Homes.{is_at, is_group_member}
-use Rattle.physical_flows.specs.Rows.{entry_row, arrival_row, pass_row, bad_source_row, vlan_row, flood_row, address_row, unknown_row, remote_row, spread_row, stay_row, home_row, copies_row, return_row, leave_row, output_row}
+use Rattle.physical_flows.specs.Rows.{entry_row, arrival_row, remote_row, spread_row, stay_row, home_row, copies_row, leave_row}
 use Rattle.physical_flows.specs.Stages.{Basis, zone_of}
 
 -- ---- switches
 
--- the rows that let the packets of a switch in
-abbrev pub admit_rows : ℕ → List Flow
-admit_rows dp = pass_row dp ADMIT_TABLE PORT_SECURITY_TABLE ∷ vlan_row dp ∷ bad_source_row dp ∷ []
-
--- those of the stages that each packet passes
-abbrev pub transit_rows : ℕ → List Flow
-transit_rows dp = pass_row dp PORT_SECURITY_TABLE TRACK_TABLE ∷ pass_row dp TRACK_TABLE ACL_TABLE ∷ pass_row dp ACL_TABLE STATE_TABLE ∷ pass_row dp STATE_TABLE ARP_TABLE ∷ pass_row dp ARP_TABLE LOOKUP_TABLE ∷ []
-
--- those that look addresses up, but for the addresses of ports
-abbrev pub lookup_rows : ℕ → Bool → List Flow
-lookup_rows dp taken = unknown_row dp taken ∷ flood_row dp ∷ []
-
--- all rows of a switch up to its look-up of addresses
-abbrev pub ingress_rows : ℕ → Bool → List Flow
-ingress_rows dp taken = admit_rows dp ++ transit_rows dp ++ lookup_rows dp taken
-
--- and those after it
-abbrev pub egress_rows : ℕ → List Flow
-egress_rows dp = pass_row dp EGRESS_TRACK_TABLE EGRESS_ACL_TABLE ∷ pass_row dp EGRESS_ACL_TABLE EGRESS_STATE_TABLE ∷ pass_row dp EGRESS_STATE_TABLE EGRESS_SECURITY_TABLE ∷ pass_row dp EGRESS_SECURITY_TABLE OUTPUT_TABLE ∷ []
-
--- those of a group
+-- the rows of a group
 abbrev pub group_rows : ℕ → Group → List Name → List Member → List Flow
 group_rows dp group homes members = spread_row dp group homes ∷ copies_row dp group false members ∷ copies_row dp group true members ∷ []
 
 -- ---- ports
 
--- the rows of a port's addresses
-abbrev pub address_rows : ℕ → List PortAddress → ℕ → List Flow
-address_rows dp addresses key = map (λ mac. address_row dp mac key) (macs_in addresses)
-
--- the rows of a port, wherever it is bound
-abbrev pub port_rows : ℕ → Name → SwitchPort → ℕ → List Flow
-port_rows dp q port key = return_row dp key ∷ output_row dp q key ∷ address_rows dp port.addresses key
-
--- those on its home, where it has the zone: it comes in, and is reached
+-- the rows of a port on its home, where it has the zone: it comes in, and is reached
 abbrev pub local_rows : ℕ → Name → ℕ → ℕ → List Flow
 local_rows dp q key zone = entry_row q dp key zone ∷ home_row dp key zone ∷ []
 

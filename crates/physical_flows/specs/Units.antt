@@ -1,4 +1,4 @@
--- The flows of a chassis by unit: those of a switch, of a port, and those that every chassis has.
+-- The flows of a chassis by unit: those of a switch and of a port by who is at home, and what units have rows.
 use Rattle.std.specs.Prelude.{◌≡◌, ◌++◌, ℕ, List, [], ◌∷◌, map, Option, Some, None}
 use Rattle.ovn_base.specs.lists.Among.{Among}
 use Rattle.ovn_base.specs.names.ByName.{at}
@@ -11,31 +11,8 @@ use Rattle.net_model.specs.declared.crossing.Group.TheVariants.{Flood, Unknown}
 use Rattle.physical_flows.specs.declared.unit.FlowUnit.{FlowUnit}
 use Rattle.physical_flows.specs.declared.unit.FlowUnit.TheVariants as unit
 use Rattle.physical_flows.specs.Numbers.{datapath_number, port_number}
-use Rattle.physical_flows.specs.Stages.{Basis, zone_of, members_here, homes_of, has_unknown}
-use Rattle.physical_flows.specs.TableList.{ingress_rows, egress_rows, group_rows, port_rows, bound_rows, common_rows}
-
--- ---- the rows that a unit has on every chassis
-
--- those of a switch, by its record and its key
-abbrev pub switch_everywhere : Basis → Name → Option Switch → Option ℕ → List Flow
-switch_everywhere b a (Some switch) (Some dp) = ingress_rows dp (has_unknown b a) ++ egress_rows dp
-switch_everywhere b a (Some switch) None = []
-switch_everywhere b a None number = []
-
--- those of a port, by the keys of its switch and its own
-abbrev pub keyed_everywhere : Name → SwitchPort → Option ℕ → Option ℕ → List Flow
-keyed_everywhere q port (Some dp) (Some key) = port_rows dp q port key
-keyed_everywhere q port (Some dp) None = []
-keyed_everywhere q port None key = []
-
-abbrev pub port_everywhere : Basis → Name → Option SwitchPort → List Flow
-port_everywhere b q (Some port) = keyed_everywhere q port (datapath_number b.keys port.switch) (port_number b.keys q)
-port_everywhere b q None = []
-
-abbrev pub rows_everywhere : Basis → FlowUnit → List Flow
-rows_everywhere b unit.Common = common_rows
-rows_everywhere b (unit.Switch a) = switch_everywhere b a (at b.net.switches a) (datapath_number b.keys a)
-rows_everywhere b (unit.Port q) = port_everywhere b q (at b.net.switch_ports q)
+use Rattle.physical_flows.specs.Stages.{Basis, zone_of, members_here, homes_of}
+use Rattle.physical_flows.specs.TableList.{group_rows, bound_rows}
 
 -- ---- the rows that a unit has by who is at home on this chassis, and who elsewhere
 
@@ -60,11 +37,7 @@ rows_here b unit.Common = []
 rows_here b (unit.Switch a) = switch_here b a (at b.net.switches a) (datapath_number b.keys a)
 rows_here b (unit.Port q) = port_here b q (at b.net.switch_ports q)
 
--- ---- the whole
-
--- all rows of a unit
-abbrev pub unit_rows : Basis → FlowUnit → List Flow
-unit_rows b u = rows_everywhere b u ++ rows_here b u
+-- ---- all units
 
 -- the flow is a row of some unit
 pub record HasRow (rows : FlowUnit → List Flow) (f : Flow) : Type 0 where

@@ -1,4 +1,4 @@
-//! The flows of a chassis, from the records, the keys and the homes.
+//! The flows of a chassis around its pipelines, from the records, the keys and the homes.
 ghost use Rattle.std.specs.Prelude.{◌≡◌, ◌++◌, map, IfOk, OnOk};
 ghost use Rattle.std.specs.List.{list_any};
 ghost use Rattle.ovn_base.specs.names.ByName.{at, IsByName};
@@ -7,16 +7,12 @@ ghost use Rattle.physical_flows.specs.Around.{around_everywhere};
 ghost use Rattle.physical_flows.specs.Homes.{is_at, is_group_member};
 ghost use Rattle.physical_flows.specs.Stages.{zone_of};
 ghost use Rattle.physical_flows.specs.TableList.{rows_among, bound_rows, is_record_in, group_among, here_among, bound_among, is_other_among, others_among};
-ghost use Rattle.physical_flows.specs.Units.{all_units, rows_everywhere, rows_here};
+ghost use Rattle.physical_flows.specs.Units.{all_units, rows_here};
 ghost use Rattle.physical_flows.specs.declared.unit.FlowUnit.TheVariants as unit;
 ghost use Rattle.physical_flows.specs.Compiling.{basis_of};
-ghost use Rattle.physical_flows.specs.Valid.{IsValid};
 ghost use Rattle.physical_flows.specs.RecordKeys.{HaveKeys};
 
-use crate::rows::{
-    push_common, push_egress, push_exits, push_group, push_ingress, push_local, push_port,
-    push_remote,
-};
+use crate::rows::{push_common, push_exits, push_group, push_local, push_remote};
 use crate::unit::FlowUnit;
 use conn_zones::homes::Homes;
 use conn_zones::numbers::ZoneNumbers;
@@ -150,31 +146,6 @@ impl Maps<'_> {
         push_group(alloc, dp, group, others.as_slice(), here.as_slice(), flows)
     }
 
-    // Adds the rows that a switch has on every chassis.
-    fn push_switch_everywhere(
-        &self,
-        alloc: Global,
-        name: &Name,
-        flows: &mut List<Flow>,
-    ) -> Result<(), NoMemory>
-        requires sorted { IsByName (basis_of self.now).net.switch_ports }
-        requires keys { HaveKeys (basis_of self.now).net (basis_of self.now).keys }
-        ensures { OnOk result (flows.new ≡ flows.old ++ rows_everywhere (basis_of self.now) (unit.Switch name.now)) }
-    {
-        if self.records.switch(name).is_none() {
-            return Ok(());
-        }
-        let Some(datapath) = self.keys.datapath(name) else {
-            return Ok(());
-        };
-        let Some(ports) = self.keys.ports(name) else {
-            return Ok(());
-        };
-        let unknown = self.group_among(alloc, Group::Unknown, ports.list.as_slice())?;
-        push_ingress(alloc, datapath, 0 < unknown.len(), flows)?;
-        push_egress(alloc, datapath, flows)
-    }
-
     // Adds the rows that a switch has by who is at home on the chassis.
     fn push_switch_here(
         &self,
@@ -198,27 +169,6 @@ impl Maps<'_> {
         let ports = ports.list.as_slice();
         self.push_group(alloc, datapath, Group::Flood, ports, flows)?;
         self.push_group(alloc, datapath, Group::Unknown, ports, flows)
-    }
-
-    // Adds the rows that a port has on every chassis.
-    fn push_port_everywhere(
-        &self,
-        alloc: Global,
-        name: &Name,
-        flows: &mut List<Flow>,
-    ) -> Result<(), NoMemory>
-        ensures { OnOk result (flows.new ≡ flows.old ++ rows_everywhere (basis_of self.now) (unit.Port name.now)) }
-    {
-        let Some(port) = self.records.switch_port(name) else {
-            return Ok(());
-        };
-        let Some(datapath) = self.keys.datapath(&port.switch) else {
-            return Ok(());
-        };
-        let Some(key) = self.keys.port(name) else {
-            return Ok(());
-        };
-        push_port(alloc, datapath, *name, port, key, flows)
     }
 
     // Adds the rows around the pipelines that a port has on every chassis.
@@ -285,38 +235,6 @@ impl Maps<'_> {
             Some(zone) => push_local(alloc, dp, *name, key, zone, flows),
             None => Ok(()),
         }
-    }
-
-    // The rows that a unit has on every chassis.
-    fn rows_everywhere(&self, alloc: Global, unit: &FlowUnit) -> Result<List<Flow>, NoMemory>
-        requires valid { IsValid (basis_of self.now).net }
-        requires keys { HaveKeys (basis_of self.now).net (basis_of self.now).keys }
-        ensures { IfOk result (λ rows. rows ≡ rows_everywhere (basis_of self.now) unit.now) }
-    {
-        let mut rows = List::new(alloc);
-        match unit {
-            FlowUnit::Common => push_common(alloc, &mut rows)?,
-            FlowUnit::Switch(name) => self.push_switch_everywhere(alloc, name, &mut rows)?,
-            FlowUnit::Port(name) => self.push_port_everywhere(alloc, name, &mut rows)?,
-        }
-        Ok(rows)
-    }
-
-    /// The units, each with those of its rows that are the same on every chassis.
-    pub fn everywhere(
-        &self,
-        alloc: Global,
-        units: &[FlowUnit],
-    ) -> Result<List<(FlowUnit, List<Flow>)>, NoMemory>
-        requires valid { IsValid (basis_of self.now).net }
-        requires keys { HaveKeys (basis_of self.now).net (basis_of self.now).keys }
-        ensures { IfOk result (λ rows. rows ≡ map (λ u. (u, rows_everywhere (basis_of self.now) u)) units.now) }
-    {
-        let mut rows = List::new(alloc);
-        'units: for unit in units {
-            rows.push((*unit, self.rows_everywhere(alloc, unit)?))?;
-        }
-        Ok(rows)
     }
 
     // The rows around the pipelines that a unit has on every chassis.

@@ -1,4 +1,4 @@
-//! The flows of the tables of a chassis: what the records, the keys and the homes of ports make of them.
+//! The flows of the tables around the pipelines of a chassis: what the records, the keys and the homes of ports make of them.
 #![tactic(auto)]
 
 pub mod compile;

@@ -1,38 +1,26 @@
-//! The flows that a chassis holds, row by row.
+//! The flows of the tables around the pipelines, row by row.
 ghost use Rattle.std.specs.Prelude.{◌≡◌, ◌++◌, [], ◌∷◌, map, IfOk, OnOk};
 ghost use Rattle.flow_table.specs.declared.flow.FlowOp.TheVariants.{Set, Go, Frame};
 ghost use Rattle.physical_flows.specs.Around.{exit_rows};
 ghost use Rattle.physical_flows.specs.GroupKeys.{group_key};
 ghost use Rattle.inet_packet.specs.Cubes.{any, exactly, everything};
-ghost use Rattle.physical_flows.specs.Rows.{on_entry, on_tunnel, on_datapath, on_address, on_exit, on_return, on_group, of_a_group, from_a_group, to_a_group, with_tag, arrived_is, flow_of, pass_row, remote_row, spread_row, copies_row, unknown_ops, address_row};
-ghost use Rattle.physical_flows.specs.TableList.{admit_rows, transit_rows, lookup_rows, ingress_rows, egress_rows, group_rows, address_rows, port_rows, local_rows, common_rows};
+ghost use Rattle.physical_flows.specs.Rows.{on_entry, on_tunnel, on_exit, on_return, on_group, arrived_is, flow_of, remote_row, spread_row, copies_row};
+ghost use Rattle.physical_flows.specs.TableList.{group_rows, local_rows, common_rows};
 
-use crate::priorities::{
-    ADDRESS_PRIORITY, BAD_SOURCE_PRIORITY, BASE_PRIORITY, FLOOD_PRIORITY, PHYSICAL_PRIORITY,
-    VLAN_PRIORITY,
-};
+use crate::priorities::{BASE_PRIORITY, PHYSICAL_PRIORITY};
 use flow_table::flow::{Cause, Flow, FlowOp, Member};
 use inet_packet::cube::{Bits, Cube};
 use inet_packet::regs::{At, Reg};
-use nb_records::switch::{PortAddress, SwitchPort};
 use net_model::crossing::Group;
-use ovn_base::address::Mac;
 use ovn_base::limits::{FLOOD_KEY, UNKNOWN_KEY};
 use ovn_base::list::List;
 use ovn_base::memory::NoMemory;
 use ovn_base::name::Name;
 use ovn_base::stages::{
-    ACL_TABLE, ADMIT_TABLE, ARP_TABLE, EGRESS_ACL_TABLE, EGRESS_SECURITY_TABLE, EGRESS_STATE_TABLE,
-    EGRESS_TRACK_TABLE, ENTRY_TABLE, LOCAL_TABLE, LOOKUP_TABLE, LOOPBACK_TABLE, OUTPUT_TABLE,
-    PORT_SECURITY_TABLE, REMOTE_TABLE, STATE_TABLE, TRACK_TABLE,
+    ADMIT_TABLE, EGRESS_TRACK_TABLE, ENTRY_TABLE, LOCAL_TABLE, LOOPBACK_TABLE, OUTPUT_TABLE,
+    REMOTE_TABLE,
 };
 use std::alloc::Global;
-
-// The lowest bit of an Ethernet address's first byte, which the addresses of groups have.
-const OF_A_GROUP: Bits = Bits {
-    value: 0x0100_0000_0000,
-    mask: 0x0100_0000_0000,
-};
 
 // The number of a group.
 fn number_of(group: Group) -> u16
@@ -58,55 +46,6 @@ fn tunnel_cube() -> Cube
 {
     Cube {
         at: Some(At::Tunnel),
-        ..Cube::EVERYTHING
-    }
-}
-
-fn datapath_cube(dp: u32) -> Cube
-    ensures { result ≡ on_datapath dp }
-{
-    Cube {
-        dp: Bits::exactly(24, u64::from(dp)),
-        ..Cube::EVERYTHING
-    }
-}
-
-fn address_cube(dp: u32, mac: Mac) -> Cube
-    ensures { result ≡ on_address dp mac }
-{
-    Cube {
-        dp: Bits::exactly(24, u64::from(dp)),
-        eth_dst: Bits::exactly(48, mac.number()),
-        ..Cube::EVERYTHING
-    }
-}
-
-fn bad_source_cube(dp: u32) -> Cube
-    ensures { result ≡ from_a_group dp }
-{
-    Cube {
-        dp: Bits::exactly(24, u64::from(dp)),
-        eth_src: OF_A_GROUP,
-        ..Cube::EVERYTHING
-    }
-}
-
-fn flood_cube(dp: u32) -> Cube
-    ensures { result ≡ to_a_group dp }
-{
-    Cube {
-        dp: Bits::exactly(24, u64::from(dp)),
-        eth_dst: OF_A_GROUP,
-        ..Cube::EVERYTHING
-    }
-}
-
-fn vlan_cube(dp: u32) -> Cube
-    ensures { result ≡ with_tag dp }
-{
-    Cube {
-        dp: Bits::exactly(24, u64::from(dp)),
-        eth_type: Bits::exactly(16, 0x8100),
         ..Cube::EVERYTHING
     }
 }
@@ -187,118 +126,6 @@ fn set_and_go(alloc: Global, reg: Reg, value: u32, table: u8) -> Result<List<Flo
     Ok(List::from_vec(vec![in alloc; FlowOp::Set { reg, value }, FlowOp::Go(table)]?))
 }
 
-// Adds the row of a stage that a packet passes where nothing else matches.
-fn push_pass(
-    alloc: Global,
-    dp: u32,
-    table: u8,
-    next: u8,
-    flows: &mut List<Flow>,
-) -> Result<(), NoMemory>
-    ensures { OnOk result (flows.new ≡ flows.old ++ pass_row dp table next ∷ []) }
-{
-    push_one(
-        alloc,
-        table,
-        BASE_PRIORITY,
-        datapath_cube(dp),
-        FlowOp::Go(next),
-        flows,
-    )
-}
-
-// What is done with a packet for an address that no port has.
-fn ops_of_unknown(alloc: Global, taken: bool) -> Result<List<FlowOp>, NoMemory>
-    ensures { IfOk result (λ ops. ops ≡ unknown_ops taken) }
-{
-    if taken {
-        set_and_go(
-            alloc,
-            Reg::OutPort,
-            u32::from(number_of(Group::Unknown)),
-            REMOTE_TABLE,
-        )
-    } else {
-        Ok(List::from_vec(vec![in alloc; FlowOp::Drop(Cause::UnknownAddress)]?))
-    }
-}
-
-// Adds the rows of a switch that let its packets in.
-fn push_admit(alloc: Global, dp: u32, flows: &mut List<Flow>) -> Result<(), NoMemory>
-    ensures { OnOk result (flows.new ≡ flows.old ++ admit_rows dp) }
-{
-    push_pass(alloc, dp, ADMIT_TABLE, PORT_SECURITY_TABLE, flows)?;
-    push_one(
-        alloc,
-        ADMIT_TABLE,
-        VLAN_PRIORITY,
-        vlan_cube(dp),
-        FlowOp::Drop(Cause::Vlan),
-        flows,
-    )?;
-    let drop = FlowOp::Drop(Cause::BadSource);
-    push_one(
-        alloc,
-        ADMIT_TABLE,
-        BAD_SOURCE_PRIORITY,
-        bad_source_cube(dp),
-        drop,
-        flows,
-    )
-}
-
-// Adds the rows of a switch that look addresses up, but for those of its ports.
-fn push_lookup(alloc: Global, dp: u32, taken: bool, flows: &mut List<Flow>) -> Result<(), NoMemory>
-    ensures { OnOk result (flows.new ≡ flows.old ++ lookup_rows dp taken) }
-{
-    let ops = ops_of_unknown(alloc, taken)?;
-    push_flow(LOOKUP_TABLE, BASE_PRIORITY, datapath_cube(dp), ops, flows)?;
-    let ops = set_and_go(
-        alloc,
-        Reg::OutPort,
-        u32::from(number_of(Group::Flood)),
-        REMOTE_TABLE,
-    )?;
-    push_flow(LOOKUP_TABLE, FLOOD_PRIORITY, flood_cube(dp), ops, flows)
-}
-
-// Adds the rows of the stages between them.
-fn push_transit(alloc: Global, dp: u32, flows: &mut List<Flow>) -> Result<(), NoMemory>
-    ensures { OnOk result (flows.new ≡ flows.old ++ transit_rows dp) }
-{
-    push_pass(alloc, dp, PORT_SECURITY_TABLE, TRACK_TABLE, flows)?;
-    push_pass(alloc, dp, TRACK_TABLE, ACL_TABLE, flows)?;
-    push_pass(alloc, dp, ACL_TABLE, STATE_TABLE, flows)?;
-    push_pass(alloc, dp, STATE_TABLE, ARP_TABLE, flows)?;
-    push_pass(alloc, dp, ARP_TABLE, LOOKUP_TABLE, flows)
-}
-
-/// Adds the rows of a switch up to its look-up of addresses. `taken` tells whether some port takes packets for addresses
-/// that no port has.
-pub fn push_ingress(
-    alloc: Global,
-    dp: u32,
-    taken: bool,
-    flows: &mut List<Flow>,
-) -> Result<(), NoMemory>
-    ensures { OnOk result (flows.new ≡ flows.old ++ ingress_rows dp taken) }
-{
-    push_admit(alloc, dp, flows)?;
-    push_transit(alloc, dp, flows)?;
-    push_lookup(alloc, dp, taken, flows)?;
-    Ok(())
-}
-
-/// Adds the rows of a switch after its look-up of addresses.
-pub fn push_egress(alloc: Global, dp: u32, flows: &mut List<Flow>) -> Result<(), NoMemory>
-    ensures { OnOk result (flows.new ≡ flows.old ++ egress_rows dp) }
-{
-    push_pass(alloc, dp, EGRESS_TRACK_TABLE, EGRESS_ACL_TABLE, flows)?;
-    push_pass(alloc, dp, EGRESS_ACL_TABLE, EGRESS_STATE_TABLE, flows)?;
-    push_pass(alloc, dp, EGRESS_STATE_TABLE, EGRESS_SECURITY_TABLE, flows)?;
-    push_pass(alloc, dp, EGRESS_SECURITY_TABLE, OUTPUT_TABLE, flows)
-}
-
 // The actions that send a frame to each of the chassis.
 fn frames_to(alloc: Global, homes: &[Name]) -> Result<List<FlowOp>, NoMemory>
     ensures { IfOk result (λ ops. ops ≡ map (λ home. Frame home) homes.now) }
@@ -369,45 +196,6 @@ pub fn push_group(
     push_copies(alloc, dp, group, true, members, flows)
 }
 
-// Adds the row of an address of a port.
-fn push_address(
-    alloc: Global,
-    dp: u32,
-    mac: Mac,
-    key: u16,
-    flows: &mut List<Flow>,
-) -> Result<(), NoMemory>
-    ensures { OnOk result (flows.new ≡ flows.old ++ address_row dp mac key ∷ []) }
-{
-    let ops = set_and_go(alloc, Reg::OutPort, u32::from(key), REMOTE_TABLE)?;
-    push_flow(
-        LOOKUP_TABLE,
-        ADDRESS_PRIORITY,
-        address_cube(dp, mac),
-        ops,
-        flows,
-    )
-}
-
-// Adds the rows of a port's addresses.
-fn push_addresses(
-    alloc: Global,
-    dp: u32,
-    addresses: &List<PortAddress>,
-    key: u16,
-    flows: &mut List<Flow>,
-) -> Result<(), NoMemory>
-    ensures { OnOk result (flows.new ≡ flows.old ++ address_rows dp addresses.now key) }
-{
-    'addresses: for address in addresses.as_slice() {
-        match address {
-            PortAddress::Ether { mac, .. } => push_address(alloc, dp, *mac, key, flows)?,
-            PortAddress::Unknown | PortAddress::Router => {}
-        }
-    }
-    Ok(())
-}
-
 /// Adds the rows by which packets leave at a port: none goes back to where it came from.
 pub fn push_exits(
     alloc: Global,
@@ -435,21 +223,6 @@ pub fn push_exits(
         FlowOp::Output(name),
         flows,
     )
-}
-
-/// Adds the rows of a port, wherever it is bound.
-pub fn push_port(
-    alloc: Global,
-    dp: u32,
-    name: Name,
-    port: &SwitchPort,
-    key: u16,
-    flows: &mut List<Flow>,
-) -> Result<(), NoMemory>
-    ensures { OnOk result (flows.new ≡ flows.old ++ port_rows dp name port.now key) }
-{
-    push_exits(alloc, dp, name, key, flows)?;
-    push_addresses(alloc, dp, &port.addresses, key, flows)
 }
 
 /// Adds the row of a port that is at home on another chassis.

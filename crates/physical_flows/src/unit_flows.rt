@@ -12,8 +12,7 @@ ghost use Rattle.physical_flows.specs.RecordKeys.{HaveKeys};
 ghost use Rattle.flow_refs.specs.Store.{IsPreparedFor};
 ghost use Rattle.physical_flows.specs.Switched.{IsSwitched};
 ghost use Rattle.physical_flows.specs.UnitFlows.{AreGiven, HaveRows, IsTablePatch, StayPrepared, rows_held, same_flow, unit_order};
-ghost use Rattle.physical_flows.specs.Units.{ChangeOnly, no_rows, rows_everywhere, unit_rows};
-ghost use Rattle.physical_flows.specs.Valid.{IsValid};
+ghost use Rattle.physical_flows.specs.Units.{ChangeOnly, no_rows};
 
 use crate::compile::Maps;
 use crate::unit::{FlowUnit, exact_unit};
@@ -41,7 +40,7 @@ impl Model for UnitFlows {
     ghost view = { λ s. s.store };
 }
 
-/// New rows of some units on one chassis, made by [`UnitFlows::prepare`] and put into force by [`UnitFlows::apply`].
+/// New rows of some units on one chassis, made by [`UnitFlows::prepare_around`] and put into force by [`UnitFlows::apply`].
 #[derive(Drop)]
 pub struct TablePatch {
     patch: Patch<Flow, FlowUnit>,
@@ -102,27 +101,6 @@ impl UnitFlows {
         }
         let patch = self.store.prepare(changes)?;
         Ok(TablePatch { patch })
-    }
-
-    /// Makes all ready for some units to have their rows on the chassis of the maps. `everywhere` are these units, each with
-    /// those of its rows that are the same on every chassis. What each unit has stays, and what was prepared before can still be
-    /// applied.
-    pub fn prepare(
-        &mut self,
-        alloc: Global,
-        maps: &Maps<'_>,
-        everywhere: &[(FlowUnit, List<Flow>)],
-    ) -> Result<TablePatch, NoMemory>
-        requires valid { IsValid (basis_of maps.now).net }
-        requires keys { HaveKeys (basis_of maps.now).net (basis_of maps.now).keys }
-        requires once { EachOnce (keys_of everywhere.now) }
-        requires everywhere { AllByRecursion (λ e. e.1 ≡ rows_everywhere (basis_of maps.now) e.0) everywhere.now }
-        ensures kept { rows_held self.new ≡ rows_held self.old }
-        ensures left { StayPrepared self.old self.new }
-        ensures prepared { IfOk result (λ patch. (before : FlowUnit → List Flow) → HaveRows before (rows_held self.old)
-            → ChangeOnly (keys_of everywhere.now) before (unit_rows (basis_of maps.now)) → IsTablePatch before (unit_rows (basis_of maps.now)) self.new patch) }
-    {
-        self.prepare_given(alloc, maps, everywhere)
     }
 
     /// Makes all ready for some units to have their rows around the pipelines on the chassis of the maps. `around` are these units,
