@@ -7,3 +7,4 @@ pub mod NorthPlans
 pub mod Pairs
 pub mod RowUnits
 pub mod Stores
+pub mod untouched

@@ -4,3 +4,4 @@ pub mod Listing
 pub mod Held
 pub mod Plans
 pub mod Lowering
+pub mod Untouched
