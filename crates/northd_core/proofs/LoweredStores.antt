@@ -3,18 +3,18 @@ use Rattle.std.specs.Prelude.{◌≡◌, ◌↔◌, ◌⊎◌, true, List, [], r
 use Rattle.std.specs.BTreeMap.{is_at}
 use Rattle.std.specs.List.{IsDistinct}
 use Rattle.std.specs.Set.{is_member}
-use Rattle.std.proofs.Common.{subst, inl, inr}
+use Rattle.std.proofs.Common.{inl, inr}
 use Rattle.ovn_base.specs.lists.Among.{Among}
 use Rattle.flow_refs.specs.Origins.{flows_of, flows_after, IsHeld}
 use Rattle.flow_refs.specs.Store.{Store, Prepared, AreSame, IsKept, IsPreparedFor}
 use Rattle.flow_table.specs.declared.flow.Flow.{Flow}
 use Rattle.tunnel_keys.specs.Keys.{Keys}
-use Rattle.nb_records.specs.Network.{Network, empty_network}
+use Rattle.nb_records.specs.Network.{empty_network}
 use Rattle.logical_flows.specs.declared.unit.UnitId.{UnitId}
 use Rattle.stage_rows.specs.Units.{units_of}
 use Rattle.northd_core.specs.Held.{HaveSame, unit_order}
 use Rattle.northd_core.specs.Listing.{HaveJoined, with_each}
-use Rattle.northd_core.specs.Lowering.{Lowering, CanCompile, HaveLowered, IsLoweredIn, IsLoweredPlan, LeavesLowered, lowered_of, same_lowered}
+use Rattle.northd_core.specs.Lowering.{Lowering, CanCompile, HaveLowered, IsLoweredIn, IsLoweredPlan, LeavesLowered, StayLowered, lowered_of, same_lowered}
 use Rattle.northd_core.specs.Plans.{AreListed}
 use Rattle.northd_core.proofs.LoweredRows.{lowered_in, no_flows, of_lowered, with_flows}
 use Rattle.northd_core.proofs.NorthPlans.{after_kept, none_held}
@@ -56,18 +56,12 @@ module _ (exact : (f g : Flow) → (same_lowered f g ≡ true) ↔ (f ≡ g)) wh
 
   -- ---- plans
 
-  module _ (exact_unit : (u v : UnitId) → (is_at (unit_order u) v ≡ true) ↔ (u ≡ v)) (net : Network) (after : Lowering) (can_after : CanCompile after)
-      (first between units : List UnitId) (one : HaveJoined (units_of net) first between) (two : HaveJoined (units_of after.net) between units)
+  module _ (exact_unit : (u v : UnitId) → (is_at (unit_order u) v ≡ true) ↔ (u ≡ v)) (after : Lowering) (can_after : CanCompile after) (units : List UnitId)
       (old new : Store Flow UnitId) (plan : Prepared Flow UnitId) (given : List (UnitId × List Flow)) (is_given : given ≡ with_each (lowered_of after) units)
       (alike : AreSame same_lowered given plan.changes) (kept : IsKept same_lowered unit_order old.origins new.origins) (ready : IsPreparedFor same_lowered unit_order new plan) where
-    -- the units that have flows before or after have joined
-    have_joined : (before : Lowering) → before.net ≡ net → CanCompile before → (u : UnitId) (f : Flow) → (Among f (lowered_of before u) ⊎ Among f (lowered_of after u)) → Among u units
-    have_joined before is can u f (inl m) = two u (inl (one u (inr (subst (λ n. Among u (units_of n)) is (with_flows before can u f m)))))
-    have_joined before is can u f (inr m) = two u (inr (with_flows after can_after u f m))
-
-    pub is_plan : (before : Lowering) → before.net ≡ net → CanCompile before → HaveLowered before old → IsLoweredPlan before after new plan
-    is_plan before is can had =
-        let leads = stores.leads same_lowered exact exact_unit (lowered_of before) (lowered_of after) units (have_joined before is can) old.origins new.origins given plan.changes is_given alike kept had in
+    pub is_plan : (before : Lowering) → CanCompile before → HaveLowered before old → StayLowered before after units → IsLoweredPlan before after new plan
+    is_plan before can had others =
+        let leads = stores.leads same_lowered exact exact_unit (lowered_of before) (lowered_of after) units others old.origins new.origins given plan.changes is_given alike kept had in
         let held = stores.stays same_lowered exact old.origins new.origins kept (lowered_of before) had in
         record {
           ready = ready;
@@ -75,3 +69,13 @@ module _ (exact : (f g : Flow) → (same_lowered f g ≡ true) ↔ (f ≡ g)) wh
           change = stores.change same_lowered exact (lowered_of before) (lowered_of after) (flows_of unit_order new.origins) (flows_after unit_order new.origins plan.changes)
               (IsLoweredIn before) (IsLoweredIn after) plan.delta held leads (some_lowered before can) (some_lowered after can_after) ready.delta;
         }
+
+-- where the units of both records have joined, nobody else has flows
+pub others_stay : (before after : Lowering) → CanCompile before → CanCompile after → (first between units : List UnitId) → HaveJoined (units_of before.net) first between → HaveJoined (units_of after.net) between units
+    → StayLowered before after units
+others_stay before after can can_after first between units one two = stores.covering (lowered_of before) (lowered_of after) units have_joined
+  where
+    -- a unit that has flows before or after has joined
+    have_joined : (u : UnitId) (f : Flow) → (Among f (lowered_of before u) ⊎ Among f (lowered_of after u)) → Among u units
+    have_joined u f (inl m) = two u (inl (one u (inr (with_flows before can u f m))))
+    have_joined u f (inr m) = two u (inr (with_flows after can_after u f m))

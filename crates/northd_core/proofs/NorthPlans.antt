@@ -130,8 +130,8 @@ module _ (before after : Network) (valid : IsValid before) (next_valid : IsValid
         → IsKept same_flow unit_order old.flows.origins new.flows.origins → IsKept same_pair unit_order old.pairs.origins new.pairs.origins
         → IsReady new plan → StandsFor before old → IsNorthPlan before after new plan
     is_plan old new plan rows pairs rows_are pairs_are alike alike_too kept kept_too ready stands =
-        let leads = stores.leads same_flow exact_flow exact_unit (rows_of before) (rows_of after) units with_rows_there old.flows.origins new.flows.origins rows plan.flows.changes rows_are alike kept stands.rows in
-        let leads_too = stores.leads same_pair exact_pair exact_unit (pairs_of_unit before) (pairs_of_unit after) units with_pairs_there old.pairs.origins new.pairs.origins pairs plan.pairs.changes pairs_are alike_too kept_too stands.pairs in
+        let leads = stores.leads same_flow exact_flow exact_unit (rows_of before) (rows_of after) units (stores.covering (rows_of before) (rows_of after) units with_rows_there) old.flows.origins new.flows.origins rows plan.flows.changes rows_are alike kept stands.rows in
+        let leads_too = stores.leads same_pair exact_pair exact_unit (pairs_of_unit before) (pairs_of_unit after) units (stores.covering (pairs_of_unit before) (pairs_of_unit after) units with_pairs_there) old.pairs.origins new.pairs.origins pairs plan.pairs.changes pairs_are alike_too kept_too stands.pairs in
         let held = kept_stands exact_flow exact_pair old new kept kept_too before stands in
         record {
           ready = ready;

@@ -49,6 +49,11 @@ module _ {F : Type 0} (exact_unit : (u v : UnitId) → (is_at (unit_order u) v �
         | inr kept ↦ inr (λ m. elim (among_cases u v vs m) [ inl is ↦ false≢true (other.1 is) | inr later ↦ kept.0 later ], kept.1)
       ]
 
+-- where those cover all who have something before or after, nobody else has anything
+pub covering : {F : Type 0} (before after : UnitId → List F) (units : List UnitId) → ((u : UnitId) (f : F) → (Among f (before u) ⊎ Among f (after u)) → Among u units)
+    → (u : UnitId) → ¬ Among u units → (f : F) → Among f (before u) ↔ Among f (after u)
+covering before after units covers u out f = (λ m. absurd (out (covers u f (inl m))), λ m. absurd (out (covers u f (inr m))))
+
 -- ---- what is held
 
 -- the same of what is the same unit by unit
@@ -105,7 +110,7 @@ module _ {F : Type 0} (same : F → F → Bool) (exact : (f g : F) → (same f g
 
   -- ---- what is prepared
 
-  module _ (exact_unit : (u v : UnitId) → (is_at (unit_order u) v ≡ true) ↔ (u ≡ v)) (before after : UnitId → List F) (units : List UnitId) (covers : (u : UnitId) (f : F) → (Among f (before u) ⊎ Among f (after u)) → Among u units)
+  module _ (exact_unit : (u v : UnitId) → (is_at (unit_order u) v ≡ true) ↔ (u ≡ v)) (before after : UnitId → List F) (units : List UnitId) (others : (u : UnitId) → ¬ Among u units → (f : F) → Among f (before u) ↔ Among f (after u))
       (old new : List (UnitId × List F)) (given changes : List (UnitId × List F)) (is_given : given ≡ with_each after units) (alike : AreSame same given changes) (kept : IsKept same unit_order old new)
       (had : HaveSame (flows_of unit_order old) before) where
     abbrev given_after : UnitId → List F
@@ -126,8 +131,8 @@ module _ {F : Type 0} (same : F → F → Bool) (exact : (f g : F) → (same f g
         rows = elim (given_or_kept exact_unit after new units u) [
           | inl e ↦ (λ m. subst (λ fs. Among f fs) e m, λ m. subst (λ fs. Among f fs) (sym e) m)
           | inr k ↦ (
-            λ m. absurd (k.0 (covers u f (inl ((had u f).0 (subst (λ fs. Among f fs) (k.1 ∙ kept.flows u) m))))),
-            λ m. absurd (k.0 (covers u f (inr m))),
+            λ m. (others u k.0 f).0 ((had u f).0 (subst (λ fs. Among f fs) (k.1 ∙ kept.flows u) m)),
+            λ m. subst (λ fs. Among f fs) (sym (k.1 ∙ kept.flows u)) ((had u f).1 ((others u k.0 f).1 m)),
           )
         ]
 

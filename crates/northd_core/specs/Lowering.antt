@@ -1,5 +1,5 @@
 -- The flows to which the rows of each unit are lowered, and what is planned on a store of them.
-use Rattle.std.specs.Prelude.{◌≡◌, ◌≤◌, Bool, true, List, flat_map, IsSome}
+use Rattle.std.specs.Prelude.{◌≡◌, ◌↔◌, ◌≤◌, Bool, true, List, flat_map, IsSome}
 use Rattle.std.specs.List.{AllByRecursion}
 use Rattle.ovn_base.specs.declared.limits.TheConstants.{MAX_WIDTH}
 use Rattle.ovn_base.specs.declared.name.Name.{Name}
@@ -75,6 +75,10 @@ same_lowered = of_lowered.ghosts.eq
 -- what is held is what the units have
 abbrev pub HaveLowered : Lowering → Store Flow UnitId → Type 0
 HaveLowered l store = HaveSame (flows_of unit_order store.origins) (lowered_of l)
+
+-- every unit but these has the same flows before and after
+abbrev pub StayLowered : Lowering → Lowering → List UnitId → Type 0
+StayLowered before after units = (u : UnitId) → ¬ Among u units → (f : Flow) → Among f (lowered_of before u) ↔ Among f (lowered_of after u)
 
 -- the plan was prepared for what is held, leads to what the units have afterwards, and tells which flows come and go
 pub record IsLoweredPlan (before after : Lowering) (store : Store Flow UnitId) (plan : Prepared Flow UnitId) : Type 0 where

@@ -8,12 +8,12 @@ ghost use Rattle.tunnel_keys.specs.Keys.{Keys};
 ghost use Rattle.northd_core.specs.Gate.{IsOfSwitches};
 ghost use Rattle.northd_core.specs.Held.{unit_order};
 ghost use Rattle.northd_core.specs.Listing.{HasCountedOn};
-ghost use Rattle.northd_core.specs.Lowering.{CanCompile, HaveLowered, IsLoweredIn, IsLoweredPlan, LeavesLowered, Lowering, same_lowered};
+ghost use Rattle.northd_core.specs.Lowering.{CanCompile, HaveLowered, IsLoweredIn, IsLoweredPlan, LeavesLowered, Lowering, StayLowered, same_lowered};
 ghost use Rattle.northd_core.specs.Plans.{AreListed};
 
 use crate::exact::exact_units;
 use crate::lowering::list_lowered;
-use crate::units::put_units;
+use crate::units::{put_units, units_in};
 use flow_refs::patch::Patch;
 use flow_refs::shared::Shared;
 use flow_table::exact::{exact_flow, exact_flow_clone};
@@ -84,6 +84,32 @@ impl LoweredFlows {
         })
     }
 
+    // Makes all ready for the flows that these units have by the records and keys, where every other unit keeps its own.
+    #[tactic(auto, using(crate::proofs::LoweredStores::left_itself, crate::proofs::Counted::none_counted))]
+    fn plan_units<L>(
+        &mut self,
+        records: &Records,
+        units: &BTreeSet<UnitId>,
+        keys: &KeyStore,
+        steps: &mut Steps<L>,
+    ) -> Result<LoweredPlan, NoMemory>
+        requires { CanCompile (record { net = records.now; keys = keys.now }) }
+        ensures left { LeavesLowered self.old self.new }
+        ensures steps { HasCountedOn steps.old steps.new }
+        ensures planned { IfOk result (λ patch. (before : Lowering) → CanCompile before → HaveLowered before self.old
+            → StayLowered before (record { net = records.now; keys = keys.now }) units.now.keys
+            → IsLoweredPlan before (record { net = records.now; keys = keys.now }) self.new patch) }
+    {
+        exact_flow();
+        exact_flow_clone();
+        exact_units();
+        exact_unit_clone();
+        let alloc = self.alloc;
+        let lowered = list_lowered(alloc, records, units, keys, steps)?;
+        let flows = self.flows.prepare(lowered)?;
+        Ok(LoweredPlan { flows })
+    }
+
     /// Makes all ready for the flows of the records as the plan leaves them, with the keys as they are then. What is held is left as it
     /// was. Where it stands for the records before, with whatever keys, the plan leads from there to the records after.
     #[tactic(auto, using(crate::proofs::LoweredStores::left_itself, crate::proofs::Counted::none_counted))]
@@ -101,17 +127,30 @@ impl LoweredFlows {
         ensures planned { IfOk result (λ patch. (before : Lowering) → before.net ≡ records.now → CanCompile before → HaveLowered before self.old
             → IsLoweredPlan before (record { net = plan.now.after; keys = keys.now }) self.new patch) }
     {
-        exact_flow();
-        exact_flow_clone();
-        exact_units();
-        exact_unit_clone();
-        let alloc = self.alloc;
-        let mut units = BTreeSet::new(alloc);
+        let mut units = BTreeSet::new(self.alloc);
         put_units(records, &mut units)?;
         put_units(plan.after(), &mut units)?;
-        let lowered = list_lowered(alloc, plan.after(), &units, keys, steps)?;
-        let flows = self.flows.prepare(lowered)?;
-        Ok(LoweredPlan { flows })
+        self.plan_units(plan.after(), &units, keys, steps)
+    }
+
+    /// Makes all ready as `prepare` does, and lowers the touched units alone: every other one is to be lowered to the flows that it has.
+    #[tactic(auto, using(crate::proofs::LoweredStores::left_itself, crate::proofs::Counted::none_counted))]
+    pub fn prepare_touched<L>(
+        &mut self,
+        plan: &EditPlan,
+        touched: &[UnitId],
+        keys: &KeyStore,
+        steps: &mut Steps<L>,
+    ) -> Result<LoweredPlan, NoMemory>
+        requires { CanCompile (record { net = plan.now.after; keys = keys.now }) }
+        ensures left { LeavesLowered self.old self.new }
+        ensures steps { HasCountedOn steps.old steps.new }
+        ensures planned { IfOk result (λ patch. (before : Lowering) → CanCompile before → HaveLowered before self.old
+            → StayLowered before (record { net = plan.now.after; keys = keys.now }) touched.now
+            → IsLoweredPlan before (record { net = plan.now.after; keys = keys.now }) self.new patch) }
+    {
+        let units = units_in(self.alloc, touched)?;
+        self.plan_units(plan.after(), &units, keys, steps)
     }
 
     /// The flows of the plan, which was prepared for what is held. Answers the flows that come and that go. It takes no memory.

@@ -1,8 +1,9 @@
 //! The units of records.
-ghost use Rattle.std.specs.Prelude.{◌≡◌, List, OnOk, map};
+ghost use Rattle.std.specs.Prelude.{◌≡◌, IfOk, List, OnOk, map};
 ghost use Rattle.std.specs.Map.{keys_of};
 ghost use Rattle.logical_flows.specs.declared.unit.UnitId.{UnitId};
 ghost use Rattle.logical_flows.specs.declared.unit.UnitId.TheVariants.{Port, Switch};
+ghost use Rattle.ovn_base.specs.lists.Among.{Among};
 ghost use Rattle.stage_rows.specs.Units.{rule_units, units_of_rule, units_of};
 ghost use Rattle.northd_core.specs.Gate.{IsOfSwitches};
 ghost use Rattle.northd_core.specs.Listing.{HaveJoined};
@@ -14,6 +15,7 @@ use nb_records::rule::Acl;
 use nb_records::scopes::applies;
 use ovn_base::memory::NoMemory;
 use ovn_base::name::Name;
+use std::alloc::Global;
 use std::collections::BTreeSet;
 
 // Puts the ports of switches among the units.
@@ -78,4 +80,16 @@ pub fn put_units(records: &Records, units: &mut BTreeSet<UnitId>) -> Result<(), 
     put_rules(records, units)?;
     put_switches(records, units)?;
     Ok(())
+}
+
+/// The units, as a set.
+pub fn units_in(alloc: Global, units: &[UnitId]) -> Result<BTreeSet<UnitId>, NoMemory>
+    ensures { IfOk result (λ set. (u : UnitId) → Among u units.now → Among u set.keys) }
+{
+    exact_unit_order();
+    let mut set = BTreeSet::new(alloc);
+    'units: for unit in units {
+        set.insert(*unit)?;
+    }
+    Ok(set)
 }

@@ -1,48 +1,25 @@
-use Rattle.std.specs.Prelude.{◌≡◌}
-use Rattle.std.proofs.Common.{ap, sym, subst, ◌∙◌}
-use Rattle.flow_refs.specs.Origins.{IsEachOnce}
-use Rattle.flow_refs.specs.Store.{Store, Prepared, IsKept, IsPreparedFor}
-use Rattle.flow_table.specs.declared.flow.Flow.{Flow}
-use Rattle.logical_flows.specs.declared.unit.UnitId.{UnitId}
+use Rattle.std.specs.Prelude.{◌≡◌, IfOk}
+use Rattle.std.proofs.Common.{sym, subst}
+use Rattle.std.proofs.lemmas.Result.{IfOk-weaker}
 use Rattle.nb_records.specs.Network.{Network}
 use Rattle.stage_rows.specs.Units.{units_of}
-use Rattle.northd_core.specs.Held.{unit_order}
-use Rattle.northd_core.specs.Listing.{HaveJoined, with_each}
-use Rattle.northd_core.specs.Lowering.{Lowering, CanCompile, lowered_of, same_lowered}
-use Rattle.northd_core.proofs.LoweredStores.{is_left, is_plan}
-use Rattle.northd_core.proofs.Stores.{given_once}
+use Rattle.northd_core.specs.Listing.{HaveJoined}
+use Rattle.northd_core.specs.Lowering.{Lowering, CanCompile, HaveLowered, IsLoweredPlan, StayLowered}
+use Rattle.northd_core.proofs.LoweredStores.{others_stay}
 use Rattle.northd_core.proofs.lowered.LoweredFlows.prepare.Goals as goal
 
-pub list_lowered-requires : goal.list_lowered-requires
-list_lowered-requires g c = subst (λ (n : Network). CanCompile (record { net = n; keys = c.args.keys.now })) (sym c.after-2.ensures) c.requires.after
-
-pub prepare-requires-clause-once : goal.prepare-requires-clause-once
-prepare-requires-clause-once g c =
-    subst (λ es. IsEachOnce unit_order es) (sym c.in_ok-lowered.ensures.flows)
-    (given_once (lowered_of (record { net = c.after-2.result.now; keys = c.args.keys.now })) c.put_units-2.new.units.keys c.in_ok-lowered.ensures.order)
-
-pub returns-clause-left : goal.returns-clause-left
-returns-clause-left g c =
-    is_left c.exact_flow.ensures c.args.self.now c.prepare.new.self
-    (subst (λ (s : Store Flow UnitId). IsKept same_lowered unit_order s.origins c.prepare.new.self.origins) c.self.view_is c.prepare.ensures.kept)
-    (subst (λ (s : Store Flow UnitId). (p : Prepared Flow UnitId) → IsPreparedFor same_lowered unit_order s p → IsPreparedFor same_lowered unit_order c.prepare.new.self p) c.self.view_is c.prepare.ensures.stays)
-    (c.prepare.ensures.counts ∙ ap (λ (s : Store Flow UnitId). s.counts) c.self.view_is)
-
-pub returns-in_err-flows-clause-left : goal.returns-in_err-flows-clause-left
-returns-in_err-flows-clause-left g c =
-    is_left c.exact_flow.ensures c.args.self.now c.prepare.new.self
-    (subst (λ (s : Store Flow UnitId). IsKept same_lowered unit_order s.origins c.prepare.new.self.origins) c.self.view_is c.prepare.ensures.kept)
-    (subst (λ (s : Store Flow UnitId). (p : Prepared Flow UnitId) → IsPreparedFor same_lowered unit_order s p → IsPreparedFor same_lowered unit_order c.prepare.new.self p) c.self.view_is c.prepare.ensures.stays)
-    (c.prepare.ensures.counts ∙ ap (λ (s : Store Flow UnitId). s.counts) c.self.view_is)
+pub plan_units-requires : goal.plan_units-requires
+plan_units-requires g c = subst (λ (n : Network). CanCompile (record { net = n; keys = c.args.keys.now })) (sym c.after-2.ensures) c.requires.after
 
 pub returns-clause-planned : goal.returns-clause-planned
 returns-clause-planned g c =
     let after : Lowering = record { net = c.args.plan.now.after; keys = c.args.keys.now } in
-    let keys = c.put_units-2.new.units.keys in
-    is_plan c.exact_flow.ensures c.exact_units.ensures c.args.records.now after c.requires.after
-    c.new-units.result.keys c.put_units.new.units.keys keys c.in_ok-put_units.ensures (subst (λ (n : Network). HaveJoined (units_of n) c.put_units.new.units.keys keys) c.after.ensures c.in_ok-put_units-2.ensures)
-    c.args.self.now c.prepare.new.self c.in_ok-flows.flows c.in_ok-lowered.lowered
-    (subst (λ (n : Network). c.in_ok-lowered.lowered ≡ with_each (lowered_of (record { net = n; keys = c.args.keys.now })) keys) c.after-2.ensures c.in_ok-lowered.ensures.flows)
-    c.in_ok-flows.ensures.same
-    (subst (λ (s : Store Flow UnitId). IsKept same_lowered unit_order s.origins c.prepare.new.self.origins) c.self.view_is c.prepare.ensures.kept)
-    c.in_ok-flows.ensures.prepared
+    let units = c.put_units-2.new.units.keys in
+    subst (λ (n : Network). IfOk c.plan_units.result (λ patch. (before : Lowering) → CanCompile before → HaveLowered before c.args.self.now → StayLowered before (record { net = n; keys = c.args.keys.now }) units
+    → IsLoweredPlan before (record { net = n; keys = c.args.keys.now }) c.plan_units.new.self patch) → IfOk c.plan_units.result (λ patch. (before : Lowering) → before.net ≡ c.args.records.now → CanCompile before → HaveLowered before c.args.self.now
+    → IsLoweredPlan before after c.plan_units.new.self patch)) (sym c.after-2.ensures)
+    (λ planned. IfOk-weaker c.plan_units.result _ _ (λ patch leads before is can had.
+    leads before can had (others_stay before after can c.requires.after c.new-units.result.keys c.put_units.new.units.keys units
+    (subst (λ (n : Network). HaveJoined (units_of n) c.new-units.result.keys c.put_units.new.units.keys) (sym is) c.in_ok-put_units.ensures)
+    (subst (λ (n : Network). HaveJoined (units_of n) c.put_units.new.units.keys units) c.after.ensures c.in_ok-put_units-2.ensures))) planned)
+    c.plan_units.ensures.planned
