@@ -200,7 +200,7 @@ module _ (g : GroundView) (n : ℕ) (ops : List Op) (m : State) (may : MayTurn g
 
 -- the same in the terms in which the setup has it
 module _ (g : GroundView) (n : ℕ) (ops : List Op) (m : State) (may : MayTurn g n (event_of.Edit ops) m) (plan : EditPlan) (keys : Keys) (planned : IsPlannedEdit g n ops plan keys) where
-  planned_here : IsPlannedEdit (ground_of m g.zones) (event_count m + 1) ops plan keys
+  pub planned_here : IsPlannedEdit (ground_of m g.zones) (event_count m + 1) ops plan keys
   planned_here = subst (λ k. IsPlannedEdit (ground_of m g.zones) k ops plan keys) may.number (subst (λ x. IsPlannedEdit x n ops plan keys) (sym may.ground) planned)
 
   -- tables can be made before and after

@@ -2,6 +2,8 @@
 use Rattle.std.specs.Prelude.{◌++◌, List, [], ◌∷◌, Option, Some, None, flat_map}
 use Rattle.ovn_base.specs.declared.name.Name.{Name}
 use Rattle.ovn_base.specs.names.ByName.{at}
+use Rattle.logical_flows.specs.declared.unit.UnitId.{UnitId}
+use Rattle.logical_flows.specs.declared.unit.UnitId.TheVariants as rows
 use Rattle.nb_records.specs.Network.{Network, kind_of, name_of}
 use Rattle.nb_records.specs.declared.change.Op.{Op}
 use Rattle.nb_records.specs.declared.change.Op.TheVariants.{Add, Set, Remove, Health}
@@ -39,3 +41,9 @@ units_by before after (Health balancer backend online) = []
 
 abbrev pub touched_by : Network → Network → List Op → List FlowUnit
 touched_by before after ops = flat_map (λ o. units_by before after o) ops
+
+-- the unit of rows that a unit of flows is: a switch's or a port's
+abbrev pub row_unit : FlowUnit → Option UnitId
+row_unit unit.Common = None
+row_unit (unit.Switch a) = Some (rows.Switch a)
+row_unit (unit.Port q) = Some (rows.Port q)

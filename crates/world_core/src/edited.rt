@@ -7,8 +7,9 @@ ghost use Rattle.ovn_base.specs.names.ByName.{at, in_order};
 ghost use Rattle.tunnel_keys.specs.Giving.{put_option};
 ghost use Rattle.tunnel_keys.specs.Owners.{as_port_of, datapaths_in, ports_in};
 ghost use Rattle.world_core.specs.KeyLines.{as_place, datapath_effect, key_effects, key_name, port_effect};
-ghost use Rattle.world_core.specs.Touched.{switch_of, touched_by, units_by, units_named};
+ghost use Rattle.world_core.specs.Touched.{row_unit, switch_of, touched_by, units_by, units_named};
 
+use logical_flows::unit::UnitId;
 use nb_records::change::Op;
 use nb_records::kinds::Kind;
 use nb_records::record::Record;
@@ -115,6 +116,21 @@ pub(crate) fn touched_units(
         push_touched(before, after, op, &mut touched)?;
     }
     each_once(alloc, touched.as_slice())
+}
+
+/// The units of rows that those units of flows are: of the flows that every chassis has come none of a switch or a port.
+pub(crate) fn row_units(alloc: Global, touched: &[FlowUnit]) -> Result<List<UnitId>, NoMemory>
+    ensures { IfOk result (λ units. units ≡ filter_map row_unit touched.now) }
+{
+    let mut units = List::new(alloc);
+    'touched: for unit in touched {
+        match unit {
+            FlowUnit::Common => {}
+            FlowUnit::Switch(name) => units.push(UnitId::Switch(*name))?,
+            FlowUnit::Port(name) => units.push(UnitId::Port(*name))?,
+        }
+    }
+    Ok(units)
 }
 
 // The datapaths among the owners, in order of name.

@@ -33,7 +33,7 @@ ghost use Rattle.sim_laws.specs.journeys.First.{nobody_home};
 ghost use Rattle.world_core.specs.Zones.{home_change};
 
 use crate::built::is_built_edit;
-use crate::edited::{key_effects, key_names, touched_units};
+use crate::edited::{key_effects, key_names, row_units, touched_units};
 use crate::event_kinds::TurnEvent;
 use crate::ground::{Ground, GroundChange};
 use crate::held::{Held, holding};
@@ -48,6 +48,7 @@ use nb_edits::edit::plan;
 use nb_edits::plan::{EditFault, EditPlan};
 use nb_records::change::Op;
 use nb_records::records::Records;
+use northd_core::laws::untouched_units_stay;
 use northd_core::lowered::{LoweredFlows, LoweredPlan};
 use ovn_base::delta::Delta;
 use ovn_base::limits::MAX_CHASSIS;
@@ -366,22 +367,33 @@ impl Setup {
         })
     }
 
-    // Prepares what planned records and keys make of the flows that every chassis has.
+    // Prepares what planned records and keys make of the flows that every chassis has. Without rules the touched units alone are lowered anew.
     fn lower<L>(
         &mut self,
+        alloc: Global,
+        number: u64,
+        ops: &[Op],
         records: &EditPlan,
         keys: &KeyPlan,
         steps: &mut Steps<L>,
     ) -> Result<LoweredPlan, NoMemory>
-        requires had { CanCompile (lowering_in self.old.ground) }
-        requires after { CanCompile (record { net = records.now.after; keys = keys.now }) }
+        requires may { (m : State) × MayTurn self.old.ground number (event_of.Edit ops.now) m }
+        requires planned { IsPlannedEdit self.old.ground number ops.now records.now keys.now }
         ensures kept { self.new.ground ≡ self.old.ground }
         ensures planned { IfOk result (IsLoweredPlan (lowering_in self.old.ground) (record { net = records.now.after; keys = keys.now }) self.new.lowered) }
         ensures steps { steps.old ≤ steps.new }
     {
-        let plan = self
-            .lowered
-            .prepare(&self.ground.records, records, keys.after(), steps)?;
+        untouched_units_stay();
+        let before = &self.ground.records;
+        let after = records.after();
+        let plan = if before.acls().is_empty() && after.acls().is_empty() {
+            let touched = touched_units(alloc, before, after, ops)?;
+            let units = row_units(alloc, touched.as_slice())?;
+            self.lowered
+                .prepare_touched(records, units.as_slice(), keys.after(), steps)?
+        } else {
+            self.lowered.prepare(before, records, keys.after(), steps)?
+        };
         Ok(plan)
     }
 
@@ -436,7 +448,7 @@ impl Setup {
         }
         let records = planned(alloc, &mut self.ground.records, ops, number)?;
         let keys = keys_for(&mut self.ground.keys, &records)?;
-        let lowered = self.lower(&records, &keys, steps)?;
+        let lowered = self.lower(alloc, number, ops, &records, &keys, steps)?;
         Ok(self.edited(alloc, number, ops, records, keys, lowered)?)
     }
 

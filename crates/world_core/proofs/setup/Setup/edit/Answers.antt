@@ -6,7 +6,7 @@ use Rattle.nb_edits.specs.OpFaults.{fault_of}
 use Rattle.nb_edits.specs.Plans.{StandsFor}
 use Rattle.nb_records.specs.Editing.{accepted}
 use Rattle.net_model.specs.State.{State}
-use Rattle.northd_core.specs.Lowering.{CanCompile, IsLoweredPlan}
+use Rattle.northd_core.specs.Lowering.{IsLoweredPlan}
 use Rattle.tunnel_keys.specs.Causes.{HasKeys}
 use Rattle.tunnel_keys.specs.Edits.{IsAfter}
 use Rattle.tunnel_keys.specs.Keys.{Keys}
@@ -15,7 +15,7 @@ use Rattle.world_core.specs.Refusing.{refusal}
 use Rattle.world_core.specs.Setup.{SetupView, lowering_in}
 use Rattle.world_core.specs.Turning.{IsPlannedEdit, MayTurn, Tells}
 use Rattle.world_core.specs.declared.setup.Setup.TheInside.{Inside}
-use Rattle.world_core.proofs.ReadiedChanges.{edit_tables, edit_tells, ground_with, keys_fit, keys_tell}
+use Rattle.world_core.proofs.ReadiedChanges.{edit_tells, ground_with, keys_fit, keys_tell}
 use Rattle.world_core.proofs.setup.Setup.edit.Goals as goal
 
 pub keys_for-requires : goal.keys_for-requires
@@ -53,27 +53,14 @@ returns-in_err-keys-clause-refused bounds c =
     rw failed.1 (λ m may. subst (λ f. Tells f (refusal m (event_of.Edit ops))) (sym failed.2)
     (keys_tell g n ops m may plan (sym c.is_built_edit.ensures ∙ c.if-not-is_built_edit.false) none stands _ (ap (λ (x : GroundView). x.keys) start) c.in_err-keys.field-0.0 c.in_err-keys.ensures.lacks))
 
-pub lower-requires-clause-had : goal.lower-requires-clause-had
-lower-requires-clause-had bounds c =
-    let g = c.args.self.now.ground in
-    let n = c.args.number in
-    let ops = c.args.ops.now in
-    let plan = c.in_ok-records.records in
-    let keys = c.in_ok-keys.keys in
+pub lower-requires-clause-may : goal.lower-requires-clause-may
+lower-requires-clause-may bounds c =
     let start = ap (λ (i : Inside). i.ground) c.self-inside.view_is ∙ ap (λ (s : SetupView). s.ground) c.self.view_is in
-    let held = ap (λ (x : GroundView). x.keys) start in
     let now = (λ i. ground_with (c.planned.ensures.kept i) c.self-inside.inside.0.0.chassis (c.keys_for.ensures.kept i) c.self-inside.inside.0.0.zones) ∙ start in
-    let planned : IsPlannedEdit g n ops plan keys = record {
-      built = sym c.is_built_edit.ensures ∙ c.if-not-is_built_edit.false;
-      faultless = subst (λ (x : GroundView). fault_of x.config.net ops n ≡ None) start c.in_ok-records.ensures.faultless;
-      stands = subst (λ (x : GroundView). StandsFor x.config.net (accepted x.config.net ops n) plan) start c.in_ok-records.ensures.stands;
-      after = subst (λ (k : Keys). IsAfter k plan.added plan.removed keys) held c.in_ok-keys.ensures.after;
-      enough = subst (λ (k : Keys). HasKeys k plan.added plan.removed) held c.in_ok-keys.ensures.enough;
-    } in
-    subst (λ (x : GroundView). CanCompile (lowering_in x)) (sym now) (edit_tables g n ops c.requires.may.0 c.requires.may.1 plan keys planned).0.compiled
+    subst (λ (x : GroundView). (m : State) × MayTurn x c.args.number (event_of.Edit c.args.ops.now) m) (sym now) c.requires.may
 
-pub lower-requires-clause-after : goal.lower-requires-clause-after
-lower-requires-clause-after bounds c =
+pub lower-requires-clause-planned : goal.lower-requires-clause-planned
+lower-requires-clause-planned bounds c =
     let g = c.args.self.now.ground in
     let n = c.args.number in
     let ops = c.args.ops.now in
@@ -89,7 +76,7 @@ lower-requires-clause-after bounds c =
       after = subst (λ (k : Keys). IsAfter k plan.added plan.removed keys) held c.in_ok-keys.ensures.after;
       enough = subst (λ (k : Keys). HasKeys k plan.added plan.removed) held c.in_ok-keys.ensures.enough;
     } in
-    (edit_tables g n ops c.requires.may.0 c.requires.may.1 plan keys planned).1.compiled
+    subst (λ (x : GroundView). IsPlannedEdit x n ops plan keys) (sym now) planned
 
 pub edited-requires-clause-may : goal.edited-requires-clause-may
 edited-requires-clause-may bounds c =
