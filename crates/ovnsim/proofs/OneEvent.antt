@@ -48,7 +48,7 @@ step_counts m event effects after h =
 
 accepts_from : (old : WorldView) (event : Event) (before text : List ℕ) (new : WorldView) → before ≡ [] → (h : IsAccepted old event before text new) → Takes old event (picks_of h.effects) text new
 accepts_from old event before text new empty h =
-    accepts (record { admitted = h.admitted; effects = h.effects; step = h.step; passed = h.passed; zones = h.zones; text = h.text ∙ ap (λ b. b ++ accepted_lines (event_count old.state + 1) h.effects (matched new.walks)) empty }) refl
+    accepts (record { admitted = h.admitted; effects = h.effects; step = h.step; passed = h.passed; zones = h.zones; lists = h.lists; text = h.text ∙ ap (λ b. b ++ accepted_lines (event_count old.state + 1) h.effects (matched new.walks)) empty }) refl
 
 -- an accepted event, where the text was empty
 pub takes_accepted : (old : WorldView) (event : Event) (before text : List ℕ) (new : WorldView) → before ≡ [] → IsAccepted old event before text new × IsSound new → TakesWith true old event text new

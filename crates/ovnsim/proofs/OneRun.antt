@@ -1,63 +1,99 @@
 -- Events and picks have one run.
 use Rattle.std.proofs.Common.{◌≡◌, ◌+◌, ◌++◌, ℕ, List, [], ◌∷◌, refl, sym, ap, ◌∙◌, subst, arith}
-use Rattle.std.proofs.lemmas.Option.{none-some}
+use Rattle.std.proofs.lemmas.Option.{none-some, same_Some}
 use Rattle.edit_reader.specs.declared.event.Event.{Event}
 use Rattle.event_lines.specs.Lines.{accepted_lines, refused_line}
 use Rattle.event_lines.specs.Picks.{Pick}
+use Rattle.sim_laws.specs.journeys.Counts.{ArrivalCountLaw, DrainCountLaw, EntryCountLaw, HaveSameZones, ThroughCountLaw}
 use Rattle.world_core.specs.Outcome.{matched}
 use Rattle.world_core.specs.StepParts.{new_world}
 use Rattle.world_core.specs.Picks.{Fate, Run, was_accepted, was_refused}
 use Rattle.world_core.specs.Picks as network
 use Rattle.world_core.specs.Refusing.{refusal}
-use Rattle.world_core.specs.WorldView.{WorldView}
+use Rattle.world_core.specs.WorldView.{IsSound, WorldView}
 use Rattle.net_model.specs.State.{State, event_count}
 use Rattle.world_core.specs.Step as net
 use Rattle.world_core.specs.Zones.{Rezones}
-use Rattle.world_core.proofs.OneStep.{same_run, step_with}
+use Rattle.world_core.proofs.EmptyWorld.{new_sound}
+use Rattle.world_core.proofs.OneStep.{step_with}
+use Rattle.world_core.proofs.SameLists.{accepted_alike, matched_is}
 use Rattle.world_core.proofs.SameZones.{same_zones}
-use Rattle.ovnsim.specs.Runs.{Runs, RunsLines, Takes, accepts, refuses, IsTextOf, AreTexts, TellTheSame}
+use Rattle.ovnsim.specs.Runs.{Runs, RunsLines, Takes, accepts, refuses, IsTextOf, AreTexts}
 use Rattle.ovnsim.proofs.OneReading.{same_events}
 use Rattle.ovnsim.proofs.OneEvent.{step_counts}
 
--- two worlds of one state, and with the same zones
+-- two sound worlds of one state, with the same zones, which hold the same lists
 pub record AreAlike (one two : WorldView) : Type 0 where
   pub state : one.state ≡ two.state
   pub zones : one.zones ≡ two.zones
+  pub lists : HaveSameZones one.sim two.sim
+  pub sound : IsSound one
+  pub also : IsSound two
 
--- the like worlds, and the same picks left
-pub record SameTaking (mid after : WorldView) (left more : List Pick) : Type 0 where
+-- the like worlds, the same text, and the same picks left
+pub record SameTaking (mid after : WorldView) (first other : List ℕ) (left more : List Pick) : Type 0 where
   pub like : AreAlike mid after
+  pub text : first ≡ other
   pub rest : left ≡ more
 
-takes_same : (one two : WorldView) (event : Event) (own their left more : List Pick) (first other : List ℕ) (mid after : WorldView) → AreAlike one two → Takes one event own first mid → Takes two event their other after → own ++ left ≡ their ++ more
-    → SameTaking mid after left more
-takes_same one two event own their left more first other mid after like (accepts h p) (accepts k q) e =
-    let moved : net.NetworkStep one.state event k.effects after.state = subst (λ s. net.NetworkStep s event k.effects after.state) (sym like.state) k.step in
-    let step =
-    step_with one.state event h.effects k.effects mid.state after.state left more h.step moved (sym (ap (λ ps. ps ++ left) p) ∙ e ∙ ap (λ ps. ps ++ more) q) in
-    record {
-      like = record { state = step.state; zones = same_zones event two.zones mid.zones after.zones (subst (λ z. Rezones event z mid.zones) like.zones h.zones) k.zones };
-      rest = step.rest;
-    }
-takes_same one two event own their left more first other mid after like (accepts h p) (refuses why k q) e = absurd (none-some why (sym h.admitted ∙ ap (λ s. refusal s event) like.state ∙ k.first))
-takes_same one two event own their left more first other mid after like (refuses why h p) (accepts k q) e = absurd (none-some why (sym k.admitted ∙ ap (λ s. refusal s event) (sym like.state) ∙ h.first))
-takes_same one two event own their left more first other mid after like (refuses why h p) (refuses who k q) e = record {
-  like = record {
-    state = ap (λ (w : WorldView). w.state) h.kept ∙ ap (λ (s : State). record s { refused = s.refused + 1 }) like.state ∙ sym (ap (λ (w : WorldView). w.state) k.kept);
-    zones = ap (λ (w : WorldView). w.zones) h.kept ∙ like.zones ∙ sym (ap (λ (w : WorldView). w.zones) k.kept);
-  };
-  rest = sym (ap (λ ps. ps ++ left) p) ∙ e ∙ ap (λ ps. ps ++ more) q;
-}
+-- no chassis has zones yet
+none_zoned : HaveSameZones new_world.sim new_world.sim
+none_zoned c lists others is also z = absurd (none-some lists is)
 
-runs_same : (one two : WorldView) (events : List Event) (picks others : List Pick) (text other : List ℕ) (last end : WorldView) → AreAlike one two → picks ≡ others → Runs one events picks text last → Runs two events others other end
-    → AreAlike last end
-runs_same one two [] picks others text other last end like same h k = record {
-  state = ap (λ (w : WorldView). w.state) h.2 ∙ like.state ∙ sym (ap (λ (w : WorldView). w.state) k.2);
-  zones = ap (λ (w : WorldView). w.zones) h.2 ∙ like.zones ∙ sym (ap (λ (w : WorldView). w.zones) k.2);
-}
-runs_same one two (event ∷ events) picks others text other last end like same h k =
-    let first = takes_same one two event h.own k.own h.left k.left h.first k.first h.mid k.mid like h.takes k.takes (sym h.picked ∙ same ∙ k.picked) in
-    runs_same h.mid k.mid events h.left k.left h.rest k.rest last end first.like first.rest h.others k.others
+module _ (enters : EntryCountLaw) (arrives : ArrivalCountLaw) (drains : DrainCountLaw) (through : ThroughCountLaw) where
+  takes_same : (one two : WorldView) (event : Event) (own their left more : List Pick) (first other : List ℕ) (mid after : WorldView) → AreAlike one two → Takes one event own first mid → Takes two event their other after → IsSound mid → IsSound after
+      → own ++ left ≡ their ++ more → SameTaking mid after first other left more
+  takes_same one two event own their left more first other mid after like (accepts h p) (accepts k q) sound also e =
+      let moved : net.NetworkStep one.state event k.effects after.state = subst (λ s. net.NetworkStep s event k.effects after.state) (sym like.state) k.step in
+      let step =
+      step_with one.state event h.effects k.effects mid.state after.state left more h.step moved (sym (ap (λ ps. ps ++ left) p) ∙ e ∙ ap (λ ps. ps ++ more) q) in
+      let zones = same_zones event two.zones mid.zones after.zones (subst (λ z. Rezones event z mid.zones) like.zones h.zones) k.zones in
+      let lists = accepted_alike enters arrives drains through one two mid after event first other like.sound like.also like.state like.zones like.lists h k step.effects_are zones in
+      let count : matched mid.walks ≡ matched after.walks = matched_is mid.walks ∙ lists.count ∙ sym (matched_is after.walks) in
+      record {
+        like = record { state = step.state; zones = zones; lists = lists.zones; sound = sound; also = also };
+        text = h.text ∙ (λ i. accepted_lines (event_count (like.state i) + 1) (step.effects_are i) (count i)) ∙ sym k.text;
+        rest = step.rest;
+      }
+  takes_same one two event own their left more first other mid after like (accepts h p) (refuses why k q) sound also e = absurd (none-some why (sym h.admitted ∙ ap (λ s. refusal s event) like.state ∙ k.first))
+  takes_same one two event own their left more first other mid after like (refuses why h p) (accepts k q) sound also e = absurd (none-some why (sym k.admitted ∙ ap (λ s. refusal s event) (sym like.state) ∙ h.first))
+  takes_same one two event own their left more first other mid after like (refuses why h p) (refuses who k q) sound also e =
+      let cause : why ≡ who = same_Some why who (sym h.first ∙ ap (λ s. refusal s event) like.state ∙ k.first) in
+      record {
+        like = record {
+          state = ap (λ (w : WorldView). w.state) h.kept ∙ ap (λ (s : State). record s { refused = s.refused + 1 }) like.state ∙ sym (ap (λ (w : WorldView). w.state) k.kept);
+          zones = ap (λ (w : WorldView). w.zones) h.kept ∙ like.zones ∙ sym (ap (λ (w : WorldView). w.zones) k.kept);
+          lists = subst (λ (w : WorldView). HaveSameZones w.sim after.sim) (sym h.kept) (subst (λ (w : WorldView). HaveSameZones one.sim w.sim) (sym k.kept) like.lists);
+          sound = sound;
+          also = also;
+        };
+        text = h.text ∙ (λ i. refused_line (event_count (like.state i) + 1) (cause i)) ∙ sym k.text;
+        rest = sym (ap (λ ps. ps ++ left) p) ∙ e ∙ ap (λ ps. ps ++ more) q;
+      }
+
+  runs_same : (one two : WorldView) (events : List Event) (picks others : List Pick) (text other : List ℕ) (last end : WorldView) → AreAlike one two → picks ≡ others → Runs one events picks text last → Runs two events others other end
+      → AreAlike last end × (text ≡ other)
+  runs_same one two [] picks others text other last end like same h k = (
+    subst (λ w. AreAlike w end) (sym h.2) (subst (λ w. AreAlike one w) (sym k.2) like),
+    h.1 ∙ sym k.1,
+  )
+  runs_same one two (event ∷ events) picks others text other last end like same h k =
+      let first = takes_same one two event h.own k.own h.left k.left h.first k.first h.mid k.mid like h.takes k.takes h.sound k.sound (sym h.picked ∙ same ∙ k.picked) in
+      let rest = runs_same h.mid k.mid events h.left k.left h.rest k.rest last end first.like first.rest h.others k.others in
+      (rest.0, h.whole ∙ (λ i. first.text i ++ rest.1 i) ∙ sym k.whole)
+
+  -- events and picks have one text, one last state, and the same zones at the end
+  pub one_run : (events : List Event) (picks : List Pick) (text other : List ℕ) (last end : WorldView) → Runs new_world events picks text last → Runs new_world events picks other end
+      → (text ≡ other) × (last.state ≡ end.state) × (last.zones ≡ end.zones)
+  one_run events picks text other last end h k =
+      let same = runs_same new_world new_world events picks picks text other last end (record { state = refl; zones = refl; lists = none_zoned; sound = new_sound; also = new_sound }) refl h k in
+      (same.1, same.0.state, same.0.zones)
+
+  -- and so have lines and picks
+  pub one_run_of_lines : (lines : List (List ℕ)) (picks : List Pick) (text other : List ℕ) (last end : WorldView) → RunsLines lines picks text last → RunsLines lines picks other end
+      → (text ≡ other) × (last.state ≡ end.state) × (last.zones ≡ end.zones)
+  one_run_of_lines lines picks text other last end h k =
+      one_run k.events picks text other last end (subst (λ es. Runs new_world es picks text last) (same_events lines h.events k.events h.are k.are) h.run) k.run
 
 -- what became of an event, with its text
 record IsFate (n : ℕ) (m : State) (event : Event) (own : List Pick) (text : List ℕ) (after : State) : Type 0 where
@@ -102,19 +138,3 @@ run_from old (event ∷ events) picks text last h n is =
 
 pub network_run : (events : List Event) (picks : List Pick) (text : List ℕ) (last : WorldView) → Runs new_world events picks text last → (fates : List Fate) × Run new_world.state events picks fates last.state × AreTexts 1 fates text
 network_run events picks text last h = run_from new_world events picks text last h 1 refl
-
--- events and picks have one list of fates, one last state, and the same zones at the end
-pub one_run : (events : List Event) (picks : List Pick) (text other : List ℕ) (last end : WorldView) → Runs new_world events picks text last → Runs new_world events picks other end
-    → TellTheSame text other × (last.state ≡ end.state) × (last.zones ≡ end.zones)
-one_run events picks text other last end h k =
-    let first = network_run events picks text last h in
-    let second = network_run events picks other end k in
-    let fates : first.0 ≡ second.0 = (same_run new_world.state events picks first.0 second.0 last.state end.state first.1 second.1).0 in
-    let same = runs_same new_world new_world events picks picks text other last end (record { state = refl; zones = refl }) refl h k in
-    (record { fates = first.0; first = first.2; second = subst (λ fs. AreTexts 1 fs other) (sym fates) second.2 }, same.state, same.zones)
-
--- and so have lines and picks
-pub one_run_of_lines : (lines : List (List ℕ)) (picks : List Pick) (text other : List ℕ) (last end : WorldView) → RunsLines lines picks text last → RunsLines lines picks other end
-    → TellTheSame text other × (last.state ≡ end.state) × (last.zones ≡ end.zones)
-one_run_of_lines lines picks text other last end h k =
-    one_run k.events picks text other last end (subst (λ es. Runs new_world es picks text last) (same_events lines h.events k.events h.are k.are) h.run) k.run

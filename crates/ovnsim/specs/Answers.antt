@@ -1,5 +1,5 @@
 -- What is written for an input, and the status.
-use Rattle.std.specs.Prelude.{◌≡◌, ◌<◌, ◌+◌, ◌++◌, ◌-◌, ◌^◌, ℕ, Bool, List, [], ◌∷◌, length, Option, nat_lt, if◌then◌else◌}
+use Rattle.std.specs.Prelude.{◌≡◌, ◌<◌, ◌+◌, ◌++◌, ◌-◌, ℕ, Bool, List, [], ◌∷◌, length, Option, nat_lt, if◌then◌else◌}
 use Rattle.std.specs.Io.KnownBytes.{append_known}
 use Rattle.ovn_base.specs.declared.limits.TheConstants.{MAX_INPUT}
 use Rattle.ovn_base.specs.lines.Lines.{lines_within}

@@ -1,5 +1,5 @@
 -- What comes next in the input, and how far it was read.
-use Rattle.std.specs.Prelude.{◌≡◌, ◌<◌, ◌≤◌, ◌^◌, ℕ, List, Option, false, true}
+use Rattle.std.specs.Prelude.{◌≡◌, ◌<◌, ◌≤◌, ℕ, List, Option, false, true}
 use Rattle.ovn_base.specs.declared.limits.TheConstants.{MAX_INPUT}
 use Rattle.ovn_base.specs.lines.Reading.{Reading, Stops, bytes_taken}
 use Rattle.ovn_base.specs.streams.WhereTold.{WhereTold}

@@ -57,9 +57,3 @@ pub record HasText (n : ℕ) (fate : Fate) (text : List ℕ) (Others : List ℕ 
 abbrev pub AreTexts : ℕ → List Fate → List ℕ → Type 0
 AreTexts n [] text = text ≡ []
 AreTexts n (fate ∷ fates) text = HasText n fate text (λ rest. AreTexts (n + 1) fates rest)
-
--- both tell of the same fates, from the first event on: they differ at most in how many flows were matched
-pub record TellTheSame (text other : List ℕ) : Type 0 where
-  pub fates : List Fate
-  pub first : AreTexts 1 fates text
-  pub second : AreTexts 1 fates other

@@ -26,7 +26,6 @@ use Rattle.world_core.specs.declared.setup.Turn.{Turn}
 use Rattle.world_core.specs.declared.world.World.TheInside.{Inside}
 use Rattle.world_core.proofs.HeldFlows.{flows_of}
 use Rattle.address_sets.specs.Members.{sets_of}
-use Rattle.chassis_sim.specs.Holding.{AreZoned}
 use Rattle.conn_zones.specs.Zoning.{Zoned}
 use Rattle.sim_laws.proofs.journey_laws.Finishing.{begins}
 use Rattle.sim_laws.proofs.journey_laws.ListsSeen.{lists_are_seen}
@@ -35,6 +34,7 @@ use Rattle.sim_laws.specs.journeys.TurnedZones.{turned_with}
 use Rattle.world_core.specs.WorldView.{AreHeld, IsConsistent, IsSound, WorldView}
 use Rattle.world_core.proofs.DecidedFlows.{IsExactFlow}
 use Rattle.world_core.proofs.TurnEvents.{given_up, kept_on, no_walks, same_settled}
+use Rattle.world_core.proofs.TurnedLists.{relisted}
 use Rattle.world_core.proofs.Turned.{are_deltas, are_proper, held_then, tables_once}
 
 -- a state that is counted is held as before
@@ -45,6 +45,7 @@ counted_held m zones accepted keys s same h = subst (λ k. AreHeld (record m { a
   held = h.held;
   members = h.members;
   tables = h.tables;
+  zoned = h.zoned;
   zones = h.zones;
   waiting = h.waiting;
   next = h.next;
@@ -76,12 +77,12 @@ module _ (old : WorldView) (event : TurnEvent) (sound : IsSound old) (effects : 
   may_apply = are_proper m old.zones (event_of_turn event) effects change after sound.consistent exact turned tables
 
   -- it is applied
-  module _ (s : sim.SimState) (made : IsApplied flows_of old.sim change s) (zoned : AreZoned s.chassis s.zones) where
+  module _ (s : sim.SimState) (made : IsApplied flows_of old.sim change s) where
     held : AreHeld end after.zones s
     held = counted_held mid after.zones (mid.accepted + 1) end.keys s keys_are (held_then m old.zones (event_of_turn event) effects change after sound.consistent exact turned tables old.sim s sound.held made)
 
     lists_are : lists_seen after.zones s.zones ≡ mid.lists
-    lists_are = sym (lists_are_seen end after.zones (sets_of end.config.net) 0 s (begins end after.zones turned.consistent.at_rest) held zoned)
+    lists_are = sym (lists_are_seen end after.zones (sets_of end.config.net) 0 s (begins end after.zones turned.consistent.at_rest) held)
 
     -- the world then
     abbrev pub then' : WorldView
@@ -119,6 +120,7 @@ module _ (old : WorldView) (event : TurnEvent) (sound : IsSound old) (effects : 
       step = record { mid = mid; does = turned.does; state = state_is };
       passed = no_walks m.clock old.sim event (record { effects = effects; walks = [] }) s refl;
       zones = turned.zones;
+      lists = λ none. relisted m old.zones change after tables old.sim s sound.held made event m.clock after.zones turned.emptied;
       text = is;
     }
 
@@ -169,7 +171,7 @@ module _ (w : Inside) (now : WorldView) (view : seen_of w ≡ now) (event : Turn
     ground_settles done is none = is ∙ ap (λ (g : GroundView). record g { keys = settled g.keys }) applied_then ∙ ap (λ (keys : Keys). record ground_then { keys = keys }) (given_up before.state.waiting ground_then.keys (as_many ∙ none))
 
   -- the turn is applied
-  module _ (between s : sim.SimState) (kept : between ≡ w.sim.state) (applied : IsApplied flows_of between turn.sim s) (zoned : AreZoned s.chassis s.zones)
+  module _ (between s : sim.SimState) (kept : between ≡ w.sim.state) (applied : IsApplied flows_of between turn.sim s)
       (ground : GroundView) (ground_is : ground ≡ record ground_then { keys = settled_where_none_waits before.state.waiting ground_then.keys }) (walks : List Walk) (none : walks ≡ []) where
     made : IsApplied flows_of w.sim.state turn.sim s
     made = subst (λ (h : sim.SimState). IsApplied flows_of h turn.sim s) kept applied
@@ -183,18 +185,18 @@ module _ (w : Inside) (now : WorldView) (view : seen_of w ≡ now) (event : Turn
       whole = before.whole;
     }
 
-    is_end : end_world ≡ then' before event sound_before turn.effects turn.sim ground_then exact turned_then prepared.tables s made zoned
+    is_end : end_world ≡ then' before event sound_before turn.effects turn.sim ground_then exact turned_then prepared.tables s made
     is_end =
         (λ i. record end_world { state = record end_world.state { waiting = crossings_of w.crossings.entries (made.waiting i) } })
-        ∙ ended before event sound_before turn.effects turn.sim ground_then exact turned_then prepared.tables s made zoned ground walks ground_is none
+        ∙ ended before event sound_before turn.effects turn.sim ground_then exact turned_then prepared.tables s made ground walks ground_is none
 
     pub sound_end : IsSound end_world
-    sound_end = subst (λ v. IsSound v) (sym is_end) (sound_then before event sound_before turn.effects turn.sim ground_then exact turned_then prepared.tables s made zoned)
+    sound_end = subst (λ v. IsSound v) (sym is_end) (sound_then before event sound_before turn.effects turn.sim ground_then exact turned_then prepared.tables s made)
 
     pub accepted_end : (text more : List ℕ) → more ≡ text ++ accepted_lines (event_count before.state + 1) turn.effects 0 → IsAccepted now (event_of_turn event) text more end_world
     accepted_end text more is =
         subst (λ v. IsAccepted v (event_of_turn event) text more end_world) view (subst (λ v. IsAccepted before (event_of_turn event) text more v) (sym is_end)
-        (accepted_then before event sound_before turn.effects turn.sim ground_then exact turned_then prepared.tables s made zoned text more is))
+        (accepted_then before event sound_before turn.effects turn.sim ground_then exact turned_then prepared.tables s made text more is))
 
 -- the world as it is kept, with this ground and these chassis
 abbrev pub seen_with : Inside → GroundView → sim.SimState → WorldView

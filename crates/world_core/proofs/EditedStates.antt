@@ -271,6 +271,7 @@ module _ (m : State) (zones : Zoned) (old : IsConsistent m zones) (room : event_
     consistent = consistent_then;
     unretired = unretired;
     zones = refl;
+    emptied = emptied;
     frames = frames_same m mid old.at_rest.born kept old.at_rest.keys.hold m.waiting old.at_rest.on_the_way.crossings.may;
     lists = lists_then change.emptied emptied;
     bindings = λ q. ap (λ l. set_in_turn same_name l q (at m.config.bindings q)) bound ∙ ap (λ l. at l q) (sym bindings_are);

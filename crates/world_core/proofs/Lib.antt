@@ -26,6 +26,7 @@ pub mod ReadiedChanges
 pub mod RecordChanges
 pub mod Refusal
 pub mod Refusals
+pub mod SameLists
 pub mod SameZones
 pub mod SettledRows
 pub mod SetupTurns
@@ -33,6 +34,7 @@ pub mod TurnEvents
 pub mod Turned
 pub mod DecidedFlows
 pub mod TurnedHomes
+pub mod TurnedLists
 pub mod TurnedUnits
 pub mod WaitingFrames
 pub mod ComingOwners

@@ -1,10 +1,13 @@
 -- What an event that takes packets leaves, once it is counted.
 use Rattle.std.specs.Prelude.{◌≡◌, ◌<◌, ◌^◌, ◌+◌, ◌++◌, ℕ, Bool, true, false, cond, List, [], None, refl}
+use Rattle.std.specs.Option.{option_and_then}
 use Rattle.std.proofs.Common.{sym, ap, ◌∙◌, subst, arith}
+use Rattle.std.proofs.lemmas.Bool.{false≢true}
 use Rattle.address_sets.specs.Members.{sets_of}
 use Rattle.chassis_sim.specs.Passing as passing
 use Rattle.chassis_sim.specs.State as sim
 use Rattle.chassis_sim.specs.declared.out.SimOut.{SimOut}
+use Rattle.conn_zones.specs.Zoning.{Zoned}
 use Rattle.edit_reader.specs.declared.event.Event.{Event}
 use Rattle.edit_reader.specs.declared.event.Event.TheVariants as event_of
 use Rattle.event_lines.specs.Lines.{accepted_lines}
@@ -21,26 +24,27 @@ use Rattle.sim_laws.specs.Passing.{most_arrivals, AreDrained, no_out}
 use Rattle.sim_laws.specs.journeys.Refining.{without_crossing}
 use Rattle.sim_laws.specs.journeys.UnderWay.{IsUnderWay}
 use Rattle.switch_engine.specs.Outcome.{any_legal}
+use Rattle.switch_engine.specs.Zones.{ZoneLists, zone_at}
 use Rattle.switch_engine.specs.declared.effect.NetEffect.{NetEffect}
 use Rattle.switch_engine.specs.declared.walk.Walk.{Walk}
 use Rattle.world_core.proofs.Refusal.{taken_of}
 use Rattle.world_core.specs.Built.{IsBuilt}
 use Rattle.world_core.specs.EventPasses.{Passes}
-use Rattle.world_core.specs.Outcome.{IsAccepted, matched}
+use Rattle.world_core.specs.Outcome.{IsAccepted, matched, moves_packets}
 use Rattle.world_core.specs.Packets.{AreGone, HasArrived, HasEntered, IsPacketOf, most_sent, state_with}
 use Rattle.world_core.specs.Refusing.{no_frame}
 use Rattle.world_core.specs.Step.{Does, Moves}
 use Rattle.world_core.specs.StepParts.{IsDone, IsTaken}
 use Rattle.world_core.specs.WorldView.{AreHeld, IsSound, WorldView}
-use Rattle.world_core.specs.Zones.{Rezones}
+use Rattle.world_core.specs.Zones.{Relists, Rezones}
 
 -- ---- the event is done
 
 -- a state that is left by packets is counted: with it the world is one that events can leave
 pub finish_done : (old : WorldView) (event : Event) (effects : List NetEffect) (walks : List Walk) (mid new : WorldView) (count : ℕ) → IsTaken old → event_count old.state < 2 ^ 42 → mid.state ≡ state_with old.state mid.state.lists mid.state.waiting mid.state.next
     → Does old.state event effects mid.state → Passes old.state.clock old.sim event (record { effects = effects; walks = walks }) mid.sim → IsUnderWay mid.state mid.zones most_sent → AreHeld mid.state mid.zones mid.sim
-    → mid ≡ record old { state = mid.state; sim = mid.sim } → new ≡ record mid { state = finished mid.state } → Rezones event old.zones old.zones → count ≡ matched walks → IsDone old event effects walks count new
-finish_done old event effects walks mid new count t room still does passes u held rest then zones counts =
+    → mid ≡ record old { state = mid.state; sim = mid.sim } → new ≡ record mid { state = finished mid.state } → Rezones event old.zones old.zones → (moves_packets event ≡ false → Relists event old.state.clock old.zones old.sim mid.sim) → count ≡ matched walks → IsDone old event effects walks count new
+finish_done old event effects walks mid new count t room still does passes u held rest then zones lists counts =
     let same : event_count mid.state ≡ event_count old.state = ap event_count still in
     let end = finishes mid.state mid.zones (sets_of mid.state.config.net) most_sent mid.sim u (omega arith) (omega (arith, room, same)) held in
     let whole : mid.whole ≡ false = ap (λ (w : WorldView). w.whole) rest ∙ t.taken in
@@ -51,8 +55,13 @@ finish_done old event effects walks mid new count t room still does passes u hel
       passed = subst (λ s. Passes old.state.clock old.sim event (record { effects = effects; walks = walks }) s) (sym (ap (λ (w : WorldView). w.sim) then)) passes;
       counts = counts;
       zones = subst (λ z. Rezones event old.zones z) (sym (ap (λ (w : WorldView). w.zones) then ∙ zoned)) zones;
+      lists = λ none. subst (λ (w : WorldView). Relists event old.state.clock w.zones old.sim w.sim) (sym then) (subst (λ z. Relists event old.state.clock z old.sim mid.sim) (sym zoned) (lists none));
       now = subst IsTaken (sym then) (record { consistent = record { at_rest = end.0; built = built }; held = end.1; taken = whole });
     }
+
+-- an event that moves packets is none that moves none
+moves_some : {X : Type 0} → true ≡ false → X
+moves_some e = absurd (false≢true (sym e))
 
 -- what is left of a state but for the number of the next frame
 next_aside : (m n : State) (next : ℕ) → n ≡ state_with m n.lists n.waiting next → n ≡ state_with m n.lists n.waiting n.next
@@ -78,7 +87,7 @@ entry_done old p frame packet before after mid new count is t room none h then c
       moves = record { ends = h.ends; travels = travels m (enter_one p packet) h.ends mid.state h.moved; effects_are = h.effects ∙ ap (λ l. l ++ effects_of m.keys m.next h.ends) none.effects };
     })
     (record { packet = packet; whole = is.whole; frame_is = is.frame_is; injected = subst (λ b. passing.IsInjected any_legal old.sim p m.clock packet b after mid.sim) (nothing before none) h.passed })
-    h.under_way h.held h.rest then refl counts
+    h.under_way h.held h.rest then refl moves_some counts
 
 pub arrival_done : (old : WorldView) (n : ℕ) (keep : Bool) (before after : SimOut) (mid new : WorldView) (count : ℕ) → IsTaken old → event_count old.state < 2 ^ 42 → IsNothing before → HasArrived old n keep before after mid
     → new ≡ record mid { state = finished mid.state } → count ≡ matched after.walks → IsDone old (cond keep (event_of.Repeat n) (event_of.Deliver n)) after.effects after.walks count new
@@ -91,8 +100,8 @@ arrival_done old n keep before after mid new count t room none h then counts = b
     passed k a = subst (λ b. passing.IsArrived any_legal old.sim n k old.state.clock b after mid.sim) (nothing before none) a.passed
 
     by : (k : Bool) → HasArrived old n k before after mid → IsDone old (cond k (event_of.Repeat n) (event_of.Deliver n)) after.effects after.walks count new
-    by true a = finish_done old (event_of.Repeat n) after.effects after.walks mid new count t room (next_aside old.state mid.state _ a.still) (moves true a) (passed true a) a.under_way a.held a.rest then refl counts
-    by false a = finish_done old (event_of.Deliver n) after.effects after.walks mid new count t room (next_aside old.state mid.state _ a.still) (moves false a) (passed false a) a.under_way a.held a.rest then refl counts
+    by true a = finish_done old (event_of.Repeat n) after.effects after.walks mid new count t room (next_aside old.state mid.state _ a.still) (moves true a) (passed true a) a.under_way a.held a.rest then refl moves_some counts
+    by false a = finish_done old (event_of.Deliver n) after.effects after.walks mid new count t room (next_aside old.state mid.state _ a.still) (moves false a) (passed false a) a.under_way a.held a.rest then refl moves_some counts
 
 pub drain_done : (old : WorldView) (before after : SimOut) (mid new : WorldView) (count : ℕ) → IsTaken old → event_count old.state < 2 ^ 42 → IsNothing before → AreGone most_arrivals old before after mid
     → new ≡ record mid { state = finished mid.state } → count ≡ matched after.walks → IsDone old event_of.Drain after.effects after.walks count new
@@ -100,7 +109,7 @@ drain_done old before after mid new count t room none h then counts =
     let m = old.state in
     finish_done old event_of.Drain after.effects after.walks mid new count t room (next_aside m mid.state _ h.still)
     (record { ends = h.ends; travels = travels m arrive_all h.ends mid.state (all_drain m h.ends mid.state h.moved); effects_are = h.effects ∙ ap (λ l. l ++ effects_of m.keys m.next h.ends) none.effects })
-    (subst (λ b. AreDrained m.clock most_arrivals old.sim b after mid.sim) (nothing before none) h.passed) h.under_way h.held h.rest then refl counts
+    (subst (λ b. AreDrained m.clock most_arrivals old.sim b after mid.sim) (nothing before none) h.passed) h.under_way h.held h.rest then refl moves_some counts
 
 pub packet_done : (old : WorldView) (p : Name) (frame : List ℕ) (packet : inet.Packet) (before between after : SimOut) (first mid new : WorldView) (count : ℕ) → IsPacketOf packet frame → IsTaken old → event_count old.state < 2 ^ 42 → IsNothing before → HasEntered old p packet before between first
     → AreGone most_arrivals first between after mid → new ≡ record mid { state = finished mid.state } → count ≡ matched after.walks → IsDone old (event_of.Packet p frame) after.effects after.walks count new
@@ -129,7 +138,7 @@ packet_done old p frame packet before between after first mid new count is t roo
       goes_in = record { packet = packet; whole = is.whole; frame_is = is.frame_is; injected = subst (λ b. passing.IsInjected any_legal old.sim p m.clock packet b between first.sim) (nothing before none) e.passed };
       drained = subst (λ now. AreDrained now most_arrivals first.sim between after mid.sim) clock d.passed;
     })
-    d.under_way d.held rest then refl counts
+    d.under_way d.held rest then refl moves_some counts
 
 -- what is handed on is what came
 pub handed_on : (old new : WorldView) (event : Event) (out : SimOut) (effects : List NetEffect) (walks : List Walk) (count : ℕ) → effects ≡ out.effects → walks ≡ out.walks → IsDone old event out.effects out.walks count new
@@ -158,6 +167,10 @@ lost_world w n = record w { state = without_crossing w.state n; sim = sim.withou
 abbrev pub counted_world : WorldView → List Walk → WorldView
 counted_world w walks = record w { state = finished w.state; walks = walks; whole = true }
 
+-- its lists stay
+lost_lists : (zones : Zoned) (now : ℕ) (s : sim.SimState) (n : ℕ) → Relists (event_of.Lose n) now zones s (sim.without s n)
+lost_lists zones now s n chassis lists is z = sym (ap (option_and_then (λ (held : ZoneLists). zone_at held z)) is)
+
 pub loss_taken : (old : WorldView) (n : ℕ) → IsSound old → event_count old.state < 2 ^ 42 → no_frame old.state n ≡ None → (before text : List ℕ) → text ≡ before ++ accepted_lines (event_count old.state + 1) [] 0
     → IsAccepted old (event_of.Lose n) before text (counted_world (lost_world old n) []) × IsSound (counted_world (lost_world old n) [])
 loss_taken old n sound room allowed before text lines =
@@ -168,7 +181,7 @@ loss_taken old n sound room allowed before text lines =
     let lost = loses_so m old.zones (sets_of m.config.net) most_sent old.sim n (under_way_most marked t) sound.held in
     let done =
     finish_done marked (event_of.Lose n) [] [] mid (record mid { state = finished mid.state }) 0 t room refl
-    (record { ends = []; travels = travels m (lose_one n) [] (without_crossing m n) lost.0; effects_are = refl }) refl lost.1 lost.2 refl refl refl refl in (
-      record { admitted = allowed; effects = []; step = done.step; passed = refl; zones = done.zones; text = lines },
+    (record { ends = []; travels = travels m (lose_one n) [] (without_crossing m n) lost.0; effects_are = refl }) refl lost.1 lost.2 refl refl refl (λ none. lost_lists old.zones m.clock old.sim n) refl in (
+      record { admitted = allowed; effects = []; step = done.step; passed = refl; zones = done.zones; lists = λ none. lost_lists old.zones m.clock old.sim n; text = lines },
       record { whole = refl; consistent = done.now.consistent; held = done.now.held },
     )

@@ -4,7 +4,6 @@ use Rattle.std.proofs.Common.{sym, ap, ◌∙◌, subst}
 use Rattle.std.proofs.lemmas.List.{drop_at}
 use Rattle.ovn_base.specs.declared.name.Name.{Name}
 use Rattle.address_sets.specs.Members.{sets_of}
-use Rattle.chassis_sim.specs.Holding.{AreZoned}
 use Rattle.chassis_sim.specs.InNames.{frames_sent}
 use Rattle.chassis_sim.specs.Passing as passing
 use Rattle.chassis_sim.specs.State as sim
@@ -47,12 +46,12 @@ world_with w waiting s = record w { state = state_with w.state (lists_seen w.zon
 
 -- ---- a journey
 
-module _ (old : WorldView) (more : ℕ) (s : sim.SimState) (before after : SimOut) (traffic : Traffic) (j : IsJourney old.state old.zones (sets_of old.state.config.net) more traffic before after s) (zoned : AreZoned s.chassis s.zones) where
+module _ (old : WorldView) (more : ℕ) (s : sim.SimState) (before after : SimOut) (traffic : Traffic) (j : IsJourney old.state old.zones (sets_of old.state.config.net) more traffic before after s) where
   next_is : s.next ≡ old.state.next + length (crossings_in j.ends)
   next_is = j.held.next ∙ ap (λ (m : State). m.next) j.moves.rest
 
   lists_are : lists_seen old.zones s.zones ≡ j.left.lists
-  lists_are = sym (lists_are_seen j.left old.zones (sets_of old.state.config.net) more s j.sound j.held zoned)
+  lists_are = sym (lists_are_seen j.left old.zones (sets_of old.state.config.net) more s j.sound j.held)
 
   -- the world with the crossings that are left has the state that is left
   pub left_seen : (waiting : List (ℕ × Crossing)) → waiting ≡ j.left.waiting → (world_with old waiting s).state ≡ j.left
@@ -76,17 +75,17 @@ module _ (old : WorldView) (more : ℕ) (s : sim.SimState) (before after : SimOu
 -- ---- a frame that arrives
 
 pub arrived_passed : ArrivalJourneyLaw → (old : WorldView) (n : ℕ) (keep : Bool) (before after : SimOut) (s : sim.SimState) (waiting : List (ℕ × Crossing)) → IsUnderWay old.state old.zones most_sent → IsBuilt old.state.config.net → AreHeld old.state old.zones old.sim
-    → passing.IsArrived any_legal old.sim n keep old.state.clock before after s → AreZoned s.chassis s.zones → waiting ≡ waiting_on keep n old.state.waiting → HasArrived old n keep before after (world_with old waiting s)
-arrived_passed law old n keep before after s waiting u built h arrives zoned kept =
+    → passing.IsArrived any_legal old.sim n keep old.state.clock before after s → waiting ≡ waiting_on keep n old.state.waiting → HasArrived old n keep before after (world_with old waiting s)
+arrived_passed law old n keep before after s waiting u built h arrives kept =
     let came = law old.state old.zones (sets_of old.state.config.net) most_sent old.sim s any_legal n keep before after u h (λ x waits. virtual_ports old.state.config.net built x.datapath.name) arrives in
-    passed_at old most_sent s before after (arrive_one n keep) came.journey zoned waiting (kept ∙ sym came.waiting) (λ s b a t. passing.IsArrived any_legal s n keep old.state.clock b a t) arrives refl
+    passed_at old most_sent s before after (arrive_one n keep) came.journey waiting (kept ∙ sym came.waiting) (λ s b a t. passing.IsArrived any_legal s n keep old.state.clock b a t) arrives refl
 
 -- the crossings that are left then are those of the names that are left
 pub arrived_seen : ArrivalJourneyLaw → (old : WorldView) (n : ℕ) (keep : Bool) (before after : SimOut) (s : sim.SimState) (names : List (ℕ × CrossingNames)) → IsUnderWay old.state old.zones most_sent → IsBuilt old.state.config.net → AreHeld old.state old.zones old.sim
-    → passing.IsArrived any_legal old.sim n keep old.state.clock before after s → AreZoned s.chassis s.zones → names ≡ all_names (waiting_on keep n old.state.waiting) → crossings_of names s.waiting ≡ waiting_on keep n old.state.waiting
-arrived_seen law old n keep before after s names u built h arrives zoned are =
+    → passing.IsArrived any_legal old.sim n keep old.state.clock before after s → names ≡ all_names (waiting_on keep n old.state.waiting) → crossings_of names s.waiting ≡ waiting_on keep n old.state.waiting
+arrived_seen law old n keep before after s names u built h arrives are =
     let left = waiting_on keep n old.state.waiting in
-    let p = arrived_passed law old n keep before after s left u built h arrives zoned refl in
+    let p = arrived_passed law old n keep before after s left u built h arrives refl in
     seen_held (world_with old left s).state old.zones s names p.under_way.crossings p.held are
 
 -- ---- a packet that goes in
@@ -115,15 +114,15 @@ sent_also m lists next p to bytes x f = record {
 }
 
 pub goes_on : EntryJourneyLaw → (old : WorldView) (p : Name) (packet : inet.Packet) (before after : SimOut) (s : sim.SimState) (effects : List NetEffect) → IsUnderWay old.state old.zones 0 → IsBuilt old.state.config.net → AreHeld old.state old.zones old.sim → IsWhole packet
-    → passing.IsInjected any_legal old.sim p old.state.clock packet before after s → AreZoned s.chassis s.zones → effects ≡ drop (length before.effects) after.effects → GoesOn old p packet before after s effects
-goes_on law old p packet before after s effects u built h whole injected zoned are =
+    → passing.IsInjected any_legal old.sim p old.state.clock packet before after s → effects ≡ drop (length before.effects) after.effects → GoesOn old p packet before after s effects
+goes_on law old p packet before after s effects u built h whole injected are =
     let m = old.state in
     let entry = law m old.zones (sets_of m.config.net) 0 old.sim s any_legal p packet before after u h (λ i there. virtual_ports m.config.net built i.switch) whole injected in
     let j = entry.journey in
     let ws = numbered_from m.next (crossings_in j.ends) in
     let effects_are : effects ≡ effects_of m.keys m.next j.ends = are ∙ ap (λ l. drop (length before.effects) l) j.effects ∙ drop_at before.effects (effects_of m.keys m.next j.ends) (length before.effects) refl in
     let entered : HasEntered old p packet before after (behind_with old ws s) =
-    passed_at old (0 + 64) s before after (enter_one p packet) j zoned (m.waiting ++ ws) (sym entry.waiting) (λ s b a t. passing.IsInjected any_legal s p m.clock packet b a t) injected refl in
+    passed_at old (0 + 64) s before after (enter_one p packet) j (m.waiting ++ ws) (sym entry.waiting) (λ s b a t. passing.IsInjected any_legal s p m.clock packet b a t) injected refl in
     record {
       crossings = ws;
       can = record {

@@ -37,6 +37,7 @@ held_on m zones s h = record {
   held = h.held;
   members = h.members;
   tables = h.tables;
+  zoned = h.zoned;
   zones = h.zones;
   waiting = h.waiting;
   next = h.next;
@@ -84,7 +85,7 @@ refused_sound w sound room = record { whole = sound.whole; consistent = refused_
 -- the mark of an event that is taken plays no part in what it does
 pub accepted_marked : (old mid : WorldView) (event : Event) (before after : List ℕ) → IsAccepted (record old { whole = false }) event before after mid → IsTaken mid → IsAccepted old event before after (record mid { whole = true }) × IsSound (record mid { whole = true })
 accepted_marked old mid event before after done taken = (
-  record { admitted = done.admitted; effects = done.effects; step = done.step; passed = done.passed; zones = done.zones; text = done.text },
+  record { admitted = done.admitted; effects = done.effects; step = done.step; passed = done.passed; zones = done.zones; lists = done.lists; text = done.text },
   record { whole = refl; consistent = taken.consistent; held = taken.held },
 )
 

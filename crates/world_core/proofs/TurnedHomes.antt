@@ -29,7 +29,7 @@ use Rattle.switch_engine.specs.declared.effect.NetEffect.{NetEffect}
 use Rattle.tuple_space.specs.declared.space.TupleSpace.{TupleSpace}
 use Rattle.world_core.specs.Refusing.{refusal}
 use Rattle.world_core.specs.Turning.{IsTurned}
-use Rattle.world_core.specs.Zones.{home_change}
+use Rattle.world_core.specs.Zones.{home_change, zone_numbered}
 use Rattle.world_core.proofs.ConsistentTurns.{chassis_comes, port_bound}
 use Rattle.world_core.proofs.PortHomes.{homes_after}
 use Rattle.world_core.proofs.Refusals.{among_chassis, chassis_new, is_known, port_there}
@@ -51,6 +51,7 @@ module _ (m : State) (zones : Zoned) (old : IsConsistent m zones) (room : event_
     consistent = chassis_comes m zones old room c (chassis_new m c allowed).1;
     unretired = none_settled m.keys old.at_rest.keys.no_retired_datapaths old.at_rest.keys.no_retired_ports;
     zones = refl;
+    emptied = emptied;
     frames = refl;
     lists = subst (λ l. IsTurnOfZones m (add_chassis m.config c) zones.numbers zones.numbers l) (sym emptied) (keeps_homes m zones 0 (add_chassis m.config c) under (chassis_keep m zones 0 c under)).1;
     bindings = λ q. ap (λ l. set_in_turn same_name l q (at m.config.bindings q)) bound;
@@ -73,6 +74,7 @@ module _ (m : State) (zones : Zoned) (old : IsConsistent m zones) (room : event_
         consistent = port_bound m zones old room p c after there known rezoned;
         unretired = none_settled m.keys old.at_rest.keys.no_retired_datapaths old.at_rest.keys.no_retired_ports;
         zones = rezoned;
+        emptied = emptied ∙ ap (zone_numbered c) (sym numbered);
         frames = refl;
         lists = subst (λ l. IsTurnOfZones m (bind m.config p c) zones.numbers after.numbers l) (sym emptied) (binds_so m zones after 0 p c z under (port_bound m zones old room p c after there known rezoned).at_rest.bound rezoned numbered);
         bindings = λ q. ap (λ l. set_in_turn same_name l q (at m.config.bindings q)) bound ∙ bound_then m.config.bindings p c q;

@@ -14,26 +14,11 @@ use Rattle.world_core.specs.Refusing.{refusal}
 use Rattle.world_core.specs.WorldView.{WorldView, IsSound}
 use Rattle.net_model.specs.State.{event_count}
 use Rattle.world_core.specs.Step as net
-use Rattle.world_core.specs.Zones.{Rezones}
+use Rattle.world_core.specs.Zones.{Relists, Rezones}
 
 -- how many flows were matched in all
 abbrev pub matched : List Walk → ℕ
 matched walks = sum_by (λ walk. length walk.steps) walks
-
--- an accepted event: its effects are a step of the network and what came of its packets on the chassis, and its text says them
-pub record IsAccepted (old : WorldView) (event : Event) (before after : List ℕ) (new : WorldView) : Type 0 where
-  pub admitted : refusal old.state event ≡ None
-  pub effects : List NetEffect
-  pub step : net.NetworkStep old.state event effects new.state
-  pub passed : Passes old.state.clock old.sim event (record { effects = effects; walks = new.walks }) new.sim
-  pub zones : Rezones event old.zones new.zones
-  pub text : after ≡ before ++ accepted_lines (event_count old.state + 1) effects (matched new.walks)
-
--- a refused event: it counts, and nothing else changes
-pub record IsRefused (old : WorldView) (event : Event) (why : Refusal) (before after : List ℕ) (new : WorldView) : Type 0 where
-  pub first : refusal old.state event ≡ Some why
-  pub kept : new ≡ record old { state = record old.state { refused = old.state.refused + 1 }; walks = [] }
-  pub text : after ≡ before ++ refused_line (event_count old.state + 1) why
 
 -- the event moves packets on chassis
 abbrev pub moves_packets : Event → Bool
@@ -52,6 +37,23 @@ moves_packets (Repeat n) = true
 moves_packets Drain = true
 moves_packets (Packet port frame) = true
 moves_packets (Unread fault) = false
+
+-- an accepted event: its effects are a step of the network and what came of its packets on the chassis, and its text says them; where it moves none, each
+-- zone of each chassis has the list that it leaves
+pub record IsAccepted (old : WorldView) (event : Event) (before after : List ℕ) (new : WorldView) : Type 0 where
+  pub admitted : refusal old.state event ≡ None
+  pub effects : List NetEffect
+  pub step : net.NetworkStep old.state event effects new.state
+  pub passed : Passes old.state.clock old.sim event (record { effects = effects; walks = new.walks }) new.sim
+  pub zones : Rezones event old.zones new.zones
+  pub lists : moves_packets event ≡ false → Relists event old.state.clock new.zones old.sim new.sim
+  pub text : after ≡ before ++ accepted_lines (event_count old.state + 1) effects (matched new.walks)
+
+-- a refused event: it counts, and nothing else changes
+pub record IsRefused (old : WorldView) (event : Event) (why : Refusal) (before after : List ℕ) (new : WorldView) : Type 0 where
+  pub first : refusal old.state event ≡ Some why
+  pub kept : new ≡ record old { state = record old.state { refused = old.state.refused + 1 }; walks = [] }
+  pub text : after ≡ before ++ refused_line (event_count old.state + 1) why
 
 -- what want of memory leaves: where packets were moved the world isn't sound, and the text keeps what it held; in any other event
 -- all stays

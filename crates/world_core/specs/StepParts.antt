@@ -7,14 +7,14 @@ use Rattle.event_lines.specs.declared.refusal.StepFault.{StepFault}
 use Rattle.event_lines.specs.declared.refusal.StepFault.TheVariants.{Refused, Memory}
 use Rattle.switch_engine.specs.declared.effect.NetEffect.{NetEffect}
 use Rattle.switch_engine.specs.declared.walk.Walk.{Walk}
-use Rattle.world_core.specs.Outcome.{matched, IsAccepted, IsRefused}
+use Rattle.world_core.specs.Outcome.{matched, moves_packets, IsAccepted, IsRefused}
 use Rattle.world_core.specs.EventPasses.{Passes}
 use Rattle.world_core.specs.WorldView.{WorldView, IsConsistent, AreHeld}
 use Rattle.net_model.specs.State.{empty}
 use Rattle.world_core.specs.Refusing.{refusal}
 use Rattle.world_core.specs.Step as net
 use Rattle.world_core.specs.declared.world.Done.{Done}
-use Rattle.world_core.specs.Zones.{Rezones}
+use Rattle.world_core.specs.Zones.{Relists, Rezones}
 use Rattle.sim_laws.specs.journeys.First.{nobody_home}
 
 -- no record, no chassis, no event
@@ -33,6 +33,7 @@ pub record IsDone (old : WorldView) (event : Event) (effects : List NetEffect) (
   pub passed : Passes old.state.clock old.sim event (record { effects = effects; walks = walks }) new.sim
   pub counts : count ≡ matched walks
   pub zones : Rezones event old.zones new.zones
+  pub lists : moves_packets event ≡ false → Relists event old.state.clock new.zones old.sim new.sim
   pub now : IsTaken new
 
 -- what an event of packets does or why it is refused, before it is told; refused it does nothing

@@ -1,13 +1,19 @@
--- What events do to the homes of ports, and to the numbers of their zones.
-use Rattle.std.specs.Prelude.{◌≡◌, List, [], ◌∷◌, map, Option, None, Some}
+-- What events do to the homes of ports, to the numbers of their zones, and to the connection lists in these.
+use Rattle.std.specs.Prelude.{◌≡◌, ◌+◌, ℕ, List, [], ◌∷◌, map, Option, None, Some}
 use Rattle.std.specs.List.{filter}
+use Rattle.std.specs.Option.{option_and_then, option_map}
 use Rattle.ovn_base.specs.declared.name.Name.{Name}
 use Rattle.ovn_base.specs.names.SameName.{same_name}
+use Rattle.chassis_sim.specs.Changing.{emptied_at}
+use Rattle.chassis_sim.specs.State.{SimState, at_name}
+use Rattle.conn_table.specs.Connections.{ConnectionList, expired}
 use Rattle.conn_zones.specs.Rezoning.{IsRezoned}
-use Rattle.conn_zones.specs.Zoning.{Zoned}
+use Rattle.conn_zones.specs.Zoning.{Zoned, number_on}
 use Rattle.conn_zones.specs.declared.change.HomeChange.{HomeChange}
+use Rattle.conn_zones.specs.declared.numbers.ZoneUse.TheVariants.{Port}
 use Rattle.edit_reader.specs.declared.event.Event.{Event}
 use Rattle.edit_reader.specs.declared.event.Event.TheVariants.{Edit, Bind, Unbind, AddChassis, RemoveChassis, Keys, Health, Clock, Inject, Deliver, Lose, Repeat, Drain, Packet, Unread}
+use Rattle.switch_engine.specs.Zones.{ZoneLists, zone_at}
 
 -- the port is at home on the chassis from now on
 abbrev pub home_change : Name → Name → HomeChange
@@ -42,3 +48,31 @@ Rezones (Repeat n) before after = after ≡ before
 Rezones Drain before after = after ≡ before
 Rezones (Packet p frame) before after = after ≡ before
 Rezones (Unread fault) before after = after ≡ before
+
+-- ---- connection lists
+
+-- the zone of that number on the chassis, if there is a number
+abbrev pub zone_numbered : Name → Option ℕ → List (Name × ℕ)
+zone_numbered chassis None = []
+zone_numbered chassis (Some z) = (chassis, z) ∷ []
+
+-- the zones that an event empties, by the numbers after it: a port that is bound begins with its own
+abbrev pub emptied_by : Event → Zoned → List (Name × ℕ)
+emptied_by (Bind p chassis) after = zone_numbered chassis (number_on after.numbers chassis (Port p))
+emptied_by other after = []
+
+-- what an event at the time leaves of a list, beside that: where the clock goes on, idle connections go
+abbrev pub left_by : Event → ℕ → Option ConnectionList → Option ConnectionList
+left_by (Clock seconds) now list = option_map (expired (now + seconds)) list
+left_by other now list = list
+
+-- the list in the zone of that number on the chassis, if it is there
+abbrev pub list_on : SimState → Name → ℕ → Option ConnectionList
+list_on s chassis z = option_and_then (λ (lists : ZoneLists). zone_at lists z) (at_name s.zones chassis)
+
+-- the lists in all zones of the chassis before and after an event that moves no packets, whether their numbers are anybody's or not: the zones that it
+-- empties are there and empty, and all others are as it leaves them; so a chassis that comes has no other
+abbrev pub Relists : Event → ℕ → Zoned → SimState → SimState → Type 0
+Relists event now after old new =
+    (chassis : Name) (lists : ZoneLists) → at_name new.zones chassis ≡ Some lists
+    → (z : ℕ) → zone_at lists z ≡ emptied_at (emptied_by event after) chassis z (left_by event now (list_on old chassis z))

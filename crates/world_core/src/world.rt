@@ -199,7 +199,6 @@ impl World {
         write_accepted(turn.effects.as_slice(), 0, number, text)?;
         self.setup.apply(turn.patch);
         self.sim.apply(turn.sim);
-        self.sim.state_holds();
         self.walks.clear();
         self.accepted += 1;
         if self.crossings.is_empty() {

@@ -8,7 +8,7 @@ use Rattle.std.proofs.Common.{sym, ap, ◌∙◌, subst, append-nil, arith, inl,
 use Rattle.std.proofs.lemmas.Bool.{cases_Bool}
 use Rattle.std.proofs.lemmas.Option.{none-some}
 use Rattle.chassis_sim.specs.Frames.{Carries}
-use Rattle.chassis_sim.specs.Holding.{IsWalkBy, with_lists}
+use Rattle.chassis_sim.specs.Holding.{AreZoned, IsWalkBy, with_lists}
 use Rattle.chassis_sim.specs.Passing as passing
 use Rattle.chassis_sim.specs.Passing.{IsTold, arrived}
 use Rattle.chassis_sim.specs.State as sim
@@ -57,7 +57,7 @@ use Rattle.sim_laws.proofs.journey_laws.Entering.{scene_there}
 use Rattle.sim_laws.proofs.journey_laws.Premises.{born_so, may_arrive}
 use Rattle.sim_laws.proofs.journey_laws.ReadFrames.{read_so, crossing_of}
 use Rattle.sim_laws.proofs.journey_laws.Ready.{is_ready}
-use Rattle.sim_laws.proofs.journey_laws.Rezoning.{rezoned_hold}
+use Rattle.sim_laws.proofs.journey_laws.Rezoning.{rezoned_hold, zoned_still}
 use Rattle.sim_laws.proofs.journey_laws.SentCrossings.{member_enabled}
 use Rattle.sim_laws.proofs.journey_laws.Telling.{at_home_still, other, led, led_sound, told_effects, told_held}
 use Rattle.sim_laws.proofs.journey_laws.VisitWays.{IsAimed, arrival_on}
@@ -109,7 +109,7 @@ module _ (m : State) (zones : Zoned) (sets : Sets) (more : ℕ) (s new : sim.Sim
 
   -- ---- with its ends
 
-  module _ (x : Crossing) (waits : sim.numbered m.waiting n ≡ Some x) (own : List End) (lists : Lists) (zs : List (Name × ZoneLists)) (hold : (c : Name) (held : ZoneLists) → at_name zs c ≡ Some held → HoldLists (zones_on zones.numbers c) held lists)
+  module _ (x : Crossing) (waits : sim.numbered m.waiting n ≡ Some x) (own : List End) (lists : Lists) (zs : List (Name × ZoneLists)) (hold : (c : Name) (held : ZoneLists) → at_name zs c ≡ Some held → HoldLists (zones_on zones.numbers c) held lists) (zoned : AreZoned s.chassis zs)
       (steps : List Step) (effects : List Effect) (owners : list_owners lists ≡ list_owners m.lists) (numbered : AllZip (IsNumbered m.keys) own effects) (on : AreEndsOn x.home n own) (none : crossings_in own ≡ [])
       (is : (choices : List Choice) → arrive_at (scenes_of m x.home) n x (trail_with m.lists (choices_in own ++ choices) []) ≡ trail_with lists choices own)
       (told : IsTold (record (arrived s n keep) { zones = zs }) x.home (start_of.Frame n) steps effects before after new) where
@@ -139,7 +139,7 @@ module _ (m : State) (zones : Zoned) (sets : Sets) (more : ℕ) (s new : sim.Sim
             rest = refl;
           };
           sound = led_sound m zones more more lists rest own u (at_home_still m.config m.lists lists owners u.at_home) (crossings_rest keep m n u.crossings) may_none few_then;
-          held = told_held m zones.numbers sets s h lists rest zs (arrived s n keep).waiting hold frames x.home (start_of.Frame n) steps own effects numbered on before after new told;
+          held = told_held m zones.numbers sets s h lists rest zs (arrived s n keep).waiting hold frames x.home (start_of.Frame n) steps own effects numbered on before after new told zoned;
         } in
         record { journey = journey; none_sent = none; waiting = ap (λ xs. rest ++ numbered_from m.next xs) none ∙ append-nil rest }
 
@@ -185,14 +185,14 @@ module _ (m : State) (zones : Zoned) (sets : Sets) (more : ℕ) (s new : sim.Sim
     pub comes_through : IsArrival
     comes_through =
         let scenes = scene_there m x.home ((h.held x.home).0 (is_some_of (at_name s.chassis x.home) flows there)) in
-        came x waits w.own w.after (with_lists s.zones x.home left) (rezoned_hold m zones u.bound sets s h x.home lists listed w.after left w.hold w.others) steps effects w.owners w.numbered w.on w.crossings
+        came x waits w.own w.after (with_lists s.zones x.home left) (rezoned_hold m zones u.bound sets s h x.home lists listed w.after left w.hold w.others) (zoned_still s.chassis s.zones x.home left h.zoned) steps effects w.owners w.numbered w.on w.crossings
         (λ choices. ap (λ o. arrive_at o n x (trail_with m.lists (choices_in w.own ++ choices) [])) scenes ∙ w.is choices []) told
 
   -- ---- where its chassis is gone
 
   pub comes_lost : (x : Crossing) → sim.numbered m.waiting n ≡ Some x → ¬ Among x.home m.config.chassis → IsTold (arrived s n keep) x.home (start_of.Frame n) [] (effect.Lost ∷ []) before after new → IsArrival
   comes_lost x waits gone told =
-      came x waits (is_lost n ∷ []) m.lists s.zones h.zones [] (effect.Lost ∷ []) refl (IsNumbered.lost, tt) (refl, tt) refl
+      came x waits (is_lost n ∷ []) m.lists s.zones h.zones h.zoned [] (effect.Lost ∷ []) refl (IsNumbered.lost, tt) (refl, tt) refl
       (λ choices. ap (λ o. arrive_at o n x (trail_with m.lists choices [])) (no_scene m x.home gone)) told
 
   pub arrives_by : FillingLaw → ArrivingLaw → WholeWalkLaw → (by : Choosing) → ((x : Crossing) → sim.numbered m.waiting n ≡ Some x → HasVirtualPorts m.config.net x.datapath.name) → passing.IsArrived by s n keep m.clock before after new → IsArrival

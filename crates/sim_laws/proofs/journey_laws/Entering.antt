@@ -36,7 +36,7 @@ use Rattle.switch_engine.specs.declared.walk.Start.TheVariants as start_of
 use Rattle.switch_engine.specs.declared.walk.Step.{Step}
 use Rattle.tunnel_keys.proofs.HeldKeys.{found}
 use Rattle.sim_laws.proofs.journey_laws.Ready.{is_ready}
-use Rattle.sim_laws.proofs.journey_laws.Rezoning.{rezoned_hold}
+use Rattle.sim_laws.proofs.journey_laws.Rezoning.{rezoned_hold, zoned_still}
 use Rattle.sim_laws.proofs.journey_laws.SentCrossings.{IsOwn}
 use Rattle.sim_laws.proofs.journey_laws.Telling.{at_home_still, led, led_sound, told_effects, told_held}
 use Rattle.sim_laws.proofs.journey_laws.VisitWays.{visit_sends}
@@ -120,7 +120,7 @@ module _ (fills : FillingLaw) (visits : VisitLaw) (whole_walk : WholeWalkLaw) (m
               rest = refl;
             };
             sound = led_sound m zones more (more + 64) w.after m.waiting w.own u (at_home_still m.config m.lists w.after w.owners u.at_home) u.crossings (λ x among. (w.crossings.0 x among).may) (omega (arith, few, sent));
-            held = told_held m zones.numbers sets s h w.after m.waiting (with_lists s.zones chassis left) s.waiting hold_after h.waiting chassis (start_of.Port i.name) steps w.own effects w.numbered w.on before after new told;
+            held = told_held m zones.numbers sets s h w.after m.waiting (with_lists s.zones chassis left) s.waiting hold_after h.waiting chassis (start_of.Port i.name) steps w.own effects w.numbered w.on before after new told (zoned_still s.chassis s.zones chassis left h.zoned);
           };
           sent = w.crossings.0;
           waiting = refl;

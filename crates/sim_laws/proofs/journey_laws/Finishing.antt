@@ -94,6 +94,7 @@ module _ (m : State) (zones : Zoned) (sets : Sets) (more : ℕ) (s : SimState) (
       held = h.held;
       members = h.members;
       tables = h.tables;
+      zoned = h.zoned;
       zones = h.zones;
       waiting = h.waiting;
       next = h.next;
@@ -140,6 +141,7 @@ module _ (m : State) (zones : Zoned) (sets : Sets) (more : ℕ) (s : SimState) (
           held = h.held;
           members = h.members;
           tables = λ c flows is. flows_settle m zones.numbers sets c flows (h.tables c flows is);
+          zoned = h.zoned;
           zones = h.zones;
           waiting = h.waiting ∙ ap (λ ws. map (frame_of_crossing m.keys) ws) e ∙ sym (ap (λ ws. map (frame_of_crossing (settled m.keys)) ws) e);
           next = h.next;

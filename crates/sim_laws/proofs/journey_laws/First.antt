@@ -137,6 +137,7 @@ first = (
     held = λ c. (λ h. let s = found (at_name nothing_held.chassis c) h in absurd (none-some s.0 s.1), λ h. absurd (among_none c h));
     members = no_members;
     tables = λ c flows e. absurd (none-some flows e);
+    zoned = λ c. refl;
     zones = λ c lists e. absurd (none-some lists e);
     waiting = refl;
     next = refl;

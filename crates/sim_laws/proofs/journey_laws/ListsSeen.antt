@@ -83,7 +83,7 @@ module _ (s : sim.SimState) (zones : Zoned) (whose : Name → ZoneUse) (lists : 
       seen_too listed_too
 
 pub lists_are_seen : SeenListsLaw
-lists_are_seen m zones sets more s u h zoned = λ i. record { ports = ports_seen i; dnats = routers_seen zone.Dnat m.lists.dnats u.at_home.dnats i; snats = routers_seen zone.Snat m.lists.snats u.at_home.snats i }
+lists_are_seen m zones sets more s u h = λ i. record { ports = ports_seen i; dnats = routers_seen zone.Dnat m.lists.dnats u.at_home.dnats i; snats = routers_seen zone.Snat m.lists.snats u.at_home.snats i }
   where
     home_at : (q c : Name) → at zones.homes.ports q ≡ Some c → at m.config.bindings q ≡ Some c
     home_at q c home = ap (λ (k : KnownHomes). at k.ports q) (sym u.bound.homes) ∙ home
@@ -92,7 +92,7 @@ lists_are_seen m zones sets more s u h zoned = λ i. record { ports = ports_seen
     in_zone : (q c : Name) (list : ConnectionList) → at zones.homes.ports q ≡ Some c → at m.lists.ports q ≡ Some list → list_in (at_name s.zones c) (number_on zones.numbers c (zone.Port q)) ≡ list
     in_zone q c list home own =
         let z = found (number_on zones.numbers c (zone.Port q)) ((u.bound.zoned.at_home c (zone.Port q)).0 home) in
-        let lists = found (at_name s.zones c) (zoned c ∙ (h.held c).1 (u.bound.chassis_there q c (home_at q c home))) in
+        let lists = found (at_name s.zones c) (h.zoned c ∙ (h.held c).1 (u.bound.chassis_there q c (home_at q c home))) in
         let held = h.zones c lists.0 lists.1 (of_port q) z.0 z.1 in
         ap (λ (o : Option ZoneLists). list_in o (number_on zones.numbers c (zone.Port q))) lists.1
         ∙ ap (list_in (Some lists.0)) z.1

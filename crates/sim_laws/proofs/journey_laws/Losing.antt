@@ -29,6 +29,6 @@ loses_so m zones sets more s n u h = (
     few = u.few;
     few_sent = u.few_sent;
   },
-  held_with m zones.numbers sets s h m.lists (remove_entry (is_at (nat_cmp n)) m.waiting) m.next s.zones (remove_entry (is_at (nat_cmp n)) s.waiting) s.next h.zones
+  held_with m zones.numbers sets s h m.lists (remove_entry (is_at (nat_cmp n)) m.waiting) m.next s.zones (remove_entry (is_at (nat_cmp n)) s.waiting) s.next h.zones h.zoned
       (ap (λ ws. remove_entry (is_at (nat_cmp n)) ws) h.waiting ∙ removed_map (λ (x : Crossing). (frame_of_crossing m.keys (0, x)).1) m.waiting n) h.next,
 )

@@ -1,13 +1,15 @@
--- The zones of all chassis hold the lists, once those of one chassis were written.
-use Rattle.std.specs.Prelude.{◌≡◌, ◌≢◌, ℕ, Some, is_some}
+-- The zones of all chassis hold the lists, once those of one chassis were written, and just the chassis that are held have zones.
+use Rattle.std.specs.Prelude.{◌≡◌, ◌≢◌, ℕ, List, Some, is_some}
 use Rattle.std.proofs.Common.{sym, ap, ◌∙◌, subst, inl, inr}
 use Rattle.std.proofs.lemmas.Bool.{false_from_ne_true}
 use Rattle.std.proofs.lemmas.Option.{same_Some}
-use Rattle.chassis_sim.specs.Holding.{with_lists}
+use Rattle.chassis_sim.proofs.Lookups.{written_some}
+use Rattle.chassis_sim.specs.Holding.{AreZoned, with_lists}
 use Rattle.chassis_sim.specs.State as sim
 use Rattle.chassis_sim.specs.State.{at_name}
 use Rattle.conn_zones.specs.Zoning.{Zoned, KnownHomes, home_for}
 use Rattle.conn_zones.specs.declared.numbers.ZoneUse.TheVariants as zone
+use Rattle.flow_table.specs.declared.flow.Flow.{Flow}
 use Rattle.match_cubes.specs.declared.sets.Sets.{Sets}
 use Rattle.net_model.specs.State.{State}
 use Rattle.net_model.specs.Trail.{Lists, ListOwner, of_port, dnat_of, snat_of}
@@ -22,6 +24,10 @@ use Rattle.sim_laws.proofs.pipelines.SetValues.{set_same, set_apart}
 use Rattle.sim_laws.specs.journeys.Holding.{HoldsNetwork}
 use Rattle.sim_laws.specs.journeys.InState.{zones_on}
 use Rattle.sim_laws.specs.pipelines.HeldLists.{list_there, HoldLists}
+
+-- the same chassis have zones once lists of one are written
+pub zoned_still : (held : List (Name × List Flow)) (zones : List (Name × ZoneLists)) (chassis : Name) (left : ZoneLists) → AreZoned held zones → AreZoned held (with_lists zones chassis left)
+zoned_still held zones chassis left zoned c = written_some (same_name chassis) (same_name c) zones left ∙ zoned c
 
 module _ (m : State) (zones : Zoned) (bound : AreBound m.config zones) (sets : Sets) (s : sim.SimState) (h : HoldsNetwork m zones.numbers sets s) (chassis : Name) (lists : ZoneLists) (listed : at_name s.zones chassis ≡ Some lists)
     (after : Lists) (left : ZoneLists) (hold : HoldLists (zones_on zones.numbers chassis) left after) (others : (owner : ListOwner) → ¬ IsHere m.config chassis owner → list_there after owner ≡ list_there m.lists owner) where

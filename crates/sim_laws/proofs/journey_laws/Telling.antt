@@ -2,6 +2,7 @@
 use Rattle.std.specs.Prelude.{◌≡◌, ◌≤◌, ◌+◌, ◌*◌, ◌^◌, ◌++◌, ℕ, List, [], ◌∷◌, length, map, Some, refl}
 use Rattle.std.specs.List.{AllZip}
 use Rattle.std.proofs.Common.{sym, ap, ◌∙◌, subst}
+use Rattle.chassis_sim.specs.Holding.{AreZoned}
 use Rattle.chassis_sim.specs.InNames.{all_in_names, arrived_as, frames_sent}
 use Rattle.chassis_sim.specs.Passing.{IsTold}
 use Rattle.chassis_sim.specs.State as sim
@@ -101,14 +102,15 @@ led_sound m zones more most lists waiting ends u at_home c may few = record {
 module _ (m : State) (numbers : GivenNumbers) (sets : Sets) (s : sim.SimState) (h : HoldsNetwork m numbers sets s) where
   -- with zones that hold the lists, and with the frames of the crossings
   pub held_with : (lists : Lists) (waiting : List (ℕ × Crossing)) (next : ℕ) (zones : List (Name × ZoneLists)) (frames : List (ℕ × WaitingFrame)) (then : ℕ)
-      → ((c : Name) (held : ZoneLists) → at_name zones c ≡ Some held → HoldLists (zones_on numbers c) held lists) → frames ≡ map (frame_of_crossing m.keys) waiting → then ≡ next
+      → ((c : Name) (held : ZoneLists) → at_name zones c ≡ Some held → HoldLists (zones_on numbers c) held lists) → AreZoned s.chassis zones → frames ≡ map (frame_of_crossing m.keys) waiting → then ≡ next
       → HoldsNetwork (other m lists waiting next) numbers sets (record s { zones = zones; waiting = frames; next = then })
-  held_with lists waiting next zones frames then hold waits is = record {
+  held_with lists waiting next zones frames then hold zoned waits is = record {
     bindings = h.bindings;
     names = record { datapaths = h.names.datapaths; ports = h.names.ports };
     held = h.held;
     members = h.members;
     tables = h.tables;
+    zoned = zoned;
     zones = hold;
     waiting = waits;
     next = is;
@@ -137,8 +139,8 @@ module _ (m : State) (numbers : GivenNumbers) (sets : Sets) (s : sim.SimState) (
         ∙ ap (λ ws. ws ++ map (frame_of_crossing m.keys) (numbered_from m.next (crossings_in ends))) waits
         ∙ sym (map_both (frame_of_crossing m.keys) waiting (numbered_from m.next (crossings_in ends)))
 
-    pub told_held : HoldsNetwork (led m lists waiting ends) numbers sets new
-    told_held =
+    pub told_held : AreZoned s.chassis zones → HoldsNetwork (led m lists waiting ends) numbers sets new
+    told_held zoned =
         subst (λ z. HoldsNetwork (led m lists waiting ends) numbers sets z) (sym told.state)
-        (held_with lists (waiting ++ numbered_from m.next (crossings_in ends)) (m.next + length (crossings_in ends)) zones _ _ hold frames_are
+        (held_with lists (waiting ++ numbered_from m.next (crossings_in ends)) (m.next + length (crossings_in ends)) zones _ _ hold zoned frames_are
         (next_named m.keys old own_names chassis from s.next ends effects keyed ∙ ap (λ n. n + length (crossings_in ends)) h.next))

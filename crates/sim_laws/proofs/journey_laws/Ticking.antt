@@ -1,11 +1,12 @@
 -- The clock goes on: idle connections go in the network, and on each chassis.
-use Rattle.std.specs.Prelude.{◌≡◌, ◌+◌, ℕ, nat_eq, Bool, true, false, cond, List, [], ◌∷◌, map, Option, Some, None, option_map, refl}
+use Rattle.std.specs.Prelude.{◌≡◌, ◌+◌, ℕ, nat_eq, Bool, true, false, cond, List, [], ◌∷◌, map, Option, Some, None, option_map, is_some, refl}
 use Rattle.std.specs.BTreeMap.{is_at}
 use Rattle.std.specs.Cmp.Lexicographic.{slice_cmp}
 use Rattle.std.specs.Map.{keys_of, lookup}
 use Rattle.std.specs.Ordering.{nat_cmp}
 use Rattle.std.proofs.Common.{sym, ap, ◌∙◌, subst}
 use Rattle.std.proofs.lemmas.Option.{none-some, same_Some}
+use Rattle.chassis_sim.proofs.Lookups.{map_some}
 use Rattle.chassis_sim.specs.State.{at_name}
 use Rattle.chassis_sim.specs.Tables.{seen_by}
 use Rattle.conn_table.specs.Connections.{ConnectionList, expired}
@@ -99,6 +100,7 @@ ticks m zones sets more s seconds u h = (
     held = h.held;
     members = h.members;
     tables = h.tables;
+    zoned = λ c. ap is_some (looked_over (all_expired (m.clock + seconds)) (same_name c) s.zones) ∙ map_some (all_expired (m.clock + seconds)) (at_name s.zones c) ∙ h.zoned c;
     zones = all_hold (m.clock + seconds) zones.numbers s.zones m.lists h.zones;
     waiting = h.waiting;
     next = h.next;

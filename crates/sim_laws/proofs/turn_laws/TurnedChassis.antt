@@ -5,7 +5,9 @@ use Rattle.std.specs.Map.{keys_of}
 use Rattle.std.proofs.Common.{sym, ap, ◌∙◌, subst, arith, inl, inr}
 use Rattle.std.proofs.lemmas.Option.{none-some, same_Some}
 use Rattle.chassis_sim.proofs.Lookups.{set_append}
+use Rattle.chassis_sim.proofs.Rezoning as rezoning
 use Rattle.chassis_sim.specs.Changing.{AllAreDeltas, AreEmptied, AreReplaced, IsApplied, IsDeltaOfAny, come, gone, without_zone}
+use Rattle.chassis_sim.specs.Holding.{AreZoned}
 use Rattle.chassis_sim.specs.Settings.{set_in_turn}
 use Rattle.chassis_sim.specs.State as sim
 use Rattle.chassis_sim.specs.State.{at_name}
@@ -168,6 +170,13 @@ module _ {T : Type 0} (flows_of : T → List Flow) (m : State) (numbers : GivenN
     abbrev zones_between : Name → Option ZoneLists
     zones_between c = set_in_turn same_name (map gone change.removed ++ map without_zone change.added) c (at_name s.zones c)
 
+    -- just the chassis that are held have zones
+    pub zoned_then : AreZoned new.chassis new.zones
+    zoned_then c =
+        rezoning.zoned_still flows_of change c (at_name s.chassis c) (between c) (set_in_turn same_name (map gone change.removed) c (between c)) (at_name new.chassis c)
+        (at_name s.zones c) (set_in_turn same_name (map gone change.removed) c (at_name s.zones c)) (zones_between c) (at_name new.zones c)
+        (h.zoned c) (made.chassis c).1 refl (flows_are c) refl (set_append same_name (map gone change.removed) (map without_zone change.added) c (at_name s.zones c)) (made.zones c)
+
     -- who stays has the zones that it had
     pub zones_stay : (c : Name) → Among c m.config.chassis → Among c next → zones_between c ≡ at_name s.zones c
     zones_stay c was then =
@@ -202,6 +211,7 @@ module _ {T : Type 0} (flows_of : T → List Flow) (exact : IsExact) where
     held = λ c. (there_held flows_of m zones.numbers sets turn.next.chassis After change s h t.tables new made exact c, held_there flows_of m zones.numbers sets turn.next.chassis After change s h t.tables new made exact c);
     members = t.members;
     tables = flows_then flows_of m zones.numbers sets turn.next.chassis After change s h t.tables new made exact;
+    zoned = zoned_then flows_of m zones.numbers sets turn.next.chassis After change s h t.tables new made exact;
     zones = hold;
     waiting = made.waiting ∙ h.waiting ∙ sym t.frames;
     next = made.next ∙ h.next;

@@ -1,6 +1,5 @@
 -- The connection lists of the network, as the zones of the chassis have them.
 use Rattle.std.specs.Prelude.{◌≡◌, ℕ, List, [], map, Option, Some, None, unwrap_or}
-use Rattle.chassis_sim.specs.Holding.{AreZoned}
 use Rattle.chassis_sim.specs.State.{SimState, at_name}
 use Rattle.conn_table.specs.Connections.{ConnectionList}
 use Rattle.conn_zones.specs.Zoning.{Zoned, GivenNumbers, number_on}
@@ -32,8 +31,8 @@ lists_seen zones held = record {
   snats = lists_at zones.numbers held Snat zones.homes.routers;
 }
 
--- They are the lists of the network. Just the chassis that are held have zones.
+-- They are the lists of the network.
 abbrev pub SeenListsLaw : Type 0
 SeenListsLaw =
     (m : State) (zones : Zoned) (sets : Sets) (more : ℕ) (s : SimState)
-    → IsUnderWay m zones more → HoldsNetwork m zones.numbers sets s → AreZoned s.chassis s.zones → m.lists ≡ lists_seen zones s.zones
+    → IsUnderWay m zones more → HoldsNetwork m zones.numbers sets s → m.lists ≡ lists_seen zones s.zones

@@ -170,7 +170,6 @@ impl World {
             Err(SimFault::NotBound(_)) => unreachable!(),
             Err(SimFault::NoFrame(_)) => unreachable!(),
         }
-        self.sim.state_holds();
         self.keep_crossings(port, &out.effects.as_slice()[before..])?;
         Ok(())
     }
@@ -196,7 +195,6 @@ impl World {
             Err(SimFault::NotBound(_)) => unreachable!(),
             Err(SimFault::NoFrame(_)) => unreachable!(),
         }
-        self.sim.state_holds();
         if !keep {
             self.crossings.remove(&frame);
         }

@@ -10,10 +10,10 @@ pub returns-clause-of_lines : goal.returns-clause-of_lines
 returns-clause-of_lines c = same_events
 
 pub returns-clause-of_events : goal.returns-clause-of_events
-returns-clause-of_events c = one.one_run
+returns-clause-of_events c = one.one_run c.packets_count.ensures.enters c.packets_count.ensures.arrives c.events_count.ensures.drains c.events_count.ensures.through
 
 pub returns-clause-of_input : goal.returns-clause-of_input
-returns-clause-of_input c = one.one_run_of_lines
+returns-clause-of_input c = one.one_run_of_lines c.packets_count.ensures.enters c.packets_count.ensures.arrives c.events_count.ensures.drains c.events_count.ensures.through
 
 pub returns-clause-network : goal.returns-clause-network
 returns-clause-network c = one.network_run

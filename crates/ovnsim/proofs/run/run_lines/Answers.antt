@@ -1,4 +1,4 @@
-use Rattle.std.proofs.Common.{◌+◌, cond, ap, refl, sym, ◌∙◌, arith}
+use Rattle.std.proofs.Common.{◌+◌, cond, ap, sym, ◌∙◌, arith}
 use Rattle.ovnsim.proofs.RunSteps.{ran_start, turn_event, turn_passed}
 use Rattle.ovnsim.proofs.Stops.{at_end, give_stands, next_stands, starts, stays_at_end}
 use Rattle.ovnsim.proofs.OneEvent.{one_more_event, passed_on}

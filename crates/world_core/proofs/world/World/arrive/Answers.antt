@@ -34,12 +34,11 @@ returns-then-not-keep c =
     let names = c.remove.new.self.entries in
     let names_are : names ≡ all_names (waiting_on c.args.keep c.args.frame old.state.waiting) = c.remove.ensures.entries ∙ removed_names c.self.inside.crossings.entries old.sim.waiting c.args.frame ∙ ap (λ k. all_names (waiting_on k c.args.frame old.state.waiting)) (sym c.if-not-keep.true) in
     let s = c.arrive.new.self.state in
-    let zoned = c.state_holds.ensures.state.zoned in
     let left = crossings_of names s.waiting in
     let kept : left ≡ waiting_on c.args.keep c.args.frame old.state.waiting =
-    arrived_seen c.journeys_refine.ensures.arrives old c.args.frame c.args.keep c.args.out.now c.arrive.new.out s names under_way built held c.in-Ok.ensures.answer.0 zoned names_are in
+    arrived_seen c.journeys_refine.ensures.arrives old c.args.frame c.args.keep c.args.out.now c.arrive.new.out s names under_way built held c.in-Ok.ensures.answer.0 names_are in
     subst (λ (v : WorldView). HasArrived v c.args.frame c.args.keep c.args.out.now c.arrive.new.out (world_with old left s)) c.self.view_is
-    (arrived_passed c.journeys_refine.ensures.arrives old c.args.frame c.args.keep c.args.out.now c.arrive.new.out s left under_way built held c.in-Ok.ensures.answer.0 zoned kept)
+    (arrived_passed c.journeys_refine.ensures.arrives old c.args.frame c.args.keep c.args.out.now c.arrive.new.out s left under_way built held c.in-Ok.ensures.answer.0 kept)
 
 pub returns-else-not-keep : goal.returns-else-not-keep
 returns-else-not-keep c =
@@ -50,9 +49,8 @@ returns-else-not-keep c =
     let names = c.self.inside.crossings.entries in
     let names_are : names ≡ all_names (waiting_on c.args.keep c.args.frame old.state.waiting) = sym (names_back names old.sim.waiting) ∙ ap (λ k. all_names (waiting_on k c.args.frame old.state.waiting)) (sym c.if-not-keep.false) in
     let s = c.arrive.new.self.state in
-    let zoned = c.state_holds.ensures.state.zoned in
     let left = crossings_of names s.waiting in
     let kept : left ≡ waiting_on c.args.keep c.args.frame old.state.waiting =
-    arrived_seen c.journeys_refine.ensures.arrives old c.args.frame c.args.keep c.args.out.now c.arrive.new.out s names under_way built held c.in-Ok.ensures.answer.0 zoned names_are in
+    arrived_seen c.journeys_refine.ensures.arrives old c.args.frame c.args.keep c.args.out.now c.arrive.new.out s names under_way built held c.in-Ok.ensures.answer.0 names_are in
     subst (λ (v : WorldView). HasArrived v c.args.frame c.args.keep c.args.out.now c.arrive.new.out (world_with old left s)) c.self.view_is
-    (arrived_passed c.journeys_refine.ensures.arrives old c.args.frame c.args.keep c.args.out.now c.arrive.new.out s left under_way built held c.in-Ok.ensures.answer.0 zoned kept)
+    (arrived_passed c.journeys_refine.ensures.arrives old c.args.frame c.args.keep c.args.out.now c.arrive.new.out s left under_way built held c.in-Ok.ensures.answer.0 kept)

@@ -1,6 +1,5 @@
 use Rattle.std.proofs.Common.{refl, ◌≡◌, ◌++◌, ℕ, List, drop, length, sym, ap, ◌∙◌, subst}
 use Rattle.std.proofs.lemmas.List.{take_rest}
-use Rattle.chassis_sim.specs.Holding.{AreZoned}
 use Rattle.chassis_sim.specs.Passing.{IsInjected}
 use Rattle.chassis_sim.specs.State as sim
 use Rattle.chassis_sim.specs.declared.out.SimOut.{SimOut}
@@ -28,17 +27,17 @@ can_also m waiting p effects ws same can = subst (λ l. CanBeKept (record m { wa
 
 -- the packet goes in from the world as it is kept
 goes : EntryJourneyLaw → (w : Inside) (v : WorldView) → seen_of w ≡ v → (p : Name) (packet : inet.Packet) (before after : SimOut) (s : sim.SimState) (effects : List NetEffect) → IsUnderWay v.state v.zones 0 → IsBuilt v.state.config.net → AreHeld v.state v.zones v.sim → IsWhole packet
-    → IsInjected any_legal w.sim.state p 0 packet before after s → AreZoned s.chassis s.zones → effects ≡ drop (length before.effects) after.effects → GoesOn (seen_of w) p packet before after s effects
-goes law w v view p packet before after s effects under_way built held whole injected zoned are =
+    → IsInjected any_legal w.sim.state p 0 packet before after s → effects ≡ drop (length before.effects) after.effects → GoesOn (seen_of w) p packet before after s effects
+goes law w v view p packet before after s effects under_way built held whole injected are =
     goes_on law (seen_of w) p packet before after s effects (subst (λ (v : WorldView). IsUnderWay v.state v.zones 0) (sym view) under_way) (subst (λ (v : WorldView). IsBuilt v.state.config.net) (sym view) built)
-    (subst (λ (v : WorldView). AreHeld v.state v.zones v.sim) (sym view) held) whole injected zoned are
+    (subst (λ (v : WorldView). AreHeld v.state v.zones v.sim) (sym view) held) whole injected are
 
 pub keep_crossings-requires-clause-sent : goal.keep_crossings-requires-clause-sent
 keep_crossings-requires-clause-sent c =
     let old = seen_of c.self.inside in
     let s = c.inject.new.self.state in
     let g =
-    goes c.journeys_refine.ensures.enters c.self.inside c.args.self.now c.self.view_is c.args.port.now c.args.packet c.args.out.now c.inject.new.out c.inject.new.self.state _ c.requires.under_way c.requires.built c.requires.held c.requires.whole c.in-Ok.ensures.answer.0 c.state_holds.ensures.state.zoned
+    goes c.journeys_refine.ensures.enters c.self.inside c.args.self.now c.self.view_is c.args.port.now c.args.packet c.args.out.now c.inject.new.out c.inject.new.self.state _ c.requires.under_way c.requires.built c.requires.held c.requires.whole c.in-Ok.ensures.answer.0
     (take_rest c.as_slice.result.now c.len-before.result ∙ ap (λ l. drop c.len-before.result l) c.as_slice.ensures ∙ ap (λ n. drop n c.inject.new.out.effects) c.len-before.ensures) in
     let k = (behind_with old g.crossings s).state in
     let seen = seen_front k old.state.waiting g.crossings s refl g.entered.under_way.crossings g.entered.held.waiting c.self.inside.crossings.entries (sym (names_back c.self.inside.crossings.entries old.sim.waiting)) in
@@ -49,7 +48,7 @@ keep_crossings-requires-clause-waiting c =
     let old = seen_of c.self.inside in
     let s = c.inject.new.self.state in
     let g =
-    goes c.journeys_refine.ensures.enters c.self.inside c.args.self.now c.self.view_is c.args.port.now c.args.packet c.args.out.now c.inject.new.out c.inject.new.self.state _ c.requires.under_way c.requires.built c.requires.held c.requires.whole c.in-Ok.ensures.answer.0 c.state_holds.ensures.state.zoned
+    goes c.journeys_refine.ensures.enters c.self.inside c.args.self.now c.self.view_is c.args.port.now c.args.packet c.args.out.now c.inject.new.out c.inject.new.self.state _ c.requires.under_way c.requires.built c.requires.held c.requires.whole c.in-Ok.ensures.answer.0
     (take_rest c.as_slice.result.now c.len-before.result ∙ ap (λ l. drop c.len-before.result l) c.as_slice.ensures ∙ ap (λ n. drop n c.inject.new.out.effects) c.len-before.ensures) in
     let k = (behind_with old g.crossings s).state in
     others_wait k old.state.waiting g.crossings s refl g.entered.under_way.crossings g.entered.held.waiting _ g.can.sent.frames
@@ -59,7 +58,7 @@ returns c =
     let old = seen_of c.self.inside in
     let s = c.inject.new.self.state in
     let g =
-    goes c.journeys_refine.ensures.enters c.self.inside c.args.self.now c.self.view_is c.args.port.now c.args.packet c.args.out.now c.inject.new.out c.inject.new.self.state _ c.requires.under_way c.requires.built c.requires.held c.requires.whole c.in-Ok.ensures.answer.0 c.state_holds.ensures.state.zoned
+    goes c.journeys_refine.ensures.enters c.self.inside c.args.self.now c.self.view_is c.args.port.now c.args.packet c.args.out.now c.inject.new.out c.inject.new.self.state _ c.requires.under_way c.requires.built c.requires.held c.requires.whole c.in-Ok.ensures.answer.0
     (take_rest c.as_slice.result.now c.len-before.result ∙ ap (λ l. drop c.len-before.result l) c.as_slice.ensures ∙ ap (λ n. drop n c.inject.new.out.effects) c.len-before.ensures) in
     let k = (behind_with old g.crossings s).state in
     let names = c.self.inside.crossings.entries in

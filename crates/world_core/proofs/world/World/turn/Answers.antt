@@ -47,12 +47,12 @@ returns-in_err-write_accepted-clause-same bounds c = let failed = err_from_is_er
 pub invariant_of-self-then-is_empty : goal.invariant_of-self-then-is_empty
 invariant_of-self-then-is_empty bounds c =
     let settles = ground_settles c.self.inside c.args.self.now c.self.view_is c.args.event.now c.requires.sound c.requires.room c.requires.admitted c.turn.new.self c.in_ok-turn.turn c.in_ok-turn.ensures.turn c.exact_flow.ensures c.turn.new.self.ground c.apply.new.self.ground c.turn.ensures.kept c.apply.ensures c.settle.new.self.ground c.settle.ensures (c.is_empty.ensures.0 c.if-is_empty.true) in
-    record { sound = λ _. sound_end c.self.inside c.args.self.now c.self.view_is c.args.event.now c.requires.sound c.requires.room c.requires.admitted c.turn.new.self c.in_ok-turn.turn c.in_ok-turn.ensures.turn c.exact_flow.ensures c.prepare.new.self.state c.apply-2.new.self.state c.prepare.ensures.kept c.apply-2.ensures c.state_holds.ensures.state.zoned c.settle.new.self.ground settles c.clear.new.self c.clear.ensures }
+    record { sound = λ _. sound_end c.self.inside c.args.self.now c.self.view_is c.args.event.now c.requires.sound c.requires.room c.requires.admitted c.turn.new.self c.in_ok-turn.turn c.in_ok-turn.ensures.turn c.exact_flow.ensures c.prepare.new.self.state c.apply-2.new.self.state c.prepare.ensures.kept c.apply-2.ensures c.settle.new.self.ground settles c.clear.new.self c.clear.ensures }
 
 pub invariant_of-self-else-is_empty : goal.invariant_of-self-else-is_empty
 invariant_of-self-else-is_empty bounds c =
     let waits = ground_waits c.self.inside c.args.self.now c.self.view_is c.args.event.now c.requires.sound c.requires.room c.requires.admitted c.turn.new.self c.in_ok-turn.turn c.in_ok-turn.ensures.turn c.exact_flow.ensures c.turn.new.self.ground c.apply.new.self.ground c.turn.ensures.kept c.apply.ensures (λ e. false≢true (sym c.if-is_empty.false ∙ c.is_empty.ensures.1 e)) in
-    record { sound = λ _. sound_end c.self.inside c.args.self.now c.self.view_is c.args.event.now c.requires.sound c.requires.room c.requires.admitted c.turn.new.self c.in_ok-turn.turn c.in_ok-turn.ensures.turn c.exact_flow.ensures c.prepare.new.self.state c.apply-2.new.self.state c.prepare.ensures.kept c.apply-2.ensures c.state_holds.ensures.state.zoned c.apply.new.self.ground waits c.clear.new.self c.clear.ensures }
+    record { sound = λ _. sound_end c.self.inside c.args.self.now c.self.view_is c.args.event.now c.requires.sound c.requires.room c.requires.admitted c.turn.new.self c.in_ok-turn.turn c.in_ok-turn.ensures.turn c.exact_flow.ensures c.prepare.new.self.state c.apply-2.new.self.state c.prepare.ensures.kept c.apply-2.ensures c.apply.new.self.ground waits c.clear.new.self c.clear.ensures }
 
 pub returns-clause-done : goal.returns-clause-done
 returns-clause-done bounds c =
@@ -62,7 +62,7 @@ returns-clause-done bounds c =
     subst (λ effects. text ≡ before ++ accepted_lines (event_count (seen_of c.self.inside).state + 1) effects 0) c.as_slice.ensures c.in_ok-write_accepted.ensures.ok in
     let waits = ground_waits c.self.inside c.args.self.now c.self.view_is c.args.event.now c.requires.sound c.requires.room c.requires.admitted c.turn.new.self c.in_ok-turn.turn c.in_ok-turn.ensures.turn c.exact_flow.ensures c.turn.new.self.ground c.apply.new.self.ground c.turn.ensures.kept c.apply.ensures in
     let settles = ground_settles c.self.inside c.args.self.now c.self.view_is c.args.event.now c.requires.sound c.requires.room c.requires.admitted c.turn.new.self c.in_ok-turn.turn c.in_ok-turn.ensures.turn c.exact_flow.ensures c.turn.new.self.ground c.apply.new.self.ground c.turn.ensures.kept c.apply.ensures in
-    let accepted = accepted_end c.self.inside c.args.self.now c.self.view_is c.args.event.now c.requires.sound c.requires.room c.requires.admitted c.turn.new.self c.in_ok-turn.turn c.in_ok-turn.ensures.turn c.exact_flow.ensures c.prepare.new.self.state c.apply-2.new.self.state c.prepare.ensures.kept c.apply-2.ensures c.state_holds.ensures.state.zoned in
+    let accepted = accepted_end c.self.inside c.args.self.now c.self.view_is c.args.event.now c.requires.sound c.requires.room c.requires.admitted c.turn.new.self c.in_ok-turn.turn c.in_ok-turn.ensures.turn c.exact_flow.ensures c.prepare.new.self.state c.apply-2.new.self.state c.prepare.ensures.kept c.apply-2.ensures in
     elim c.if-is_empty.branch [
       | then-is_empty w ↦
           subst (λ v. IsAccepted c.args.self.now (event_of_turn c.args.event.now) before text v) (sym w.self-is)
@@ -76,7 +76,7 @@ pub returns-clause-sound : goal.returns-clause-sound
 returns-clause-sound bounds c =
     let waits = ground_waits c.self.inside c.args.self.now c.self.view_is c.args.event.now c.requires.sound c.requires.room c.requires.admitted c.turn.new.self c.in_ok-turn.turn c.in_ok-turn.ensures.turn c.exact_flow.ensures c.turn.new.self.ground c.apply.new.self.ground c.turn.ensures.kept c.apply.ensures in
     let settles = ground_settles c.self.inside c.args.self.now c.self.view_is c.args.event.now c.requires.sound c.requires.room c.requires.admitted c.turn.new.self c.in_ok-turn.turn c.in_ok-turn.ensures.turn c.exact_flow.ensures c.turn.new.self.ground c.apply.new.self.ground c.turn.ensures.kept c.apply.ensures in
-    let sound = sound_end c.self.inside c.args.self.now c.self.view_is c.args.event.now c.requires.sound c.requires.room c.requires.admitted c.turn.new.self c.in_ok-turn.turn c.in_ok-turn.ensures.turn c.exact_flow.ensures c.prepare.new.self.state c.apply-2.new.self.state c.prepare.ensures.kept c.apply-2.ensures c.state_holds.ensures.state.zoned in
+    let sound = sound_end c.self.inside c.args.self.now c.self.view_is c.args.event.now c.requires.sound c.requires.room c.requires.admitted c.turn.new.self c.in_ok-turn.turn c.in_ok-turn.ensures.turn c.exact_flow.ensures c.prepare.new.self.state c.apply-2.new.self.state c.prepare.ensures.kept c.apply-2.ensures in
     elim c.if-is_empty.branch [
       | then-is_empty w ↦
           subst (λ v. IsSound v) (sym w.self-is)
