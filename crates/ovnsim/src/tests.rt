@@ -292,8 +292,63 @@ const PORT_SECURITY_OUTPUT: &[u8] = b"8 ok walks=0
 end events=10 accepted=10 refused=0 waiting=0
 ";
 
+// A rule lets a port begin connections; once it drops them, the answers of one that was there are blocked.
+const BLOCKED: &[u8] =
+    b"{\"edit\":[{\"add\":\"acl\",\"name\":\"a1\",\"switch\":\"s0\",\"direction\":\"from-lport\",\"priority\":1000,\"match\":\"inport == \\\"p1\\\" && udp\",\"action\":\"allow-related\"}]}
+{\"edit\":[{\"add\":\"acl\",\"name\":\"a2\",\"switch\":\"s0\",\"direction\":\"from-lport\",\"priority\":1000,\"match\":\"inport == \\\"p1\\\" && tcp\",\"action\":\"allow-related\"}]}
+{\"packet\":{\"port\":\"p1\",\"frame\":\"0a00000000020a000000000108004500001c00010000401166ce0a0000010a0000021388138900080000\"}}
+{\"packet\":{\"port\":\"p2\",\"frame\":\"0a00000000010a000000000208004500001c00010000401166ce0a0000020a0000011389138800080000\"}}
+{\"edit\":[{\"set\":\"acl\",\"name\":\"a1\",\"action\":\"drop\"}]}
+{\"packet\":{\"port\":\"p1\",\"frame\":\"0a00000000020a000000000108004500001c00010000401166ce0a0000010a0000021388138900080000\"}}
+{\"packet\":{\"port\":\"p2\",\"frame\":\"0a00000000010a000000000208004500001c00010000401166ce0a0000020a0000011389138800080000\"}}
+";
+
+const BLOCKED_OUTPUT: &[u8] = b"8 ok walks=0
+9 ok walks=0
+10 tunnel 1 hv1 hv2 024065580000010001028001000100020a00000000020a000000000108004500001c00010000401166ce0a0000010a0000021388138900080000
+10 out p2 0a00000000020a000000000108004500001c00010000401166ce0a0000010a0000021388138900080000
+10 ok walks=17
+11 tunnel 2 hv2 hv1 024065580000010001028001000200010a00000000010a000000000208004500001c00010000401166ce0a0000020a0000011389138800080000
+11 out p1 0a00000000010a000000000208004500001c00010000401166ce0a0000020a0000011389138800080000
+11 ok walks=17
+12 ok walks=0
+13 drop s0 p1 acl
+13 ok walks=6
+14 tunnel 3 hv2 hv1 024065580000010001028001000200010a00000000010a000000000208004500001c00010000401166ce0a0000020a0000011389138800080000
+14 drop s0 p1 blocked
+14 ok walks=15
+end events=14 accepted=14 refused=0 waiting=0
+";
+
+// An answer to a connection passes, and no more once a minute went by without a packet of it.
+const IDLE: &[u8] =
+    b"{\"edit\":[{\"add\":\"acl\",\"name\":\"a1\",\"switch\":\"s0\",\"direction\":\"from-lport\",\"priority\":1000,\"match\":\"inport == \\\"p1\\\" && udp\",\"action\":\"allow-related\"}]}
+{\"edit\":[{\"add\":\"acl\",\"name\":\"a3\",\"switch\":\"s0\",\"direction\":\"to-lport\",\"priority\":1000,\"match\":\"outport == \\\"p1\\\" && udp\",\"action\":\"drop\"}]}
+{\"packet\":{\"port\":\"p1\",\"frame\":\"0a00000000020a000000000108004500001c00010000401166ce0a0000010a0000021388138900080000\"}}
+{\"clock\":{\"seconds\":59}}
+{\"packet\":{\"port\":\"p2\",\"frame\":\"0a00000000010a000000000208004500001c00010000401166ce0a0000020a0000011389138800080000\"}}
+{\"clock\":{\"seconds\":60}}
+{\"packet\":{\"port\":\"p2\",\"frame\":\"0a00000000010a000000000208004500001c00010000401166ce0a0000020a0000011389138800080000\"}}
+";
+
+const IDLE_OUTPUT: &[u8] = b"8 ok walks=0
+9 ok walks=0
+10 tunnel 1 hv1 hv2 024065580000010001028001000100020a00000000020a000000000108004500001c00010000401166ce0a0000010a0000021388138900080000
+10 out p2 0a00000000020a000000000108004500001c00010000401166ce0a0000010a0000021388138900080000
+10 ok walks=17
+11 ok walks=0
+12 tunnel 2 hv2 hv1 024065580000010001028001000200010a00000000010a000000000208004500001c00010000401166ce0a0000020a0000011389138800080000
+12 out p1 0a00000000010a000000000208004500001c00010000401166ce0a0000020a0000011389138800080000
+12 ok walks=17
+13 ok walks=0
+14 tunnel 3 hv2 hv1 024065580000010001028001000200010a00000000010a000000000208004500001c00010000401166ce0a0000020a0000011389138800080000
+14 drop s0 p1 acl
+14 ok walks=15
+end events=14 accepted=14 refused=0 waiting=0
+";
+
 // What these events are, behind those of the two chassis, with the status and the output behind theirs.
-const BEHIND_TWO_CHASSIS: [(&str, &[u8], u8, &[u8]); 12] = [
+const BEHIND_TWO_CHASSIS: [(&str, &[u8], u8, &[u8]); 14] = [
     ("a frame to another chassis", TUNNEL, 0, TUNNEL_OUTPUT),
     ("a packet for its own port", LOOPBACK, 0, LOOPBACK_OUTPUT),
     (
@@ -316,6 +371,8 @@ const BEHIND_TWO_CHASSIS: [(&str, &[u8], u8, &[u8]); 12] = [
     ("edits of two operations", EDITS, 3, EDITS_OUTPUT),
     ("requests for addresses", ARP, 0, ARP_OUTPUT),
     ("port security", PORT_SECURITY, 0, PORT_SECURITY_OUTPUT),
+    ("a rule that is changed", BLOCKED, 0, BLOCKED_OUTPUT),
+    ("an idle connection", IDLE, 0, IDLE_OUTPUT),
 ];
 
 // ---- runs

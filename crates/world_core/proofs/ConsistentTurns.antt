@@ -14,7 +14,7 @@ use Rattle.world_core.specs.Zones.{home_change}
 use Rattle.world_core.proofs.NamesInOrder.{name_kept, names_few, names_sorted}
 use Rattle.world_core.proofs.RecordChanges.{bound_kept, bound_fresh, born_kept}
 use Rattle.world_core.proofs.WaitingFrames.{same_kept, way_on}
-use Rattle.world_core.proofs.FreedKeys.{counted, finished_consistent}
+use Rattle.world_core.proofs.FreedKeys.{clock_still, counted, finished_consistent}
 
 module _ (m : State) (zones : Zoned) (old : IsConsistent m zones) (room : event_count m < 2 ^ 42) where
   -- ---- a chassis
@@ -26,6 +26,7 @@ module _ (m : State) (zones : Zoned) (old : IsConsistent m zones) (room : event_
       let more = names_few m.config.chassis c in
       finished_consistent mid zones (record {
         built = old.built;
+        clock = clock_still m.clock m.accepted m.refused old.clock;
         at_rest = record {
           valid = old.at_rest.valid;
           no_router = old.at_rest.no_router;
@@ -46,6 +47,7 @@ module _ (m : State) (zones : Zoned) (old : IsConsistent m zones) (room : event_
       let n = counted mid in
       finished_consistent mid after (record {
         built = old.built;
+        clock = clock_still m.clock m.accepted m.refused old.clock;
         at_rest = record {
           valid = old.at_rest.valid;
           no_router = old.at_rest.no_router;

@@ -23,9 +23,9 @@ use Rattle.world_core.specs.Built.{IsBuilt, is_built_kind, is_built_record, is_b
 
 -- ---- what each operation keeps
 
--- of the records only switches, ports, address sets and port groups
+-- of the records only switches, ports, address sets, port groups and rules
 abbrev only_built : Network → Network
-only_built net = record empty_network { switches = net.switches; switch_ports = net.switch_ports; address_sets = net.address_sets; port_groups = net.port_groups }
+only_built net = record empty_network { switches = net.switches; switch_ports = net.switch_ports; address_sets = net.address_sets; port_groups = net.port_groups; acls = net.acls }
 
 -- the ports are virtual
 abbrev AreVirtual : Network → Type 0
@@ -37,7 +37,7 @@ changed_built (change.RouterPort mac networks peer) (row.RouterPort r) is so = a
 changed_built (change.SwitchPort addresses port_security enabled) (row.SwitchPort r) is so = is
 changed_built (change.AddressSet addresses) (row.AddressSet r) is so = refl
 changed_built (change.PortGroup ports) (row.PortGroup r) is so = refl
-changed_built (change.Acl priority matching action) (row.Acl r) is so = absurd (false≢true is)
+changed_built (change.Acl priority matching action) (row.Acl r) is so = refl
 changed_built (change.Route prefix nexthop) (row.Route r) is so = absurd (false≢true is)
 changed_built (change.Nat external_ip logical_ip) (row.Nat r) is so = absurd (false≢true is)
 changed_built (change.LoadBalancer vips switches routers) (row.LoadBalancer r) is so = absurd (false≢true is)
@@ -50,6 +50,7 @@ born_built n (row.Switch r) is = refl
 born_built n (row.SwitchPort r) is = is
 born_built n (row.AddressSet r) is = refl
 born_built n (row.PortGroup r) is = refl
+born_built n (row.Acl r) is = refl
 born_built n r is = absurd (false≢true is)
 
 module _ (net : Network) where
@@ -59,6 +60,7 @@ module _ (net : Network) where
   with_others (row.SwitchPort r) is h = ap (λ (m : Network). record m { switch_ports = put net.switch_ports r.name r }) h
   with_others (row.AddressSet r) is h = ap (λ (m : Network). record m { address_sets = put net.address_sets r.name r }) h
   with_others (row.PortGroup r) is h = ap (λ (m : Network). record m { port_groups = put net.port_groups r.name r }) h
+  with_others (row.Acl r) is h = ap (λ (m : Network). record m { acls = put net.acls r.name r }) h
   with_others r is h = absurd (false≢true is)
 
   -- and a built one leaves the ports so
@@ -85,6 +87,7 @@ module _ (net : Network) where
   built_at h kind.SwitchPort q is r found = let x = some_of row.SwitchPort (at net.switch_ports q) r found in ap is_built_record (sym x.2) ∙ h q x.0 x.1
   built_at h kind.AddressSet q is r found = let x = some_of row.AddressSet (at net.address_sets q) r found in ap is_built_record (sym x.2)
   built_at h kind.PortGroup q is r found = let x = some_of row.PortGroup (at net.port_groups q) r found in ap is_built_record (sym x.2)
+  built_at h kind.Acl q is r found = let x = some_of row.Acl (at net.acls q) r found in ap is_built_record (sym x.2)
   built_at h k q is r found = absurd (false≢true is)
 
 -- one operation

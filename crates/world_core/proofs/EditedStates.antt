@@ -62,7 +62,7 @@ use Rattle.world_core.proofs.StayingOwners.{bindings_stay, none_gone, still_ther
 use Rattle.world_core.proofs.StayingRecords.{ports_stay, switches_stay}
 use Rattle.world_core.proofs.TouchedRecords.{port_kept, port_with_switch, switch_kept}
 use Rattle.world_core.proofs.EditedWaiting.{edit_kept}
-use Rattle.world_core.proofs.FreedKeys.{counted, finished_consistent}
+use Rattle.world_core.proofs.FreedKeys.{clock_still, counted, finished_consistent}
 use Rattle.world_core.proofs.KeyLacks.{IsLack, datapaths_after, enough_keys, lack_is}
 use Rattle.world_core.proofs.NewKeys.{given_beside}
 use Rattle.world_core.proofs.RecordChanges.{bound_kept}
@@ -189,6 +189,7 @@ module _ (m : State) (zones : Zoned) (old : IsConsistent m zones) (room : event_
   pub consistent_then : IsConsistent (finished mid) zones
   consistent_then = finished_consistent mid zones (record {
     built = next_built;
+    clock = clock_still m.clock m.accepted m.refused old.clock;
     at_rest = record {
       valid = sound.valid;
       no_router = no_router next next_built;

@@ -1,5 +1,5 @@
 -- The empty world is sound.
-use Rattle.std.proofs.Common.{◌≡◌, ℕ, true, List, [], refl}
+use Rattle.std.proofs.Common.{◌≡◌, ℕ, true, List, [], arith, refl}
 use Rattle.std.proofs.lemmas.Option.{none-some}
 use Rattle.chassis_sim.specs.State as sim
 use Rattle.chassis_sim.specs.State.{nothing_held}
@@ -20,7 +20,7 @@ new_built : IsBuilt empty.config.net
 new_built = record { others = refl; ports = λ q port e. absurd (none-some port e) }
 
 pub new_sound : IsSound new_world
-new_sound = record { whole = refl; consistent = record { at_rest = nothing_first.0; built = new_built }; held = nothing_first.1 }
+new_sound = record { whole = refl; consistent = record { at_rest = nothing_first.0; built = new_built; clock = omega arith }; held = nothing_first.1 }
 
 pub are_no_zones : (zones : Zoned) → zones.homes ≡ nobody_home.homes → zones.numbers ≡ nobody_home.numbers → zones ≡ nobody_home
 are_no_zones zones homes numbers = λ i. record { homes = homes i; numbers = numbers i }

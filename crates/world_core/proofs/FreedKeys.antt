@@ -1,6 +1,6 @@
 -- A state stays consistent where retired keys are given up because nothing waits.
-use Rattle.std.specs.Prelude.{◌≡◌, ◌+◌, ℕ, List, [], ◌∷◌, refl}
-use Rattle.std.proofs.Common.{subst}
+use Rattle.std.specs.Prelude.{◌≡◌, ◌+◌, ◌*◌, ◌≤◌, ℕ, List, [], ◌∷◌, refl}
+use Rattle.std.proofs.Common.{arith, subst}
 use Rattle.ovn_base.specs.lists.Among.{Among}
 use Rattle.ovn_base.proofs.AmongLaws.{among_none}
 use Rattle.conn_zones.specs.Zoning.{Zoned}
@@ -64,5 +64,9 @@ module _ (c : State) (zones : Zoned) (old : IsAtRest c zones) where
   settles : IsAtRest (under (settled_where_none_waits c.waiting c.keys)) zones
   settles = by_waiting c.waiting refl
 
+-- with one event more the clock is still where it may be
+pub clock_still : (clock accepted refused : ℕ) → clock ≤ 1000000 * (accepted + refused) → clock ≤ 1000000 * (accepted + 1 + refused)
+clock_still clock accepted refused h = omega (arith, h)
+
 pub finished_consistent : (m : State) (zones : Zoned) → IsConsistent (counted m) zones → IsConsistent (finished m) zones
-finished_consistent m zones now = record { at_rest = settles (counted m) zones now.at_rest; built = now.built }
+finished_consistent m zones now = record { at_rest = settles (counted m) zones now.at_rest; built = now.built; clock = now.clock }

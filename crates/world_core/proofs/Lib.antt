@@ -2,6 +2,7 @@
 pub mod AcceptedTurns
 pub mod Aims
 pub mod ApartTables
+pub mod ClockEvents
 pub mod ConsistentTurns
 pub mod BuiltTables
 pub mod Counts

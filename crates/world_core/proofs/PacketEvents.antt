@@ -1,5 +1,5 @@
 -- What an event that takes packets leaves, once it is counted.
-use Rattle.std.specs.Prelude.{◌≡◌, ◌<◌, ◌^◌, ◌+◌, ◌++◌, ℕ, Bool, true, false, cond, List, [], None, refl}
+use Rattle.std.specs.Prelude.{◌≡◌, ◌<◌, ◌≤◌, ◌^◌, ◌+◌, ◌*◌, ◌++◌, ℕ, Bool, true, false, cond, List, [], None, refl}
 use Rattle.std.specs.Option.{option_and_then}
 use Rattle.std.proofs.Common.{sym, ap, ◌∙◌, subst, arith}
 use Rattle.std.proofs.lemmas.Bool.{false≢true}
@@ -27,6 +27,7 @@ use Rattle.switch_engine.specs.Outcome.{any_legal}
 use Rattle.switch_engine.specs.Zones.{ZoneLists, zone_at}
 use Rattle.switch_engine.specs.declared.effect.NetEffect.{NetEffect}
 use Rattle.switch_engine.specs.declared.walk.Walk.{Walk}
+use Rattle.world_core.proofs.FreedKeys.{clock_still}
 use Rattle.world_core.proofs.Refusal.{taken_of}
 use Rattle.world_core.specs.Built.{IsBuilt}
 use Rattle.world_core.specs.EventPasses.{Passes}
@@ -50,13 +51,14 @@ finish_done old event effects walks mid new count t room still does passes u hel
     let whole : mid.whole ≡ false = ap (λ (w : WorldView). w.whole) rest ∙ t.taken in
     let zoned : mid.zones ≡ old.zones = ap (λ (w : WorldView). w.zones) rest in
     let built : IsBuilt mid.state.config.net = subst (λ (m : State). IsBuilt m.config.net) (sym still) t.consistent.built in
+    let clock : mid.state.clock ≤ 1000000 * event_count mid.state = subst (λ (m : State). m.clock ≤ 1000000 * event_count m) (sym still) t.consistent.clock in
     record {
       step = record { mid = mid.state; does = does; state = ap (λ (w : WorldView). w.state) then };
       passed = subst (λ s. Passes old.state.clock old.sim event (record { effects = effects; walks = walks }) s) (sym (ap (λ (w : WorldView). w.sim) then)) passes;
       counts = counts;
       zones = subst (λ z. Rezones event old.zones z) (sym (ap (λ (w : WorldView). w.zones) then ∙ zoned)) zones;
       lists = λ none. subst (λ (w : WorldView). Relists event old.state.clock w.zones old.sim w.sim) (sym then) (subst (λ z. Relists event old.state.clock z old.sim mid.sim) (sym zoned) (lists none));
-      now = subst IsTaken (sym then) (record { consistent = record { at_rest = end.0; built = built }; held = end.1; taken = whole });
+      now = subst IsTaken (sym then) (record { consistent = record { at_rest = end.0; built = built; clock = clock_still mid.state.clock mid.state.accepted mid.state.refused clock }; held = end.1; taken = whole });
     }
 
 -- an event that moves packets is none that moves none

@@ -23,7 +23,7 @@ is_built_kind kind.RouterPort = false
 is_built_kind kind.SwitchPort = true
 is_built_kind kind.AddressSet = true
 is_built_kind kind.PortGroup = true
-is_built_kind kind.Acl = false
+is_built_kind kind.Acl = true
 is_built_kind kind.Route = false
 is_built_kind kind.Nat = false
 is_built_kind kind.LoadBalancer = false
@@ -36,7 +36,7 @@ is_built_record (row.RouterPort port) = false
 is_built_record (row.SwitchPort port) = is_virtual port
 is_built_record (row.AddressSet set) = true
 is_built_record (row.PortGroup group) = true
-is_built_record (row.Acl rule) = false
+is_built_record (row.Acl rule) = true
 is_built_record (row.Route route) = false
 is_built_record (row.Nat row) = false
 is_built_record (row.LoadBalancer balancer) = false
@@ -49,7 +49,7 @@ is_built_change (change.RouterPort mac networks peer) = false
 is_built_change (change.SwitchPort addresses port_security enabled) = true
 is_built_change (change.AddressSet addresses) = true
 is_built_change (change.PortGroup ports) = true
-is_built_change (change.Acl priority matching action) = false
+is_built_change (change.Acl priority matching action) = true
 is_built_change (change.Route prefix nexthop) = false
 is_built_change (change.Nat external_ip logical_ip) = false
 is_built_change (change.LoadBalancer vips switches routers) = false
@@ -68,7 +68,7 @@ is_built_edit (o ∷ ops) = is_built_op o && is_built_edit ops
 
 -- ---- records
 
--- there are no records but switches, virtual ports, address sets and port groups
+-- there are no records but switches, virtual ports, address sets, port groups and rules
 pub record IsBuilt (net : Network) : Type 0 where
-  pub others : net ≡ record empty_network { switches = net.switches; switch_ports = net.switch_ports; address_sets = net.address_sets; port_groups = net.port_groups }
+  pub others : net ≡ record empty_network { switches = net.switches; switch_ports = net.switch_ports; address_sets = net.address_sets; port_groups = net.port_groups; acls = net.acls }
   pub ports : (q : Name) (port : SwitchPort) → at net.switch_ports q ≡ Some port → is_virtual port ≡ true

@@ -5,7 +5,7 @@ use Rattle.std.specs.Prelude.{◌≡◌, true}
 use Rattle.world_core.specs.declared.world.World.TheInside.{Inside}
 use Rattle.world_core.specs.WorldView.{WorldView, IsSound}
 
--- connection lists are those in the zones of who is at home; no event moves the clock yet
+-- connection lists are those in the zones of who is at home
 abbrev pub seen_of : Inside → WorldView
 seen_of w = record {
   state = record {
@@ -14,7 +14,7 @@ seen_of w = record {
     lists = lists_seen w.setup.ground.zones w.sim.state.zones;
     waiting = crossings_of w.crossings.entries w.sim.state.waiting;
     next = w.sim.state.next;
-    clock = 0;
+    clock = w.clock;
     accepted = w.accepted;
     refused = w.refused;
   };

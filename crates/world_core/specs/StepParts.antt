@@ -1,5 +1,5 @@
 -- What the parts of a step need and leave.
-use Rattle.std.specs.Prelude.{◌≡◌, ℕ, List, [], true, false, None, Some, Ok, Err, Result}
+use Rattle.std.specs.Prelude.{◌≡◌, ◌+◌, ℕ, List, [], true, false, None, Some, Ok, Err, Result}
 use Rattle.chassis_sim.specs.State.{nothing_held}
 use Rattle.edit_reader.specs.declared.event.Event.{Event}
 use Rattle.event_lines.specs.Text.{StartsWith}
@@ -10,12 +10,13 @@ use Rattle.switch_engine.specs.declared.walk.Walk.{Walk}
 use Rattle.world_core.specs.Outcome.{matched, moves_packets, IsAccepted, IsRefused}
 use Rattle.world_core.specs.EventPasses.{Passes}
 use Rattle.world_core.specs.WorldView.{WorldView, IsConsistent, AreHeld}
-use Rattle.net_model.specs.State.{empty}
+use Rattle.net_model.specs.State.{clocked, empty}
 use Rattle.world_core.specs.Refusing.{refusal}
 use Rattle.world_core.specs.Step as net
 use Rattle.world_core.specs.declared.world.Done.{Done}
 use Rattle.world_core.specs.Zones.{Relists, Rezones}
 use Rattle.sim_laws.specs.journeys.First.{nobody_home}
+use Rattle.sim_laws.specs.journeys.Ticking.{all_zones_expired}
 
 -- no record, no chassis, no event
 abbrev pub new_world : WorldView
@@ -26,6 +27,10 @@ pub record IsTaken (w : WorldView) : Type 0 where
   pub consistent : IsConsistent w.state w.zones
   pub held : AreHeld w.state w.zones w.sim
   pub taken : w.whole ≡ false
+
+-- the world in which so many seconds more have passed, and connections are gone that are idle then
+abbrev pub clocked_world : WorldView → ℕ → WorldView
+clocked_world w seconds = record w { state = clocked seconds w.state; sim = all_zones_expired (w.state.clock + seconds) w.sim }
 
 -- what an accepted event leaves, and how many flows its packets matched
 pub record IsDone (old : WorldView) (event : Event) (effects : List NetEffect) (walks : List Walk) (count : ℕ) (new : WorldView) : Type 0 where

@@ -11,10 +11,9 @@ fn is_built_kind(kind: Kind) -> bool
     ensures { result ≡ is_built_kind kind }
 {
     match kind {
-        Kind::Switch | Kind::SwitchPort | Kind::AddressSet | Kind::PortGroup => true,
+        Kind::Switch | Kind::SwitchPort | Kind::AddressSet | Kind::PortGroup | Kind::Acl => true,
         Kind::Router
         | Kind::RouterPort
-        | Kind::Acl
         | Kind::Route
         | Kind::Nat
         | Kind::LoadBalancer
@@ -27,10 +26,9 @@ fn is_built_record(row: &Record) -> bool
 {
     match row {
         Record::SwitchPort(port) => matches!(port.kind, PortKind::Virtual),
-        Record::Switch(_) | Record::AddressSet(_) | Record::PortGroup(_) => true,
+        Record::Switch(_) | Record::AddressSet(_) | Record::PortGroup(_) | Record::Acl(_) => true,
         Record::Router(_)
         | Record::RouterPort(_)
-        | Record::Acl(_)
         | Record::Route(_)
         | Record::Nat(_)
         | Record::LoadBalancer(_)
@@ -45,10 +43,10 @@ fn is_built_change(change: &Change) -> bool
         Change::Switch
         | Change::SwitchPort { .. }
         | Change::AddressSet { .. }
-        | Change::PortGroup { .. } => true,
+        | Change::PortGroup { .. }
+        | Change::Acl { .. } => true,
         Change::Router
         | Change::RouterPort { .. }
-        | Change::Acl { .. }
         | Change::Route { .. }
         | Change::Nat { .. }
         | Change::LoadBalancer { .. }

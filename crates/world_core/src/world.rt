@@ -11,7 +11,7 @@ ghost use Rattle.edit_reader.specs.declared.event.Event.{Event};
 ghost use Rattle.edit_reader.specs.declared.event.Event.TheVariants as event_of;
 ghost use Rattle.world_core.specs.EventKinds.{event_of_packets, event_of_turn};
 ghost use Rattle.world_core.specs.Outcome.{IsAccepted, moves_packets, Outcome};
-ghost use Rattle.world_core.specs.StepParts.{IsTaken, Leaves, new_world};
+ghost use Rattle.world_core.specs.StepParts.{IsTaken, Leaves, clocked_world, new_world};
 ghost use Rattle.world_core.specs.Refusing.{refusal};
 ghost use Rattle.world_core.specs.Turning.{Tells};
 ghost use Rattle.world_core.specs.WorldView.{IsSound};
@@ -49,6 +49,8 @@ pub struct World {
     // Whom the crossing of each frame that waits names, by the frame's number. The rest of it the frame tells.
     crossings: BTreeMap<u128, CrossingNames>,
     walks: List<Walk>,
+    // In seconds.
+    clock: u64,
     accepted: u64,
     refused: u64,
     whole: bool,
@@ -90,6 +92,7 @@ impl World {
             sim: Sim::new(alloc)?,
             crossings: BTreeMap::new(alloc),
             walks: List::new(alloc),
+            clock: 0,
             accepted: 0,
             refused: 0,
             whole: true,
@@ -256,6 +259,33 @@ impl World {
         Ok(())
     }
 
+    // The clock goes on, and on all chassis connections end that are idle then.
+    fn tick(&mut self, seconds: u64)
+        requires taken { IsTaken self.old }
+        requires room { event_count self.old.state < 2 ^ 42 }
+        requires few { seconds ≤ 1000000 }
+        ensures { self.new ≡ clocked_world self.old seconds }
+    {
+        self.clock += seconds;
+        self.sim.expire(self.clock);
+    }
+
+    // Takes the clock on.
+    fn take_clock(&mut self, seconds: u64, text: &mut Vec<u8>) -> Result<(), StepFault>
+        requires sound { IsSound self.old }
+        requires room { event_count self.old.state < 2 ^ 42 }
+        requires few { seconds ≤ 1000000 }
+        ensures { Outcome result self.old (event_of.Clock seconds) text.old.items text.new.items self.new }
+    {
+        write_accepted(&[], 0, self.accepted + self.refused + 1, text)?;
+        self.whole = false;
+        self.tick(seconds);
+        self.walks.clear();
+        self.finish();
+        self.whole = true;
+        Ok(())
+    }
+
     /// Takes one event, and adds its whole text: the lines of what it did, or of why it is refused. Without memory an event that
     /// moves no packets changes neither the world nor the text; after want of memory in one that does the world isn't sound, and
     /// the text keeps what it held.
@@ -286,8 +316,8 @@ impl World {
             Event::Unbind { .. }
             | Event::RemoveChassis(_)
             | Event::Keys { .. }
-            | Event::Health { .. }
-            | Event::Clock { .. } => self.take_refused(Refusal::NotBuilt, text),
+            | Event::Health { .. } => self.take_refused(Refusal::NotBuilt, text),
+            Event::Clock { seconds } => self.take_clock(*seconds, text),
             Event::Lose { frame } => self.take_loss(*frame, text),
             Event::Unread(fault) => self.take_refused(Refusal::Read(fault.copy()?), text),
             Event::Inject { port, frame } => {

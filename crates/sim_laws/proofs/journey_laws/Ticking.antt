@@ -24,7 +24,7 @@ use Rattle.sim_laws.specs.journeys.Ticking.{TickLaw}
 use Rattle.sim_laws.specs.pipelines.HeldLists.{ZoneNumbers, list_there, HoldLists}
 
 -- what is found among other values of the same keys
-looked_over : {K X Y : Type 0} (f : X → Y) (test : K → Bool) (es : List (K × X)) → lookup test (map (λ (e : K × X). (e.0, f e.1)) es) ≡ option_map f (lookup test es)
+pub looked_over : {K X Y : Type 0} (f : X → Y) (test : K → Bool) (es : List (K × X)) → lookup test (map (λ (e : K × X). (e.0, f e.1)) es) ≡ option_map f (lookup test es)
 looked_over f test [] = refl
 looked_over {K} {X} f test (e ∷ es) = by (test e.0) (looked_over f test es)
   where
@@ -43,7 +43,7 @@ module _ (now : ℕ) where
   list_then lists (dnat_of r) = looked_over (expired now) (is_at (slice_cmp nat_cmp r)) lists.dnats
   list_then lists (snat_of r) = looked_over (expired now) (is_at (slice_cmp nat_cmp r)) lists.snats
 
-  zone_then : (zones : ZoneLists) (z : ℕ) → zone_at (all_expired now zones) z ≡ option_map (expired now) (zone_at zones z)
+  pub zone_then : (zones : ZoneLists) (z : ℕ) → zone_at (all_expired now zones) z ≡ option_map (expired now) (zone_at zones z)
   zone_then zones z = looked_over (expired now) (nat_eq z) zones
 
   -- zones that hold the lists hold them then

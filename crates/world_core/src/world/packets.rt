@@ -164,7 +164,7 @@ impl World {
     {
         journeys_refine();
         let before = out.effects.len();
-        match self.sim.inject(port, packet, 0, out) {
+        match self.sim.inject(port, packet, self.clock, out) {
             Ok(()) => {}
             Err(SimFault::Memory) => return Err(NoMemory),
             Err(SimFault::NotBound(_)) => unreachable!(),
@@ -189,7 +189,7 @@ impl World {
         ensures { OnOk result (HasArrived self.old frame keep out.old out.new self.new) }
     {
         journeys_refine();
-        match self.sim.arrive(frame, keep, 0, out) {
+        match self.sim.arrive(frame, keep, self.clock, out) {
             Ok(()) => {}
             Err(SimFault::Memory) => return Err(NoMemory),
             Err(SimFault::NotBound(_)) => unreachable!(),

@@ -27,7 +27,7 @@ can_also m waiting p effects ws same can = subst (λ l. CanBeKept (record m { wa
 
 -- the packet goes in from the world as it is kept
 goes : EntryJourneyLaw → (w : Inside) (v : WorldView) → seen_of w ≡ v → (p : Name) (packet : inet.Packet) (before after : SimOut) (s : sim.SimState) (effects : List NetEffect) → IsUnderWay v.state v.zones 0 → IsBuilt v.state.config.net → AreHeld v.state v.zones v.sim → IsWhole packet
-    → IsInjected any_legal w.sim.state p 0 packet before after s → effects ≡ drop (length before.effects) after.effects → GoesOn (seen_of w) p packet before after s effects
+    → IsInjected any_legal w.sim.state p w.clock packet before after s → effects ≡ drop (length before.effects) after.effects → GoesOn (seen_of w) p packet before after s effects
 goes law w v view p packet before after s effects under_way built held whole injected are =
     goes_on law (seen_of w) p packet before after s effects (subst (λ (v : WorldView). IsUnderWay v.state v.zones 0) (sym view) under_way) (subst (λ (v : WorldView). IsBuilt v.state.config.net) (sym view) built)
     (subst (λ (v : WorldView). AreHeld v.state v.zones v.sim) (sym view) held) whole injected are
