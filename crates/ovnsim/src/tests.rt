@@ -347,8 +347,105 @@ const IDLE_OUTPUT: &[u8] = b"8 ok walks=0
 end events=14 accepted=14 refused=0 waiting=0
 ";
 
+// Of two rules of one priority the one that drops wins.
+const EQUAL_PRIORITY: &[u8] =
+    b"{\"edit\":[{\"add\":\"acl\",\"name\":\"r1\",\"switch\":\"s0\",\"direction\":\"from-lport\",\"priority\":1000,\"match\":\"eth.type == 0x88b5\",\"action\":\"allow\"}]}
+{\"edit\":[{\"add\":\"acl\",\"name\":\"r2\",\"switch\":\"s0\",\"direction\":\"from-lport\",\"priority\":1000,\"match\":\"eth.type == 0x88b5\",\"action\":\"drop\"}]}
+{\"packet\":{\"port\":\"p1\",\"frame\":\"0a00000000020a000000000188b56869\"}}
+";
+
+const EQUAL_PRIORITY_OUTPUT: &[u8] = b"8 ok walks=0
+9 ok walks=0
+10 drop s0 p1 acl
+10 ok walks=6
+end events=10 accepted=10 refused=0 waiting=0
+";
+
+// Unequal and greater, in matches of rules, and one that would be too wide.
+const WIDTHS: &[u8] =
+    b"{\"edit\":[{\"add\":\"acl\",\"name\":\"w1\",\"switch\":\"s0\",\"direction\":\"from-lport\",\"priority\":1000,\"match\":\"ip4.src != {10.0.0.1, 10.0.0.2}\",\"action\":\"drop\"}]}
+{\"edit\":[{\"add\":\"acl\",\"name\":\"w2\",\"switch\":\"s0\",\"direction\":\"from-lport\",\"priority\":1000,\"match\":\"tcp.dst >= 1024\",\"action\":\"drop\"}]}
+{\"packet\":{\"port\":\"p1\",\"frame\":\"0a00000000020a000000000108004500001c00010000401166ce0a0000010a0000021388138900080000\"}}
+{\"packet\":{\"port\":\"p1\",\"frame\":\"0a00000000020a000000000108004500002800010000400666cd0a0000010a0000021388040000000000000000005002ffff00000000\"}}
+{\"packet\":{\"port\":\"p1\",\"frame\":\"0a00000000020a000000000108004500002800010000400666cd0a0000010a000002138803ff00000000000000005002ffff00000000\"}}
+{\"edit\":[{\"add\":\"acl\",\"name\":\"w3\",\"switch\":\"s0\",\"direction\":\"from-lport\",\"priority\":1000,\"match\":\"ip4.src != {10.0.0.1, 10.0.0.2, 10.0.0.3} && tcp.dst >= 1024\",\"action\":\"drop\"}]}
+";
+
+const WIDTHS_OUTPUT: &[u8] = b"8 ok walks=0
+9 ok walks=0
+10 tunnel 1 hv1 hv2 024065580000010001028001000100020a00000000020a000000000108004500001c00010000401166ce0a0000010a0000021388138900080000
+10 out p2 0a00000000020a000000000108004500001c00010000401166ce0a0000010a0000021388138900080000
+10 ok walks=17
+11 drop s0 p1 acl
+11 ok walks=6
+12 tunnel 2 hv1 hv2 024065580000010001028001000100020a00000000020a000000000108004500002800010000400666cd0a0000010a000002138803ff00000000000000005002ffff00000000
+12 out p2 0a00000000020a000000000108004500002800010000400666cd0a0000010a000002138803ff00000000000000005002ffff00000000
+12 ok walks=17
+13 refused TooWide 196608
+end events=13 accepted=12 refused=1 waiting=0
+";
+
+// A rule of a group applies on each switch that has a port of it, and on the group's ports alone where its match says so.
+const ONE_GROUP: &[u8] = b"{\"edit\":[{\"add\":\"switch\",\"name\":\"s1\"}]}
+{\"edit\":[{\"add\":\"switch_port\",\"name\":\"q1\",\"switch\":\"s1\",\"addresses\":[\"0a:00:00:00:00:03\"]}]}
+{\"edit\":[{\"add\":\"port_group\",\"name\":\"pg\",\"ports\":[\"p2\",\"q1\"]}]}
+{\"edit\":[{\"add\":\"acl\",\"name\":\"g\",\"port_group\":\"pg\",\"direction\":\"from-lport\",\"priority\":1000,\"match\":\"inport == @pg\",\"action\":\"drop\"}]}
+{\"packet\":{\"port\":\"p1\",\"frame\":\"0a00000000020a000000000188b56869\"}}
+{\"packet\":{\"port\":\"p2\",\"frame\":\"0a00000000010a000000000288b5\"}}
+";
+
+const ONE_GROUP_OUTPUT: &[u8] = b"8 key datapath s1 2
+8 ok walks=0
+9 key port q1 1
+9 ok walks=0
+10 ok walks=0
+11 ok walks=0
+12 tunnel 1 hv1 hv2 024065580000010001028001000100020a00000000020a000000000188b56869
+12 out p2 0a00000000020a000000000188b56869
+12 ok walks=17
+13 drop s0 p2 acl
+13 ok walks=6
+end events=13 accepted=13 refused=0 waiting=0
+";
+
+// A rule for packets that enter asks for a port of exit.
+const BAD_DIRECTION: &[u8] =
+    b"{\"edit\":[{\"add\":\"acl\",\"name\":\"a1\",\"switch\":\"s0\",\"direction\":\"from-lport\",\"priority\":1000,\"match\":\"udp\",\"action\":\"drop\"}]}
+{\"edit\":[{\"set\":\"acl\",\"name\":\"a1\",\"match\":\"outport == \\\"p2\\\"\"}]}
+";
+
+const BAD_DIRECTION_OUTPUT: &[u8] = b"8 ok walks=0
+9 refused BadDirection a1
+end events=9 accepted=8 refused=1 waiting=0
+";
+
+// A port that is bound anew begins with an empty list, also where it was bound before.
+const REBOUND: &[u8] =
+    b"{\"edit\":[{\"add\":\"acl\",\"name\":\"a1\",\"switch\":\"s0\",\"direction\":\"from-lport\",\"priority\":1000,\"match\":\"inport == \\\"p1\\\" && udp\",\"action\":\"allow-related\"}]}
+{\"edit\":[{\"add\":\"acl\",\"name\":\"a3\",\"switch\":\"s0\",\"direction\":\"to-lport\",\"priority\":1000,\"match\":\"outport == \\\"p1\\\" && udp\",\"action\":\"drop\"}]}
+{\"packet\":{\"port\":\"p1\",\"frame\":\"0a00000000020a000000000108004500001c00010000401166ce0a0000010a0000021388138900080000\"}}
+{\"packet\":{\"port\":\"p2\",\"frame\":\"0a00000000010a000000000208004500001c00010000401166ce0a0000020a0000011389138800080000\"}}
+{\"bind\":{\"port\":\"p1\",\"chassis\":\"hv1\"}}
+{\"packet\":{\"port\":\"p2\",\"frame\":\"0a00000000010a000000000208004500001c00010000401166ce0a0000020a0000011389138800080000\"}}
+";
+
+const REBOUND_OUTPUT: &[u8] = b"8 ok walks=0
+9 ok walks=0
+10 tunnel 1 hv1 hv2 024065580000010001028001000100020a00000000020a000000000108004500001c00010000401166ce0a0000010a0000021388138900080000
+10 out p2 0a00000000020a000000000108004500001c00010000401166ce0a0000010a0000021388138900080000
+10 ok walks=17
+11 tunnel 2 hv2 hv1 024065580000010001028001000200010a00000000010a000000000208004500001c00010000401166ce0a0000020a0000011389138800080000
+11 out p1 0a00000000010a000000000208004500001c00010000401166ce0a0000020a0000011389138800080000
+11 ok walks=17
+12 ok walks=0
+13 tunnel 3 hv2 hv1 024065580000010001028001000200010a00000000010a000000000208004500001c00010000401166ce0a0000020a0000011389138800080000
+13 drop s0 p1 acl
+13 ok walks=15
+end events=13 accepted=13 refused=0 waiting=0
+";
+
 // What these events are, behind those of the two chassis, with the status and the output behind theirs.
-const BEHIND_TWO_CHASSIS: [(&str, &[u8], u8, &[u8]); 14] = [
+const BEHIND_TWO_CHASSIS: [(&str, &[u8], u8, &[u8]); 12] = [
     ("a frame to another chassis", TUNNEL, 0, TUNNEL_OUTPUT),
     ("a packet for its own port", LOOPBACK, 0, LOOPBACK_OUTPUT),
     (
@@ -371,8 +468,27 @@ const BEHIND_TWO_CHASSIS: [(&str, &[u8], u8, &[u8]); 14] = [
     ("edits of two operations", EDITS, 3, EDITS_OUTPUT),
     ("requests for addresses", ARP, 0, ARP_OUTPUT),
     ("port security", PORT_SECURITY, 0, PORT_SECURITY_OUTPUT),
+];
+
+// The same with rules.
+const RULES_BEHIND_TWO_CHASSIS: [(&str, &[u8], u8, &[u8]); 7] = [
     ("a rule that is changed", BLOCKED, 0, BLOCKED_OUTPUT),
     ("an idle connection", IDLE, 0, IDLE_OUTPUT),
+    (
+        "two rules of one priority",
+        EQUAL_PRIORITY,
+        0,
+        EQUAL_PRIORITY_OUTPUT,
+    ),
+    ("widths of rules", WIDTHS, 3, WIDTHS_OUTPUT),
+    ("a group on two switches", ONE_GROUP, 0, ONE_GROUP_OUTPUT),
+    (
+        "a rule of the other direction",
+        BAD_DIRECTION,
+        3,
+        BAD_DIRECTION_OUTPUT,
+    ),
+    ("a port that is bound anew", REBOUND, 0, REBOUND_OUTPUT),
 ];
 
 // ---- runs
@@ -409,12 +525,27 @@ fn inputs_are_answered(rt: HostRuntime) -> Result<(), Fail> {
     Ok(())
 }
 
+// Runs the program over the events behind those of the two chassis.
+fn behind(alloc: Global, events: &[u8]) -> Result<(u8, MemorySink), NoMemory> {
+    let mut all = Vec::new(alloc);
+    put(&[TWO_CHASSIS, events], &mut all)?;
+    replayed(alloc, all, 2000)
+}
+
 #[test]
 fn events_behind_two_chassis_are_answered(rt: HostRuntime) -> Result<(), Fail> {
     for (what, events, status, output) in BEHIND_TWO_CHASSIS {
-        let mut all = Vec::new(rt.alloc());
-        put(&[TWO_CHASSIS, events], &mut all)?;
-        let (given, sink) = replayed(rt.alloc(), all, 2000)?;
+        let (given, sink) = behind(rt.alloc(), events)?;
+        let lines = sink.bytes().strip_prefix(TWO_CHASSIS_OUTPUT);
+        assert_eq!(rt; (given, lines), (status, Some(output)), "at {what}");
+    }
+    Ok(())
+}
+
+#[test]
+fn rules_decide(rt: HostRuntime) -> Result<(), Fail> {
+    for (what, events, status, output) in RULES_BEHIND_TWO_CHASSIS {
+        let (given, sink) = behind(rt.alloc(), events)?;
         let lines = sink.bytes().strip_prefix(TWO_CHASSIS_OUTPUT);
         assert_eq!(rt; (given, lines), (status, Some(output)), "at {what}");
     }
