@@ -115,10 +115,11 @@ def measure_moves(command, switches, ports, count):
 
 
 program = [*os.environ.get("OVNSIM", os.path.join(top, "ovnsim")).split(), "replay"]
-subprocess.run(program, stdin=subprocess.DEVNULL, stdout=subprocess.DEVNULL, check=True)
-measure("ovnsim", program, 8, 16, 20_000, 3)
-measure("ovnsim", program, 32, 64, 20_000, 1)
-measure_moves(program, 8, 16, 1_000)
-measure_moves(program, 32, 64, 1_000)
-if os.path.exists(model):
-    measure("model", [sys.executable, "-u", model, "replay"], 8, 16, 2_000, 1)
+if __name__ == "__main__":
+    subprocess.run(program, stdin=subprocess.DEVNULL, stdout=subprocess.DEVNULL, check=True)
+    measure("ovnsim", program, 8, 16, 20_000, 3)
+    measure("ovnsim", program, 32, 64, 20_000, 1)
+    measure_moves(program, 8, 16, 1_000)
+    measure_moves(program, 32, 64, 1_000)
+    if os.path.exists(model):
+        measure("model", [sys.executable, "-u", model, "replay"], 8, 16, 2_000, 1)
