@@ -1,12 +1,9 @@
 -- No flow is both a lowered row and one of the tables around the pipelines: these are tables of no stage.
-use Rattle.std.specs.Prelude.{◌≡◌, ◌++◌, false, List, [], refl}
+use Rattle.std.specs.Prelude.{◌≡◌, ◌++◌, false, List, []}
 use Rattle.std.proofs.Common.{sym, ap, ◌∙◌, inl, inr}
 use Rattle.std.proofs.lemmas.Bool.{false≢true}
 use Rattle.flow_lowering.specs.LoweredFlows.{flow_on, lowered_cubes, lowered_ops}
 use Rattle.flow_table.specs.declared.flow.Flow.{Flow}
-use Rattle.logical_flows.specs.Stages.{stage_table}
-use Rattle.logical_flows.specs.declared.stage.Stage.{Stage}
-use Rattle.logical_flows.specs.declared.stage.Stage.TheVariants as stage
 use Rattle.northd_core.specs.Lowering.{IsLoweredIn, Lowering}
 use Rattle.northd_core.specs.Plans.{AreListed, IsChange}
 use Rattle.ovn_base.proofs.AmongLaws.{among_append, among_left, among_none, among_right, map_among}
@@ -21,32 +18,10 @@ use Rattle.physical_flows.specs.RecordKeys.{HaveKeys}
 use Rattle.physical_flows.specs.Stages.{Basis}
 use Rattle.physical_flows.specs.UnitFlows.{IsRowChange}
 use Rattle.physical_flows.specs.Units.{no_rows}
+use Rattle.sim_laws.proofs.journey_laws.Filling.{not_around}
 use Rattle.world_core.specs.Setup.{IsFlowBy, joined}
 
 -- ---- tables
-
--- no stage has one of these
-not_around : (s : Stage) → is_around (stage_table s) ≡ false
-not_around stage.SwitchAdmit = refl
-not_around stage.SwitchPortSecurity = refl
-not_around stage.SwitchTrack = refl
-not_around stage.SwitchAclIn = refl
-not_around stage.SwitchStateIn = refl
-not_around stage.SwitchArp = refl
-not_around stage.SwitchLookup = refl
-not_around stage.SwitchTrackOut = refl
-not_around stage.SwitchAclOut = refl
-not_around stage.SwitchStateOut = refl
-not_around stage.SwitchSecurityOut = refl
-not_around stage.RouterAdmit = refl
-not_around stage.RouterInput = refl
-not_around stage.RouterUndo = refl
-not_around stage.RouterDnat = refl
-not_around stage.RouterOwn = refl
-not_around stage.RouterRoute = refl
-not_around stage.RouterNeighbour = refl
-not_around stage.RouterFind = refl
-not_around stage.RouterSnat = refl
 
 lowered_table : (l : Lowering) (f : Flow) → IsLoweredIn l f → is_around f.table ≡ false
 lowered_table l f h =

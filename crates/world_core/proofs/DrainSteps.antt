@@ -12,6 +12,7 @@ use Rattle.net_model.specs.declared.crossing.Crossing.{Crossing}
 use Rattle.world_core.proofs.WaitingNames.{own_number}
 use Rattle.world_core.specs.Packets.{AreGone, HasArrived, most_sent, state_with}
 use Rattle.sim_laws.proofs.journey_laws.Draining.{effects_append}
+use Rattle.sim_laws.proofs.journey_laws.Moving.{length_append}
 use Rattle.sim_laws.proofs.journey_laws.Ways.{crossings_append}
 use Rattle.sim_laws.specs.Effects.{effects_of}
 use Rattle.sim_laws.specs.Passing.{AreDrained, most_arrivals}
@@ -59,10 +60,6 @@ own_waits n x behind = ap (λ b. cond b (Some x) (numbered behind n)) (own_numbe
 
 pub first_waits : (m : State) (n : ℕ) (x : Crossing) (behind : List (ℕ × Crossing)) → m.waiting ≡ (n, x) ∷ behind → IsSome (numbered m.waiting n)
 first_waits m n x behind e = is_some_of (numbered m.waiting n) x (ap (λ ws. numbered ws n) e ∙ own_waits n x behind)
-
-length_append : {X : Type 0} (xs ys : List X) → length (xs ++ ys) ≡ length xs + length ys
-length_append [] ys = omega arith
-length_append (x ∷ xs) ys = let rest = length_append xs ys in omega (arith, rest)
 
 -- one frame more
 pub drain_goes_on : (old : WorldView) (before : SimOut) (left : ℕ) (now next : WorldView) (told more : SimOut) (n : ℕ) (x : Crossing) (behind : List (ℕ × Crossing)) → AreDraining old before (suc left) now told → now.state.waiting ≡ (n, x) ∷ behind

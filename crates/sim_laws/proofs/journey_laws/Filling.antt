@@ -1,5 +1,5 @@
 -- Flows that are the lowered rows and those around the pipelines fill the tables of a chassis.
-use Rattle.std.specs.Prelude.{◌≡◌, ◌⊎◌, ◌||◌, ℕ, nat_eq, Bool, true, false, List, refl}
+use Rattle.std.specs.Prelude.{◌≡◌, ◌⊎◌, ℕ, nat_eq, Bool, true, false, List, refl}
 use Rattle.std.proofs.Common.{sym, ap, ◌∙◌, inl, inr}
 use Rattle.std.proofs.lemmas.Bool.{false≢true, eq-eqb}
 use Rattle.conn_zones.specs.Zoning.{Zoned}
@@ -19,17 +19,14 @@ use Rattle.row_laws.specs.BestRow.{IsLoweredRow, HoldsRows}
 use Rattle.row_laws.specs.CanLower.{CanLower, CanLowerLaw}
 use Rattle.sim_laws.proofs.journey_laws.Premises.{owners_live}
 use Rattle.sim_laws.specs.journeys.Filling.{FillingLaw}
-use Rattle.physical_flows.specs.Around.{AroundFlow}
+use Rattle.physical_flows.specs.Around.{AroundFlow, is_around}
 use Rattle.sim_laws.specs.journeys.Tables.{ChassisFlow, HoldIn, AreTablesOf}
 use Rattle.physical_flows.specs.Around.AroundFlow.{in_entry, in_remote, in_home, in_back, in_output}
 
 -- ---- tables
 
-abbrev is_around : ℕ → Bool
-is_around n = nat_eq n 0 || nat_eq n 32 || nat_eq n 33 || nat_eq n 34 || nat_eq n 64
-
 -- no stage has one of these
-not_around : (s : Stage) → is_around (stage_table s) ≡ false
+pub not_around : (s : Stage) → is_around (stage_table s) ≡ false
 not_around stage.SwitchAdmit = refl
 not_around stage.SwitchPortSecurity = refl
 not_around stage.SwitchTrack = refl

@@ -23,7 +23,7 @@ pub choices_append : (es fs : List End) → choices_in (es ++ fs) ≡ choices_in
 choices_append [] fs = refl
 choices_append (e ∷ es) fs = ap (choice_in e) (choices_append es fs) ∙ choice_first e (choices_in es) (choices_in fs)
 
-length_append : {X : Type 0} (xs ys : List X) → length (xs ++ ys) ≡ length xs + length ys
+pub length_append : {X : Type 0} (xs ys : List X) → length (xs ++ ys) ≡ length xs + length ys
 length_append [] ys = omega arith
 length_append (x ∷ xs) ys = let rest = length_append xs ys in omega (arith, rest)
 

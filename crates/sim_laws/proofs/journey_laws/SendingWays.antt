@@ -26,7 +26,7 @@ use Rattle.physical_flows.specs.Homes.{is_home}
 use Rattle.sim_laws.proofs.Homes.{bound_to}
 use Rattle.sim_laws.proofs.journey_laws.SwitchWays.{leave_on}
 use Rattle.sim_laws.proofs.journey_laws.Ways.{WayOn, stays, both, told}
-use Rattle.sim_laws.proofs.passes.Members.{virtual_is}
+use Rattle.sim_laws.proofs.passes.Members.{here_so, virtual_is}
 use Rattle.tunnel_keys.specs.declared.owner.Identity.{Identity}
 
 -- ---- lists
@@ -42,10 +42,6 @@ few_in test (x ∷ xs) = by (test x) (few_in test xs)
 few_map : {X Y : Type 0} (f : X → Y) (xs : List X) → length (map f xs) ≡ length xs
 few_map f [] = refl
 few_map f (x ∷ xs) = ap suc (few_map f xs)
-
-here_so : (chassis : Name) (o : Option Name) → is_here chassis (home_if on o) ≡ is_home o chassis
-here_so chassis None = refl
-here_so chassis (Some home) = refl
 
 module _ (s : Scene) (n : ℕ) where
   abbrev pub OnWay : List Crossing → Trail → Trail → Type 0

@@ -40,7 +40,7 @@ pub on_so : (chassis : Name) (o : Option Name) → is_on chassis (home_if on o) 
 on_so chassis None = refl
 on_so chassis (Some home) = refl
 
-here_so : (chassis : Name) (o : Option Name) → is_here chassis (home_if on o) ≡ is_home o chassis
+pub here_so : (chassis : Name) (o : Option Name) → is_here chassis (home_if on o) ≡ is_home o chassis
 here_so chassis None = refl
 here_so chassis (Some home) = refl
 
