@@ -1,3 +1,3 @@
 //! What the rows follow from, read from the records.
 pub(crate) mod addresses;
-pub(crate) mod switches;
+pub mod switches;

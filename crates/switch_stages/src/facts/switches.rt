@@ -44,7 +44,7 @@ fn some_make_stateful(records: &Records, switch: &Name) -> bool
 
 /// Whether an allow-related rule applies to the switch.
 #[tactic(auto, using(crate::proofs::SwitchTests::stateful_is))]
-pub(crate) fn is_stateful(records: &Records, switch: &Name) -> bool
+pub fn is_stateful(records: &Records, switch: &Name) -> bool
     ensures { result ≡ spec.is_stateful records.now switch.now }
 {
     some_make_stateful(records, switch)
