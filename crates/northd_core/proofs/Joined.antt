@@ -1,15 +1,14 @@
 -- Units that join others, one after another.
-use Rattle.std.specs.Prelude.{◌≡◌, ◌++◌, ◌⊎◌, true, false, cond, List, [], ◌∷◌, map, flat_map, filter}
+use Rattle.std.specs.Prelude.{◌≡◌, ◌++◌, ◌⊎◌, ◌↔◌, true, false, cond, List, [], ◌∷◌, map, flat_map, filter}
 use Rattle.std.specs.BTreeSet.{insert_key}
 use Rattle.std.specs.Map.{keys_of}
-use Rattle.std.specs.Ordering.{match_ordering}
-use Rattle.std.specs.declared.cmp.Ordering.{Ordering}
-use Rattle.std.specs.declared.cmp.Ordering.TheVariants.{Less, Equal, Greater}
-use Rattle.std.proofs.Common.{refl, sym, ap, ◌∙◌, subst, inl, inr}
+use Rattle.std.proofs.Common.{sym, ap, ◌∙◌, subst, inl, inr}
 use Rattle.std.proofs.lemmas.List.{append_assoc}
-use Rattle.ovn_base.proofs.AmongLaws.{among_cases, among_none, among_append, among_map, map_among}
+use Rattle.std.proofs.lemmas.Map.Lookups.{CmpEqualImpliesEq}
+use Rattle.ovn_base.proofs.AmongLaws.{among_append, among_cases, among_left, among_map, among_none, among_right, among_same, map_among}
 use Rattle.ovn_base.specs.declared.name.Name.{Name}
-use Rattle.ovn_base.specs.lists.Among.{Among, here, there}
+use Rattle.ovn_base.specs.lists.Among.{Among}
+use Rattle.tunnel_keys.proofs.KeyOrder.{inserted}
 use Rattle.logical_flows.specs.declared.unit.UnitId.{UnitId}
 use Rattle.logical_flows.specs.declared.unit.UnitId.TheVariants as unit
 use Rattle.nb_records.specs.Network.{Network}
@@ -17,54 +16,38 @@ use Rattle.nb_records.specs.Switches.{applies}
 use Rattle.nb_records.specs.declared.rule.Acl.{Acl}
 use Rattle.stage_rows.specs.Units.{units_of, port_units, rule_units, neighbour_units, balancer_units, units_of_router_port, units_of_balancer}
 use Rattle.northd_core.specs.Gate.{IsOfSwitches}
+use Rattle.northd_core.specs.Held.{unit_order}
 use Rattle.northd_core.specs.Listing.{HaveJoined}
-
--- ---- one key
-
-module _ {K : Type 0} (cmp : K → K → Ordering) (exact : (a b : K) → cmp a b ≡ Equal → a ≡ b) where
-  -- a key that is put is there, with those that were
-  pub put_there : (keys : List K) (k x : K) → (Among x keys ⊎ (x ≡ k)) → Among x (insert_key cmp keys k)
-  put_there [] k x (inl m) = absurd (among_none x m)
-  put_there [] k x (inr is) = subst (λ y. Among x (y ∷ [])) is here
-  put_there (y ∷ ys) k x h = by (cmp k y) refl (put_there ys k x)
-    where
-      by : (o : Ordering) → cmp k y ≡ o → ((Among x ys ⊎ (x ≡ k)) → Among x (insert_key cmp ys k)) → Among x (match_ordering o (k ∷ y ∷ ys) (y ∷ ys) (y ∷ insert_key cmp ys k))
-      by Less is rest = elim h [ inl m ↦ there m | inr e ↦ subst (λ z. Among x (z ∷ y ∷ ys)) e here ]
-      by Equal is rest = elim h [ inl m ↦ m | inr e ↦ subst (λ z. Among x (z ∷ ys)) (e ∙ exact k y is) here ]
-      by Greater is rest = elim h [
-        | inl m ↦ elim (among_cases x y ys m) [ inl e ↦ subst (λ z. Among x (z ∷ insert_key cmp ys k)) e here | inr later ↦ there (rest (inl later)) ]
-        | inr e ↦ there (rest (inr e))
-      ]
 
 -- ---- many units
 
--- where the units that are left join, all have joined that were there at first or were to come
+-- where the units that are left join, those have joined that were there at first and that were to come
 abbrev pub IsJoining : (start all now left : List UnitId) → Type 0
-IsJoining start all now left = (u : UnitId) → (Among u start ⊎ Among u all) → (Among u now ⊎ Among u left)
-
-pub begins : (start all : List UnitId) → IsJoining start all start all
-begins start all u h = h
-
-pub ended : (start all now : List UnitId) → IsJoining start all now [] → HaveJoined all start now
-ended start all now joining u h = elim (joining u h) [ inl m ↦ m | inr n ↦ absurd (among_none u n) ]
+IsJoining start all now left = (u : UnitId) → (Among u now ⊎ Among u left) ↔ (Among u start ⊎ Among u all)
 
 -- some of those that are left join
 pub some_join : (start all now next these left : List UnitId) → HaveJoined these now next → IsJoining start all now (these ++ left) → IsJoining start all next left
-some_join start all now next these left joined joining u h = elim (joining u h) [
-  | inl m ↦ inl (joined u (inl m))
-  | inr n ↦ elim (among_append u these left n) [ inl m ↦ inl (joined u (inr m)) | inr later ↦ inr later ]
-]
+some_join start all now next these left joined joining u = (
+  λ h. elim h [
+    | inl m ↦ elim ((joined u).0 m) [ inl old ↦ (joining u).0 (inl old) | inr new ↦ (joining u).0 (inr (among_left u these left new)) ]
+    | inr later ↦ (joining u).0 (inr (among_right u these left later))
+  ],
+  λ h. elim ((joining u).1 h) [
+    | inl m ↦ inl ((joined u).1 (inl m))
+    | inr n ↦ elim (among_append u these left n) [ inl m ↦ inl ((joined u).1 (inr m)) | inr later ↦ inr later ]
+  ],
+)
 
 -- one joins
-pub one_joins : (now next : List UnitId) (k : UnitId) → ((x : UnitId) → (Among x now ⊎ (x ≡ k)) → Among x next) → HaveJoined (k ∷ []) now next
-one_joins now next k put u h = elim h [
-  | inl m ↦ put u (inl m)
-  | inr n ↦ elim (among_cases u k [] n) [ inl e ↦ put u (inr e) | inr none ↦ absurd (among_none u none) ]
-]
-
--- none joins
-pub none_joins : (now : List UnitId) → HaveJoined [] now now
-none_joins now u h = elim h [ inl m ↦ m | inr n ↦ absurd (among_none u n) ]
+pub one_joins : CmpEqualImpliesEq unit_order → (now next : List UnitId) (k : UnitId) → next ≡ insert_key unit_order now k → HaveJoined (k ∷ []) now next
+one_joins exact now next k made u =
+    let into = inserted unit_order exact now k u in (
+      λ m. elim (into.0 (subst (λ us. Among u us) made m)) [ inl is ↦ inr (among_same u k [] is) | inr old ↦ inl old ],
+      λ h. elim h [
+        | inl old ↦ subst (λ us. Among u us) (sym made) (into.1 (inr old))
+        | inr n ↦ elim (among_cases u k [] n) [ inl is ↦ subst (λ us. Among u us) (sym made) (into.1 (inl is)) | inr none ↦ absurd (among_none u none) ]
+      ],
+    )
 
 -- the rule on those of the switches to which it applies
 abbrev pub rule_on_each : Network → Name → Acl → List Name → List UnitId
@@ -82,37 +65,69 @@ not_applying net name rule d ds off = ap (λ b. map (unit.Rule name) (cond b (d 
 none_of : (u : UnitId) (us : List UnitId) → us ≡ [] → Among u us → ⊥
 none_of u us none m = among_none u (subst (λ l. Among u l) none m)
 
--- where ports, rules and switches have joined, all units have
-pub units_joined : (net : Network) → IsOfSwitches net → (start ports rules all : List UnitId) → HaveJoined (map unit.Port (keys_of net.switch_ports)) start ports → HaveJoined (rule_units net) ports rules
-    → HaveJoined (map unit.Switch (keys_of net.switches)) rules all → HaveJoined (units_of net) start all
-units_joined net gate start ports rules all one two three u (inl m) = three u (inl (two u (inl (one u (inl m)))))
-units_joined net gate start ports rules all one two three u (inr m) = elim (among_append u _ (map unit.Router (keys_of net.routers)) m) [
-  | inr x ↦ absurd (none_of u _ (ap (λ (es : List (Name × _)). map unit.Router (keys_of es)) gate.routers) x)
-  | inl m ↦ elim (among_append u _ (map unit.Switch (keys_of net.switches)) m) [
-    | inr x ↦ three u (inr x)
-    | inl m ↦ elim (among_append u _ (balancer_units net) m) [
-      | inr x ↦ absurd (none_of u _ (ap (λ es. flat_map (units_of_balancer net) es) gate.balancers) x)
-      | inl m ↦ elim (among_append u _ (map unit.Nat (keys_of net.nats)) m) [
-        | inr x ↦ absurd (none_of u _ (ap (λ (es : List (Name × _)). map unit.Nat (keys_of es)) gate.nats) x)
-        | inl m ↦ elim (among_append u _ (neighbour_units net) m) [
-          | inr x ↦ absurd (none_of u _ (ap (λ es. flat_map (units_of_router_port net) es) gate.router_ports) x)
-          | inl m ↦ elim (among_append u _ (map unit.Route (keys_of net.routes)) m) [
-            | inr x ↦ absurd (none_of u _ (ap (λ (es : List (Name × _)). map unit.Route (keys_of es)) gate.routes) x)
-            | inl m ↦ elim (among_append u (port_units net) (rule_units net) m) [ inr x ↦ three u (inl (two u (inr x))) | inl x ↦ three u (inl (two u (inl (of_port x)))) ]
+module _ (net : Network) (gate : IsOfSwitches net) (u : UnitId) where
+  -- a unit of the network is a port, a rule or a switch
+  kinds : Among u (units_of net) → Among u (map unit.Port (keys_of net.switch_ports)) ⊎ (Among u (rule_units net) ⊎ Among u (map unit.Switch (keys_of net.switches)))
+  kinds m = elim (among_append u _ (map unit.Router (keys_of net.routers)) m) [
+    | inr x ↦ absurd (none_of u _ (ap (λ (es : List (Name × _)). map unit.Router (keys_of es)) gate.routers) x)
+    | inl m ↦ elim (among_append u _ (map unit.Switch (keys_of net.switches)) m) [
+      | inr x ↦ inr (inr x)
+      | inl m ↦ elim (among_append u _ (balancer_units net) m) [
+        | inr x ↦ absurd (none_of u _ (ap (λ es. flat_map (units_of_balancer net) es) gate.balancers) x)
+        | inl m ↦ elim (among_append u _ (map unit.Nat (keys_of net.nats)) m) [
+          | inr x ↦ absurd (none_of u _ (ap (λ (es : List (Name × _)). map unit.Nat (keys_of es)) gate.nats) x)
+          | inl m ↦ elim (among_append u _ (neighbour_units net) m) [
+            | inr x ↦ absurd (none_of u _ (ap (λ es. flat_map (units_of_router_port net) es) gate.router_ports) x)
+            | inl m ↦ elim (among_append u _ (map unit.Route (keys_of net.routes)) m) [
+              | inr x ↦ absurd (none_of u _ (ap (λ (es : List (Name × _)). map unit.Route (keys_of es)) gate.routes) x)
+              | inl m ↦ elim (among_append u (port_units net) (rule_units net) m) [ inr x ↦ inr (inl x) | inl x ↦ inl (of_switch x) ]
+            ]
           ]
         ]
       ]
     ]
   ]
-]
-  where
-    of_port : Among u (port_units net) → Among u ports
-    of_port x =
-        let q = map_among unit.Port u (keys_of net.switch_ports ++ keys_of net.router_ports) x in
-        elim (among_append q.0 (keys_of net.switch_ports) (keys_of net.router_ports) q.1) [
-          | inl m ↦ one u (inr (subst (λ v. Among v (map unit.Port (keys_of net.switch_ports))) (sym q.2) (among_map unit.Port q.0 (keys_of net.switch_ports) m)))
-          | inr m ↦ absurd (among_none q.0 (subst (λ (es : List (Name × _)). Among q.0 (keys_of es)) gate.router_ports m))
-        ]
+    where
+      of_switch : Among u (port_units net) → Among u (map unit.Port (keys_of net.switch_ports))
+      of_switch x =
+          let q = map_among unit.Port u (keys_of net.switch_ports ++ keys_of net.router_ports) x in
+          elim (among_append q.0 (keys_of net.switch_ports) (keys_of net.router_ports) q.1) [
+            | inl m ↦ subst (λ v. Among v (map unit.Port (keys_of net.switch_ports))) (sym q.2) (among_map unit.Port q.0 (keys_of net.switch_ports) m)
+            | inr m ↦ absurd (among_none q.0 (subst (λ (es : List (Name × _)). Among q.0 (keys_of es)) gate.router_ports m))
+          ]
+
+  -- and each of these is a unit of the network
+  port_there : Among u (map unit.Port (keys_of net.switch_ports)) → Among u (units_of net)
+  port_there m =
+      let q = map_among unit.Port u (keys_of net.switch_ports) m in
+      let mine : Among u (port_units net) = subst (λ v. Among v (port_units net)) (sym q.2) (among_map unit.Port q.0 (keys_of net.switch_ports ++ keys_of net.router_ports) (among_left q.0 _ _ q.1)) in
+      among_left u _ _ (among_left u _ _ (among_left u _ _ (among_left u _ _ (among_left u _ _ (among_left u _ _ (among_left u _ _ mine))))))
+
+  rule_there : Among u (rule_units net) → Among u (units_of net)
+  rule_there m = among_left u _ _ (among_left u _ _ (among_left u _ _ (among_left u _ _ (among_left u _ _ (among_left u _ _ (among_right u _ _ m))))))
+
+  switch_there : Among u (map unit.Switch (keys_of net.switches)) → Among u (units_of net)
+  switch_there m = among_left u _ _ (among_right u _ _ m)
+
+-- where ports, rules and switches have joined, all units have
+pub units_joined : (net : Network) → IsOfSwitches net → (start ports rules all : List UnitId) → HaveJoined (map unit.Port (keys_of net.switch_ports)) start ports → HaveJoined (rule_units net) ports rules
+    → HaveJoined (map unit.Switch (keys_of net.switches)) rules all → HaveJoined (units_of net) start all
+units_joined net gate start ports rules all one two three u = (
+  λ m. elim ((three u).0 m) [
+    | inr s ↦ inr (switch_there net gate u s)
+    | inl m ↦ elim ((two u).0 m) [
+      | inr r ↦ inr (rule_there net gate u r)
+      | inl m ↦ elim ((one u).0 m) [ inr q ↦ inr (port_there net gate u q) | inl old ↦ inl old ]
+    ]
+  ],
+  λ h. elim h [
+    | inl old ↦ (three u).1 (inl ((two u).1 (inl ((one u).1 (inl old)))))
+    | inr m ↦ elim (kinds net gate u m) [
+      | inl q ↦ (three u).1 (inl ((two u).1 (inl ((one u).1 (inr q)))))
+      | inr n ↦ elim n [ inl r ↦ (three u).1 (inl ((two u).1 (inr r))) | inr s ↦ (three u).1 (inr s) ]
+    ]
+  ],
+)
 
 -- ---- lists
 

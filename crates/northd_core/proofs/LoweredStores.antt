@@ -77,5 +77,5 @@ others_stay before after can can_after first between units one two = stores.cove
   where
     -- a unit that has flows before or after has joined
     have_joined : (u : UnitId) (f : Flow) → (Among f (lowered_of before u) ⊎ Among f (lowered_of after u)) → Among u units
-    have_joined u f (inl m) = two u (inl (one u (inr (with_flows before can u f m))))
-    have_joined u f (inr m) = two u (inr (with_flows after can_after u f m))
+    have_joined u f (inl m) = (two u).1 (inl ((one u).1 (inr (with_flows before can u f m))))
+    have_joined u f (inr m) = (two u).1 (inr (with_flows after can_after u f m))

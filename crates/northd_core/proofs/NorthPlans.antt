@@ -117,8 +117,8 @@ module _ (before after : Network) (valid : IsValid before) (next_valid : IsValid
 
   module _ (first between units : List UnitId) (one : HaveJoined (units_of before) first between) (two : HaveJoined (units_of after) between units) where
     with_rows_there : (u : UnitId) (f : LFlow) → (Among f (rows_of before u) ⊎ Among f (rows_of after u)) → Among u units
-    with_rows_there u f (inl m) = two u (inl (one u (inr (with_rows before valid gate u f m).there)))
-    with_rows_there u f (inr m) = two u (inr (with_rows after next_valid next_gate u f m).there)
+    with_rows_there u f (inl m) = (two u).1 (inl ((one u).1 (inr (with_rows before valid gate u f m).there)))
+    with_rows_there u f (inr m) = (two u).1 (inr (with_rows after next_valid next_gate u f m).there)
 
     with_pairs_there : (u : UnitId) (p : LFlow × Name) → (Among p (pairs_of_unit before u) ⊎ Among p (pairs_of_unit after u)) → Among u units
     with_pairs_there u p (inl m) = with_rows_there u p.0 (inl (paired_row before valid gate u p m).2)

@@ -7,3 +7,4 @@ pub mod KnownSwitches
 pub mod SameFlows
 pub mod SameRules
 pub mod SameUnits
+pub mod TouchedRows

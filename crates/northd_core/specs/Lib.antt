@@ -5,3 +5,4 @@ pub mod Held
 pub mod Plans
 pub mod Lowering
 pub mod Untouched
+pub mod Touched

@@ -8,4 +8,5 @@ pub mod lowered;
 mod lowering;
 pub mod northd;
 mod rows;
+pub mod touched;
 mod units;

@@ -5,7 +5,6 @@ ghost use Rattle.std.specs.Option.{option_copied};
 ghost use Rattle.flow_refs.specs.Store.{IsPreparedFor};
 ghost use Rattle.nb_records.specs.Network.{empty_network};
 ghost use Rattle.tunnel_keys.specs.Keys.{Keys};
-ghost use Rattle.northd_core.specs.Gate.{IsOfSwitches};
 ghost use Rattle.northd_core.specs.Held.{unit_order};
 ghost use Rattle.northd_core.specs.Listing.{HasCountedOn};
 ghost use Rattle.northd_core.specs.Lowering.{CanCompile, HaveLowered, IsLoweredIn, IsLoweredPlan, LeavesLowered, Lowering, StayLowered, same_lowered};
@@ -13,7 +12,7 @@ ghost use Rattle.northd_core.specs.Plans.{AreListed};
 
 use crate::exact::exact_units;
 use crate::lowering::list_lowered;
-use crate::units::{put_units, units_in};
+use crate::units::units_in;
 use flow_refs::patch::Patch;
 use flow_refs::shared::Shared;
 use flow_table::exact::{exact_flow, exact_flow_clone};
@@ -110,30 +109,9 @@ impl LoweredFlows {
         Ok(LoweredPlan { flows })
     }
 
-    /// Makes all ready for the flows of the records as the plan leaves them, with the keys as they are then. What is held is left as it
-    /// was. Where it stands for the records before, with whatever keys, the plan leads from there to the records after.
-    #[tactic(auto, using(crate::proofs::LoweredStores::left_itself, crate::proofs::Counted::none_counted))]
-    pub fn prepare<L>(
-        &mut self,
-        records: &Records,
-        plan: &EditPlan,
-        keys: &KeyStore,
-        steps: &mut Steps<L>,
-    ) -> Result<LoweredPlan, NoMemory>
-        requires before { IsOfSwitches records.now }
-        requires after { CanCompile (record { net = plan.now.after; keys = keys.now }) }
-        ensures left { LeavesLowered self.old self.new }
-        ensures steps { HasCountedOn steps.old steps.new }
-        ensures planned { IfOk result (λ patch. (before : Lowering) → before.net ≡ records.now → CanCompile before → HaveLowered before self.old
-            → IsLoweredPlan before (record { net = plan.now.after; keys = keys.now }) self.new patch) }
-    {
-        let mut units = BTreeSet::new(self.alloc);
-        put_units(records, &mut units)?;
-        put_units(plan.after(), &mut units)?;
-        self.plan_units(plan.after(), &units, keys, steps)
-    }
-
-    /// Makes all ready as `prepare` does, and lowers the touched units alone: every other one is to be lowered to the flows that it has.
+    /// Makes all ready for the flows of the records as the plan leaves them, with the keys as they are then, and lowers the touched units anew.
+    /// What is held is left as it was. Where it stands for the records before and every unit that isn't among these is to be lowered to the
+    /// flows that it has, the plan leads from there to the records after.
     #[tactic(auto, using(crate::proofs::LoweredStores::left_itself, crate::proofs::Counted::none_counted))]
     pub fn prepare_touched<L>(
         &mut self,

@@ -42,8 +42,8 @@ fn rows_of_port<L>(
     Ok(rows)
 }
 
-// Whether the rule is there and applies to the switch.
-fn is_on(records: &Records, rule: &Name, switch: &Name) -> bool
+/// Whether the rule is there and applies to the switch.
+pub(crate) fn is_on(records: &Records, rule: &Name, switch: &Name) -> bool
     ensures { result ≡ is_rule_on records.now rule.now switch.now }
 {
     match records.acl(rule) {

@@ -1,5 +1,5 @@
 //! The units of records.
-ghost use Rattle.std.specs.Prelude.{◌≡◌, IfOk, List, OnOk, map};
+ghost use Rattle.std.specs.Prelude.{◌≡◌, ◌↔◌, IfOk, List, OnOk, map};
 ghost use Rattle.std.specs.Map.{keys_of};
 ghost use Rattle.logical_flows.specs.declared.unit.UnitId.{UnitId};
 ghost use Rattle.logical_flows.specs.declared.unit.UnitId.TheVariants.{Port, Switch};
@@ -84,7 +84,7 @@ pub fn put_units(records: &Records, units: &mut BTreeSet<UnitId>) -> Result<(), 
 
 /// The units, as a set.
 pub fn units_in(alloc: Global, units: &[UnitId]) -> Result<BTreeSet<UnitId>, NoMemory>
-    ensures { IfOk result (λ set. (u : UnitId) → Among u units.now → Among u set.keys) }
+    ensures { IfOk result (λ set. (u : UnitId) → Among u set.keys ↔ Among u units.now) }
 {
     exact_unit_order();
     let mut set = BTreeSet::new(alloc);

@@ -54,5 +54,5 @@ pub mod StayingRecords
 pub mod TouchedRecords
 pub mod FramePackets
 pub mod WaitingNames
-pub mod LoweredUnits
+pub mod TouchedRules
 pub mod LoweredEdits

@@ -1,9 +1,11 @@
 -- Kinds and names of records that operations put, and what they leave at other names.
-use Rattle.std.specs.Prelude.{◌≡◌, ◌≢◌, ℕ, Bool, true, false, cond, List, [], ◌∷◌, Option, Some, None, option_map, refl}
+use Rattle.std.specs.Prelude.{◌≡◌, ◌≢◌, ◌⊎◌, ℕ, Bool, true, false, cond, List, [], ◌∷◌, Option, Some, None, option_map, refl}
 use Rattle.std.specs.BTreeMap.{is_at}
 use Rattle.std.specs.Cmp.Lexicographic.{slice_cmp}
 use Rattle.std.specs.Ordering.{nat_cmp}
-use mathlib.Core.Path.{sym, ap, ◌∙◌}
+use mathlib.Core.Path.{sym, ap, subst, ◌∙◌}
+use mathlib.Core.Logic.{inl, inr}
+use Rattle.address_sets.specs.Members.{sets_of}
 use Rattle.ovn_base.specs.declared.name.Name.{Name}
 use Rattle.ovn_base.specs.names.ByName.{at}
 use Rattle.ovn_base.proofs.ByNameLaws.{same_name, at_tail, put_other}
@@ -126,3 +128,40 @@ module _ (net : Network) (q : Name) where
   pub port_without : (k : Kind) (p : Name) → ¬ ((k ≡ kind.SwitchPort) × (p ≡ q)) → at (without_record net k p).switch_ports q ≡ at net.switch_ports q
   port_without kind.SwitchPort p other = removed_other net.switch_ports p q (λ same. other (refl, sym same))
   port_without k p other = refl
+
+  -- so it is with rules
+  pub acl_beside : (r : Record) → ¬ IsNamed kind.Acl q r → at (with_record net r).acls q ≡ at net.acls q
+  acl_beside (row.Acl r) other = put_other net.acls r.name r q (λ same. other (refl, sym same))
+  acl_beside r other = refl
+
+  pub acl_unchanged : (c : Change) (a : Option Record) → ((r : Record) → a ≡ Some r → ¬ IsNamed kind.Acl q r) → at (with_change net c a).acls q ≡ at net.acls q
+  acl_unchanged c None other = refl
+  acl_unchanged c (Some r) other = acl_beside (changed_record c r) (λ named. let is = changed_named c r in other r refl (sym is.0 ∙ named.0, sym is.1 ∙ named.1))
+
+  pub acl_without : (k : Kind) (p : Name) → ¬ ((k ≡ kind.Acl) × (p ≡ q)) → at (without_record net k p).acls q ≡ at net.acls q
+  acl_without kind.Acl p other = removed_other net.acls p q (λ same. other (refl, sym same))
+  acl_without k p other = refl
+
+-- ---- other kinds
+
+-- the kinds of records that have members: address sets and port groups
+abbrev pub HasMembers : Kind → Type 0
+HasMembers k = (k ≡ kind.AddressSet) ⊎ (k ≡ kind.PortGroup)
+
+module _ (net : Network) where
+  -- beside a record of another kind that is put, the sets and groups are the same
+  pub sets_beside : (r : Record) → ¬ HasMembers (kind_of r) → sets_of (with_record net r) ≡ sets_of net
+  sets_beside (row.AddressSet r) other = absurd (other (inl refl))
+  sets_beside (row.PortGroup r) other = absurd (other (inr refl))
+  sets_beside r other = refl
+
+  -- beside one that is changed
+  pub sets_unchanged : (c : Change) (a : Option Record) → ((r : Record) → a ≡ Some r → ¬ HasMembers (kind_of r)) → sets_of (with_change net c a) ≡ sets_of net
+  sets_unchanged c None other = refl
+  sets_unchanged c (Some r) other = sets_beside (changed_record c r) (λ is. other r refl (subst (λ (k : Kind). HasMembers k) (changed_named c r).0 is))
+
+  -- beside one that is taken out
+  pub sets_without : (k : Kind) (p : Name) → ¬ HasMembers k → sets_of (without_record net k p) ≡ sets_of net
+  sets_without kind.AddressSet p other = absurd (other (inl refl))
+  sets_without kind.PortGroup p other = absurd (other (inr refl))
+  sets_without k p other = refl

@@ -1,5 +1,7 @@
--- The units of flows that an edit touches.
-use Rattle.std.specs.Prelude.{◌++◌, List, [], ◌∷◌, Option, Some, None, flat_map}
+-- The units of flows and the rules that an edit touches.
+use Rattle.std.specs.Prelude.{◌++◌, Bool, true, false, cond, List, [], ◌∷◌, Option, Some, None, flat_map}
+use Rattle.std.specs.List.{list_any}
+use Rattle.std.specs.Map.{keys_of}
 use Rattle.ovn_base.specs.declared.name.Name.{Name}
 use Rattle.ovn_base.specs.names.ByName.{at}
 use Rattle.logical_flows.specs.declared.unit.UnitId.{UnitId}
@@ -47,3 +49,32 @@ abbrev pub row_unit : FlowUnit → Option UnitId
 row_unit unit.Common = None
 row_unit (unit.Switch a) = Some (rows.Switch a)
 row_unit (unit.Port q) = Some (rows.Port q)
+
+-- ---- rules
+
+-- the rule that the record of this kind and name is
+abbrev pub rule_named : Kind → Name → List Name
+rule_named kind.Acl r = r ∷ []
+rule_named other name = []
+
+abbrev pub rules_by : Op → List Name
+rules_by (Add r) = rule_named (kind_of r) (name_of r)
+rules_by (Set k name change) = rule_named k name
+rules_by (Remove k name) = rule_named k name
+rules_by (Health balancer backend online) = []
+
+-- a record of this kind has members, which a rule may name by it
+abbrev pub has_members : Kind → Bool
+has_members kind.AddressSet = true
+has_members kind.PortGroup = true
+has_members other = false
+
+abbrev pub names_members : Op → Bool
+names_members (Add r) = has_members (kind_of r)
+names_members (Set k name change) = has_members k
+names_members (Remove k name) = has_members k
+names_members (Health balancer backend online) = false
+
+-- those that the operations name; and with a set or a group all that were there, since any may name it
+abbrev pub rules_touched : Network → List Op → List Name
+rules_touched before ops = flat_map rules_by ops ++ cond (list_any names_members ops) (keys_of before.acls) []

@@ -1,13 +1,14 @@
 //! What an edit makes of units, lines and names.
-ghost use Rattle.std.specs.Prelude.{◌≡◌, ◌↔◌, ◌++◌, map, IfOk, OnOk};
-ghost use Rattle.std.specs.List.{filter_map};
+ghost use Rattle.std.specs.Prelude.{◌≡◌, ◌↔◌, ◌++◌, cond, [], map, IfOk, OnOk};
+ghost use Rattle.std.specs.List.{filter_map, list_any};
+ghost use Rattle.std.specs.Map.{keys_of};
 ghost use Rattle.ovn_base.specs.lists.Among.{Among};
 ghost use Rattle.ovn_base.specs.lists.Once.{EachOnce};
 ghost use Rattle.ovn_base.specs.names.ByName.{at, in_order};
 ghost use Rattle.tunnel_keys.specs.Giving.{put_option};
 ghost use Rattle.tunnel_keys.specs.Owners.{as_port_of, datapaths_in, ports_in};
 ghost use Rattle.world_core.specs.KeyLines.{as_place, datapath_effect, key_effects, key_name, port_effect};
-ghost use Rattle.world_core.specs.Touched.{row_unit, switch_of, touched_by, units_by, units_named};
+ghost use Rattle.world_core.specs.Touched.{has_members, names_members, row_unit, rule_named, rules_by, rules_touched, switch_of, touched_by, units_by, units_named};
 
 use logical_flows::unit::UnitId;
 use nb_records::change::Op;
@@ -131,6 +132,96 @@ pub(crate) fn row_units(alloc: Global, touched: &[FlowUnit]) -> Result<List<Unit
         }
     }
     Ok(units)
+}
+
+// Adds the rules of the records.
+fn push_rules(records: &Records, rules: &mut List<Name>) -> Result<(), NoMemory>
+    ensures { OnOk result (rules.new ≡ rules.old ++ keys_of records.now.acls) }
+{
+    'rules: for (name, _rule) in records.acls() {
+        rules.push(*name)?;
+    }
+    Ok(())
+}
+
+// Adds the name, if a record of this kind is a rule.
+fn push_named_rule(kind: Kind, name: Name, rules: &mut List<Name>) -> Result<(), NoMemory>
+    ensures { OnOk result (rules.new ≡ rules.old ++ rule_named kind name) }
+{
+    match kind {
+        Kind::Acl => rules.push(name),
+        _ => Ok(()),
+    }
+}
+
+// Adds the rule that the operation names, if it names one.
+fn push_rules_by(op: &Op, rules: &mut List<Name>) -> Result<(), NoMemory>
+    ensures { OnOk result (rules.new ≡ rules.old ++ rules_by op.now) }
+{
+    match op {
+        Op::Add(Record::Acl(rule)) => rules.push(rule.name),
+        Op::Add(_) => Ok(()),
+        Op::Set { kind, name, .. } | Op::Remove { kind, name } => {
+            push_named_rule(*kind, *name, rules)
+        }
+        Op::Health { .. } => Ok(()),
+    }
+}
+
+// A record of this kind has members, which a rule may name by it.
+fn has_members(kind: Kind) -> bool
+    ensures { result ≡ has_members kind }
+{
+    match kind {
+        Kind::AddressSet | Kind::PortGroup => true,
+        _ => false,
+    }
+}
+
+// The operation names a set or a group.
+fn names_members(op: &Op) -> bool
+    ensures { result ≡ names_members op.now }
+{
+    match op {
+        Op::Add(Record::AddressSet(_)) | Op::Add(Record::PortGroup(_)) => true,
+        Op::Add(_) => false,
+        Op::Set { kind, .. } | Op::Remove { kind, .. } => has_members(*kind),
+        Op::Health { .. } => false,
+    }
+}
+
+// One of the operations names a set or a group.
+fn some_names_members(ops: &[Op]) -> bool
+    ensures { result ≡ list_any names_members ops.now }
+{
+    ops.iter().any(|op| names_members(op))
+}
+
+// Adds all rules of the records, where one of the operations names a set or a group.
+fn push_all_rules(before: &Records, ops: &[Op], rules: &mut List<Name>) -> Result<(), NoMemory>
+    ensures { OnOk result (rules.new ≡ rules.old ++ cond (list_any names_members ops.now) (keys_of before.now.acls) []) }
+{
+    if some_names_members(ops) {
+        push_rules(before, rules)
+    } else {
+        Ok(())
+    }
+}
+
+/// The rules that the operations touch: those that they name, and with a set or a group all that were there, since any may name it.
+pub(crate) fn touched_rules(
+    alloc: Global,
+    before: &Records,
+    ops: &[Op],
+) -> Result<List<Name>, NoMemory>
+    ensures { IfOk result (λ rules. rules ≡ rules_touched before.now ops.now) }
+{
+    let mut rules = List::new(alloc);
+    'ops: for op in ops {
+        push_rules_by(op, &mut rules)?;
+    }
+    push_all_rules(before, ops, &mut rules)?;
+    Ok(rules)
 }
 
 // The datapaths among the owners, in order of name.

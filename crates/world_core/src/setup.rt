@@ -33,7 +33,7 @@ ghost use Rattle.sim_laws.specs.journeys.First.{nobody_home};
 ghost use Rattle.world_core.specs.Zones.{home_change};
 
 use crate::built::is_built_edit;
-use crate::edited::{key_effects, key_names, row_units, touched_units};
+use crate::edited::{key_effects, key_names, row_units, touched_rules, touched_units};
 use crate::event_kinds::TurnEvent;
 use crate::ground::{Ground, GroundChange};
 use crate::held::{Held, holding};
@@ -48,8 +48,9 @@ use nb_edits::edit::plan;
 use nb_edits::plan::{EditFault, EditPlan};
 use nb_records::change::Op;
 use nb_records::records::Records;
-use northd_core::laws::untouched_units_stay;
+use northd_core::laws::untouched_rows_stay;
 use northd_core::lowered::{LoweredFlows, LoweredPlan};
+use northd_core::touched::touched_rows;
 use ovn_base::delta::Delta;
 use ovn_base::limits::MAX_CHASSIS;
 use ovn_base::list::List;
@@ -367,7 +368,7 @@ impl Setup {
         })
     }
 
-    // Prepares what planned records and keys make of the flows that every chassis has. Without rules the touched units alone are lowered anew.
+    // Prepares what planned records and keys make of the flows that every chassis has: the rows that the operations touch are lowered anew.
     fn lower<L>(
         &mut self,
         alloc: Global,
@@ -383,17 +384,16 @@ impl Setup {
         ensures planned { IfOk result (IsLoweredPlan (lowering_in self.old.ground) (record { net = records.now.after; keys = keys.now }) self.new.lowered) }
         ensures steps { steps.old ≤ steps.new }
     {
-        untouched_units_stay();
+        untouched_rows_stay();
         let before = &self.ground.records;
         let after = records.after();
-        let plan = if before.acls().is_empty() && after.acls().is_empty() {
-            let touched = touched_units(alloc, before, after, ops)?;
-            let units = row_units(alloc, touched.as_slice())?;
-            self.lowered
-                .prepare_touched(records, units.as_slice(), keys.after(), steps)?
-        } else {
-            self.lowered.prepare(before, records, keys.after(), steps)?
-        };
+        let touched = touched_units(alloc, before, after, ops)?;
+        let units = row_units(alloc, touched.as_slice())?;
+        let rules = touched_rules(alloc, before, ops)?;
+        let rows = touched_rows(alloc, before, after, units.as_slice(), rules.as_slice())?;
+        let plan = self
+            .lowered
+            .prepare_touched(records, rows.as_slice(), keys.after(), steps)?;
         Ok(plan)
     }
 

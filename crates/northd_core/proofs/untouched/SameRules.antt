@@ -1,5 +1,5 @@
--- A rule applies to a switch by both records, or by neither, where the live ports of the switch and the members of groups are the same.
-use Rattle.std.specs.Prelude.{◌≡◌, ℕ, Bool, true, false, cond, List, Option, Some, None, option_map, is_some}
+-- A rule applies to a switch by both records, or by neither, where the live ports of the switch and the members of groups are the same; and so with connections that a switch tracks.
+use Rattle.std.specs.Prelude.{◌≡◌, ℕ, Bool, true, false, cond, List, Option, Some, None, option_map, is_some, IsSome}
 use Rattle.std.specs.BTreeMap.{is_at}
 use Rattle.std.specs.Cmp.Lexicographic.{slice_cmp}
 use Rattle.std.specs.Map.{values_of}
@@ -20,7 +20,7 @@ use Rattle.match_cubes.proofs.TernaryLaws.{same_tests}
 use Rattle.match_cubes.specs.Points.{named}
 use Rattle.match_cubes.specs.declared.sets.Sets.{Sets}
 use Rattle.nb_records.specs.Network.{Network, is_there, records_of}
-use Rattle.nb_records.specs.Switches.{applies, covers, has_port_of, is_given, is_named, switch_ports_of}
+use Rattle.nb_records.specs.Switches.{applies, covers, has_port_of, is_given, is_named, is_related, is_stateful, rules_of, switch_ports_of}
 use Rattle.nb_records.specs.declared.kinds.Kind.TheVariants as kind
 use Rattle.nb_records.specs.declared.record.Record.{Record}
 use Rattle.nb_records.specs.declared.record.Record.TheVariants as row
@@ -50,7 +50,7 @@ on_there d (Some k) n h = by (same_name d k.datapath) refl h
 
 module _ (l : Lowering) (can : CanCompile l) (d : Name) where
   -- a port of a switch has a live key
-  live_port : (q : Name) (port : SwitchPort) → at l.net.switch_ports q ≡ Some port → IsLive l.keys (switch_port_owner (q, port))
+  pub live_port : (q : Name) (port : SwitchPort) → at l.net.switch_ports q ≡ Some port → IsLive l.keys (switch_port_owner (q, port))
   live_port q port found =
       let o = switch_port_owner (q, port) in
       can.live o (among_right o _ _ (among_map switch_port_owner (q, port) l.net.switch_ports (at_among l.net.switch_ports q port found)))
@@ -71,6 +71,17 @@ module _ (l : Lowering) (can : CanCompile l) (d : Name) where
       let live = live_port q port found in
       let k = on_there d (at l.keys.ports q) n (sym (named_on d l.keys.ports q can.hold.ports_in_order) ∙ has) in
       ap (λ (x : PortKey). x.datapath) (same_Some (record { birth = port.birth; datapath = port.switch; key = live.0 }) k.0 (sym live.1 ∙ k.1)) ∙ k.2
+
+-- a port with a key is one of the switch on which the key is
+pub key_owner : (l : Lowering) → CanCompile l → (q : Name) (k : PortKey) → at l.keys.ports q ≡ Some k → IsSome (at l.net.switch_ports q)
+    → (port : SwitchPort) × (at l.net.switch_ports q ≡ Some port) × (port.switch ≡ k.datapath)
+key_owner l can q k has there = by (at l.net.switch_ports q) refl there
+  where
+    by : (o : Option SwitchPort) → at l.net.switch_ports q ≡ o → IsSome o → (port : SwitchPort) × (at l.net.switch_ports q ≡ Some port) × (port.switch ≡ k.datapath)
+    by None is h = absurd (false≢true h)
+    by (Some port) is h =
+        let live = live_port l can k.datapath q port is in
+        (port, is, ap (λ (x : PortKey). x.datapath) (same_Some (record { birth = port.birth; datapath = port.switch; key = live.0 }) k (sym live.1 ∙ has)))
 
 -- ---- groups
 
@@ -151,3 +162,20 @@ pub applies_alike : (l m : Lowering) → CanCompile l → CanCompile m → (d : 
     → (x : Acl) → applies l.net d x ≡ applies m.net d x
 applies_alike l m can could d ports sets x =
     same_tests (applies l.net d x) (applies m.net d x) (applies_too l m can could d ports sets x) (applies_too m l could can d (sym ports) (sym sets) x)
+
+-- ---- switches
+
+-- a switch that tracks connections by the first does so by the second, where every rule on it is there by the second too, with the same members of sets and groups
+pub stateful_too : (l m : Lowering) → CanCompile l → CanCompile m → (d : Name) → ports_on l.keys.ports d ≡ ports_on m.keys.ports d
+    → ((r : Name) (x : Acl) → at l.net.acls r ≡ Some x → applies l.net d x ≡ true → (at m.net.acls r ≡ Some x) × (sets_of l.net ≡ sets_of m.net))
+    → is_stateful l.net d ≡ true → is_stateful m.net d ≡ true
+stateful_too l m can could d ports stay h =
+    let related : Acl → Bool = λ x. is_related x.action in
+    let one = any_among related (rules_of l.net d) h in
+    let two = filter_among (applies l.net d) one.0 (values_of l.net.acls) one.1 in
+    let e = map_among (λ (e : Name × Acl). e.1) one.0 l.net.acls two.0 in
+    let found : at l.net.acls e.0.0 ≡ Some one.0 = among_at e.0.0 e.0.1 l.net.acls can.valid.in_order.acls e.1 ∙ ap (λ (x : Acl). Some x) (sym e.2) in
+    let kept = stay e.0.0 one.0 found two.1 in
+    let value : Among one.0 (values_of m.net.acls) = among_map (λ (e : Name × Acl). e.1) (e.0.0, one.0) m.net.acls (at_among m.net.acls e.0.0 one.0 kept.0) in
+    let listed = among_filter (applies m.net d) one.0 (values_of m.net.acls) value (sym (applies_alike l m can could d ports kept.1 one.0) ∙ two.1) in
+    among_any related one.0 (rules_of m.net d) listed one.2

@@ -54,7 +54,7 @@ no_flows_of l u none = ap (λ (rs : List LFlow). on_some (datapath_of l.net u) (
 
 module _ (before after : Lowering) (can : CanCompile before) (could : CanCompile after) where
   -- nor has it by the other
-  both_none : (u : UnitId) → rows_of before.net u ≡ [] → rows_of after.net u ≡ [] → lowered_of before u ≡ lowered_of after u
+  pub both_none : (u : UnitId) → rows_of before.net u ≡ [] → rows_of after.net u ≡ [] → lowered_of before u ≡ lowered_of after u
   both_none u none also = no_flows_of before u none ∙ sym (no_flows_of after u also)
 
   -- the unit's rows are lowered to the same flows on its datapath

@@ -1,10 +1,8 @@
 use Rattle.std.specs.Prelude.{[], ◌∷◌, map}
 use Rattle.std.specs.Map.{keys_of}
-use Rattle.std.proofs.Common.{sym, subst}
-use Rattle.ovn_base.specs.lists.Among.{Among}
+use Rattle.std.proofs.Common.{subst}
 use Rattle.logical_flows.specs.declared.unit.UnitId.TheVariants.{Port}
-use Rattle.northd_core.proofs.Joined.{IsJoining, some_join, one_joins, put_there}
-use Rattle.northd_core.specs.Held.{unit_order}
+use Rattle.northd_core.proofs.Joined.{IsJoining, some_join, one_joins}
 use Rattle.northd_core.proofs.units.put_ports.Goals as goal
 
 pub loop-name-preserved : goal.loop-name-preserved
@@ -13,5 +11,5 @@ loop-name-preserved c =
     let unit = Port c.in-Some.name.now in
     let all = map Port (keys_of c.args.records.now.switch_ports) in
     some_join c.args.units.now.keys all before c.insert.new.self.keys (unit ∷ []) (map Port (keys_of c.next.new.self))
-    (one_joins before c.insert.new.self.keys unit (λ x h. subst (λ ks. Among x ks) (sym c.in_ok-insert.ensures.keys) (put_there unit_order c.exact_unit_order.ensures before unit x h)))
+    (one_joins c.exact_unit_order.ensures before c.insert.new.self.keys unit c.in_ok-insert.ensures.keys)
     (subst (λ es. IsJoining c.args.units.now.keys all before (map Port (keys_of es))) c.in-Some.ensures.steps c.loop-name.invariant)

@@ -1,11 +1,9 @@
 use Rattle.std.specs.Prelude.{[], ◌∷◌}
 use Rattle.std.specs.Map.{keys_of}
 use Rattle.std.proofs.Common.{sym, subst, ◌∙◌}
-use Rattle.ovn_base.specs.lists.Among.{Among}
 use Rattle.logical_flows.specs.declared.unit.UnitId.TheVariants.{Rule}
 use Rattle.stage_rows.specs.Units.{units_of_rule}
-use Rattle.northd_core.proofs.Joined.{IsJoining, some_join, one_joins, put_there, rule_on_each, applying, not_applying}
-use Rattle.northd_core.specs.Held.{unit_order}
+use Rattle.northd_core.proofs.Joined.{IsJoining, some_join, one_joins, rule_on_each, applying, not_applying}
 use Rattle.northd_core.proofs.units.put_rule.Goals as goal
 
 pub loop-switch-preserved-in_ok-insert : goal.loop-switch-preserved-in_ok-insert
@@ -17,7 +15,7 @@ loop-switch-preserved-in_ok-insert c =
     let unit = Rule name c.in-Some.switch.now in
     let all = units_of_rule net (name, rule) in
     some_join c.args.units.now.keys all before c.insert.new.self.keys (unit ∷ []) (rule_on_each net name rule (keys_of c.next.new.self))
-    (one_joins before c.insert.new.self.keys unit (λ x h. subst (λ ks. Among x ks) (sym c.in_ok-insert.ensures.keys) (put_there unit_order c.exact_unit_order.ensures before unit x h)))
+    (one_joins c.exact_unit_order.ensures before c.insert.new.self.keys unit c.in_ok-insert.ensures.keys)
     (subst (λ us. IsJoining c.args.units.now.keys all before us) (applying net name rule c.in-Some.switch.now (keys_of c.next.new.self) (sym c.applies.ensures ∙ c.if-applies.true))
     (subst (λ es. IsJoining c.args.units.now.keys all before (rule_on_each net name rule (keys_of es))) c.in-Some.ensures.steps c.loop-switch.invariant))
 

@@ -14,5 +14,5 @@ returns-clause-planned g c =
     → IsLoweredPlan before (record { net = n; keys = c.args.keys.now }) c.plan_units.new.self patch) → IfOk c.plan_units.result (λ patch. (before : Lowering) → CanCompile before → HaveLowered before c.args.self.now
     → StayLowered before (record { net = c.args.plan.now.after; keys = c.args.keys.now }) c.args.touched.now
     → IsLoweredPlan before (record { net = c.args.plan.now.after; keys = c.args.keys.now }) c.plan_units.new.self patch)) (sym c.after.ensures)
-    (λ planned. IfOk-weaker c.plan_units.result _ _ (λ patch leads before can had others. leads before can had (λ u out. others u (λ m. out (c.in_ok-units.ensures u m)))) planned)
+    (λ planned. IfOk-weaker c.plan_units.result _ _ (λ patch leads before can had others. leads before can had (λ u out. others u (λ m. out ((c.in_ok-units.ensures u).1 m)))) planned)
     c.plan_units.ensures.planned

@@ -1,1 +1,0 @@
-use Rattle.world_core.proofs.edited.row_units.Goals as goal
