@@ -5,7 +5,7 @@ use chassis_sim::out::SimFault;
 use chassis_sim::sim::Sim;
 use engine_tests::packets::{ANSWERED, ASKED, read};
 use engine_tests::rows::{put_all, row};
-use flow_table::flow::{Cause, Flow, FlowOp, Member, ZoneOf};
+use flow_table::flow::{Cause, Flow, FlowOp, ZoneOf};
 use flow_table::tables::Tables;
 use inet_packet::cube::{Bits, Cube};
 use inet_packet::regs::Reg;
@@ -43,13 +43,6 @@ const OTHER: &str =
 
 const OTHER_HIDDEN: &str =
     "0a00000000020a000000000308004500001c000100004011c3c0ac1000fe0a0000020400138900080000";
-
-// 10.0.0.1 asks who has 10.0.0.9, and 0a:00:00:00:00:09 answers.
-const ARP_REQUEST: &str =
-    "ffffffffffff0a0000000001080600010800060400010a00000000010a0000010000000000000a000009";
-
-const ARP_REPLY: &str =
-    "0a00000000010a0000000009080600010800060400020a00000000090a0000090a00000000010a000001";
 
 // An echo request from 10.0.0.1 to 10.0.0.254, with the identifier 7, and its reply.
 const PING: &str =
@@ -278,39 +271,12 @@ fn routes(rt: HostRuntime) -> Result<(), Fail> {
     Ok(())
 }
 
-#[test]
-fn answers_arp(rt: HostRuntime) -> Result<(), Fail> {
-    let alloc = rt.alloc();
-    let reply = FlowOp::ArpReply {
-        mac: Mac([10, 0, 0, 0, 0, 9]),
-        ip: Ip4(0x0a00_0009),
-    };
-    let mut bench = doing(&rt, alloc, [reply, gives(&rt)])?;
-    let is_so = becomes(alloc, &mut bench, ARP_REQUEST, ARP_REPLY, 1).expect(&rt, "an answer");
-    assert!(rt; is_so);
-    Ok(())
-}
-
 // The Ethernet addresses stay, since what follows sets them.
 #[test]
 fn answers_echo(rt: HostRuntime) -> Result<(), Fail> {
     let alloc = rt.alloc();
     let mut bench = doing(&rt, alloc, [FlowOp::EchoReply, gives(&rt)])?;
     let is_so = becomes(alloc, &mut bench, PING, PONG, 1).expect(&rt, "an answer");
-    assert!(rt; is_so);
-    Ok(())
-}
-
-// Where its condition doesn't hold an action does nothing: ASKED is no request.
-#[test]
-fn answers_no_other(rt: HostRuntime) -> Result<(), Fail> {
-    let alloc = rt.alloc();
-    let reply = FlowOp::ArpReply {
-        mac: Mac([10, 0, 0, 0, 0, 9]),
-        ip: Ip4(0x0a00_0009),
-    };
-    let mut bench = doing(&rt, alloc, [reply, FlowOp::EchoReply, gives(&rt)])?;
-    let is_so = becomes(alloc, &mut bench, ASKED, ASKED, 1).expect(&rt, "an answer");
     assert!(rt; is_so);
     Ok(())
 }
@@ -363,26 +329,6 @@ fn destination_nat(rt: HostRuntime) -> Result<(), Fail> {
     let asked = becomes(alloc, &mut bench, ASKED_7, ASKED, 2).expect(&rt, "an answer");
     let answered = becomes(alloc, &mut bench, ANSWERED, ANSWERED_7, 2).expect(&rt, "an answer");
     assert!(rt; asked && answered);
-    Ok(())
-}
-
-// What comes in from the port of the key 4 goes back to it, and of two copies that which would is left out.
-#[test]
-fn copies_and_goes_back(rt: HostRuntime) -> Result<(), Fail> {
-    let alloc = rt.alloc();
-    let came = FlowOp::Set {
-        reg: Reg::InPort,
-        value: 4,
-    };
-    let members = [Member { key: 3, zone: 0 }, Member { key: 4, zone: 0 }];
-    let copies = FlowOp::Copies(List::from_slice(alloc, &members)?);
-    let mut flows = Vec::new(alloc);
-    add(&mut flows, 0, all(), [came, FlowOp::OutIsIn, FlowOp::Go(1)])?;
-    add(&mut flows, 1, to(4), [copies])?;
-    add(&mut flows, 34, to(3), [gives(&rt)])?;
-    let mut bench = bench_with(&rt, flows)?;
-    let is_so = becomes(alloc, &mut bench, ASKED, ASKED, 3).expect(&rt, "an answer");
-    assert!(rt; is_so);
     Ok(())
 }
 
