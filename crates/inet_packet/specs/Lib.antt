@@ -1,6 +1,7 @@
 -- Definitions that contracts cite.
 pub mod Fields
 pub mod Fits
+pub mod BitsHash
 pub mod Cubes
 pub mod Frame
 pub mod Sums

@@ -1,13 +1,30 @@
 ghost use Rattle.std.specs.Prelude.{◌≡◌, ◌<◌};
+ghost use Rattle.std.specs.Hash.{same_Alike};
+ghost use Rattle.inet_packet.specs.BitsHash.{fed_by, same_bits_decides};
 ghost use Rattle.inet_packet.specs.Cubes.{exactly};
 
 use crate::regs::At;
+use std::hash::{Hash, Hasher};
 
 /// The bits of a field that count, and what they have to be.
-#[derive(Clone, Copy, PartialEq, Eq, Hash, Debug)]
+#[derive(Clone, Copy, PartialEq, Eq, Debug)]
 pub struct Bits {
     pub value: u64,
     pub mask: u64,
+}
+
+// A cube asks for few of its fields, and the others add nothing to its hash.
+impl Hash for Bits {
+    ghost hash_input = { fed_by };
+
+    ghost respects_eq = { (same_Alike fed_by same_bits_decides).fed };
+
+    fn hash<H: Hasher>(&self, state: &mut H) {
+        if self.mask != 0 {
+            self.value.hash(state);
+            self.mask.hash(state);
+        }
+    }
 }
 
 /// A set of packets with their registers: a value and a mask for each register and each field, and the entry.
