@@ -20,7 +20,7 @@ pub leads_on : {now : ℕ} {t u v : Trail} → Leads now t u → Leads now u v �
 leads_on h stays = h
 leads_on h (tells e g) = tells e (leads_on h g)
 leads_on h (commits owner from back list a b c g) = commits owner from back list a b c (leads_on h g)
-leads_on h (refreshes owner change e a g) = refreshes owner change e a (leads_on h g)
+leads_on h (refreshes owner change e a b g) = refreshes owner change e a b (leads_on h g)
 leads_on h (chooses legal left g) = chooses legal left (leads_on h g)
 
 pub point_on : {now : ℕ} {t u : Trail} (a : Point) → Leads now t u → PointLeads now u a → PointLeads now t a
@@ -48,14 +48,14 @@ ends_grow : {now : ℕ} {t u : Trail} → Leads now t u → (more : List End) ×
 ends_grow {t} stays = ([], sym (append-nil t.ends))
 ends_grow {t} (tells e g) = let h = ends_grow g in (h.0 ++ e ∷ [], ap (λ (es : List End). es ++ e ∷ []) h.1 ∙ append_assoc t.ends h.0 (e ∷ []))
 ends_grow (commits owner from back list a b c g) = ends_grow g
-ends_grow (refreshes owner change e a g) = ends_grow g
+ends_grow (refreshes owner change e a b g) = ends_grow g
 ends_grow (chooses legal left g) = ends_grow g
 
 legal_before : {now : ℕ} {t u : Trail} → Leads now t u → u.legal ≡ true → t.legal ≡ true
 legal_before stays l = l
 legal_before (tells e g) l = legal_before g l
 legal_before (commits owner from back list a b c g) l = legal_before g l
-legal_before (refreshes owner change e a g) l = legal_before g l
+legal_before (refreshes owner change e a b g) l = legal_before g l
 legal_before (chooses {u} legal left g) l = legal_before g (first_so u.legal legal l)
 
 -- a value that takes the place of another leaves the keys as they are
@@ -76,7 +76,7 @@ owners_stay : {now : ℕ} {t u : Trail} → Leads now t u → list_owners u.list
 owners_stay stays = refl
 owners_stay (tells e g) = owners_stay g
 owners_stay (commits {u} owner from back list a b c g) = written_owners u owner list ∙ owners_stay g
-owners_stay (refreshes {u} owner change e a g) = written_owners u owner (changed change e.forward (list_of u.lists owner)) ∙ owners_stay g
+owners_stay (refreshes {u} owner change e a b g) = written_owners u owner (changed change e.forward (list_of u.lists owner)) ∙ owners_stay g
 owners_stay (chooses legal left g) = owners_stay g
 
 pub is_later : {now : ℕ} {t u : Trail} → Leads now t u → IsLater t u

@@ -11,3 +11,8 @@ pub mod SpareLaws
 pub mod SwitchSpares
 pub mod RouterSpares
 pub mod SparedJourneys
+pub mod NewEntries
+pub mod KeptEntries
+pub mod ConnectionLaws
+pub mod ListLaws
+pub mod ListJourneys

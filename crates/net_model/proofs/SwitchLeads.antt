@@ -1,5 +1,6 @@
 -- The pieces of the way through a switch lead on.
 use Rattle.std.specs.Prelude.{◌≡◌, ℕ, Bool, true, false, List, [], ◌∷◌, Option, Some, None, option_map, cond, Result, Ok, Err, refl}
+use Rattle.std.proofs.Common.{arith}
 use Rattle.std.proofs.lemmas.Bool.{false≢true}
 use Rattle.std.specs.List.{find}
 use Rattle.conn_table.specs.Connections.{ConnectionList, committed, IsPair, touched, blocked_as}
@@ -38,7 +39,7 @@ use Rattle.net_model.specs.Balancing.{Desk, commit_cause, after_commit, commit_o
 use Rattle.net_model.specs.Config.{Home, nowhere, on, everywhere, home_of, port_identity}
 use Rattle.net_model.specs.Entry.{Scene, Onward, admission, security_in, passage_in, judge_in, secure_in, enter}
 use Rattle.net_model.specs.Exit.{exit_denial, passage_out, security_out, secure_out, judge_out, exit, give_out, leave}
-use Rattle.net_model.specs.Leads.{Leads, stays, tells, commits, refreshes, chooses, KeepsTuples, PointLeads, PieceLeads, WayLeads, OnwardLeads}
+use Rattle.net_model.specs.Leads.{Leads, stays, tells, commits, refreshes, chooses, KeepsTuples, UsesBy, PointLeads, PieceLeads, WayLeads, OnwardLeads}
 use Rattle.net_model.specs.Spread.{SentFrom, crossing_to, send_here, send_over, send_home, other_homes, cross_to_each, local_members, copy_to_each, spread, send_to}
 use Rattle.net_model.specs.Targets.{Target, answer_from, to_one, to_group, to_nobody, members, is_other}
 use Rattle.net_model.specs.Tracking.{carry_onward, carry_back, Passage, desk_of, is_tracked, denial, begin_to, begin, take_new, take_forward, take_reply, invalid_denial, take, is_stateless, track_unless, pass_if, pass}
@@ -51,6 +52,9 @@ use Rattle.net_model.specs.declared.crossing.Group.{Group}
 touched_keeps : (now : ℕ) → KeepsTuples (touched now)
 touched_keeps now e = (refl, refl)
 
+touched_by : (now : ℕ) → UsesBy now (touched now)
+touched_by now e h = omega arith
+
 pub commit_leads : (d : Desk) (from back : Tuple) (t : Trail) (p : Packet) → IsNewTuple (list_of t.lists d.owner) from → IsPair from back → PointLeads d.now t (commit_or_drop d from back t p)
 commit_leads d from back t p h pair = by (committed (list_of t.lists d.owner) from back d.now) refl
   where
@@ -59,10 +63,10 @@ commit_leads d from back t p h pair = by (committed (list_of t.lists d.owner) fr
     by (Err why) e = tells (drop_end (commit_cause why) d.spot) stays
 
 pub onward_leads : (now : ℕ) (owner : ListOwner) (e : Entry) → PieceLeads now (carry_onward now owner e)
-onward_leads now owner e t p = refreshes owner (touched now) e (touched_keeps now) stays
+onward_leads now owner e t p = refreshes owner (touched now) e (touched_keeps now) (touched_by now) stays
 
 pub back_leads : (now : ℕ) (owner : ListOwner) (e : Entry) → PieceLeads now (carry_back now owner e)
-back_leads now owner e t p = refreshes owner (touched now) e (touched_keeps now) stays
+back_leads now owner e t p = refreshes owner (touched now) e (touched_keeps now) (touched_by now) stays
 
 -- ---- balancers
 
@@ -140,8 +144,8 @@ new_leads (Some why) g tuple t p h = tells (drop_end why (spot_of g.port)) stays
 new_leads None g tuple t p h = begin_leads g.way g tuple t p h
 
 forward_leads : (why : Option Cause) (g : Passage) (e : Entry) → PieceLeads g.now (take_forward why g e)
-forward_leads (Some why) g e t p = tells (drop_end why (spot_of g.port)) (refreshes (of_port g.port.name) (blocked_as true) e (λ x. (refl, refl)) stays)
-forward_leads None g e t p = refreshes (of_port g.port.name) (λ old. touched g.now (blocked_as false old)) e (λ x. (refl, refl)) stays
+forward_leads (Some why) g e t p = tells (drop_end why (spot_of g.port)) (refreshes (of_port g.port.name) (blocked_as true) e (λ x. (refl, refl)) (λ x h. h) stays)
+forward_leads None g e t p = refreshes (of_port g.port.name) (λ old. touched g.now (blocked_as false old)) e (λ x. (refl, refl)) (λ x h. touched_by g.now x h) stays
 
 reply_leads : (blocked : Bool) (g : Passage) (e : Entry) → PieceLeads g.now (take_reply blocked g e)
 reply_leads true g e t p = tells (drop_end cause.Blocked (spot_of g.port)) stays

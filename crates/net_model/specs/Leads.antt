@@ -1,5 +1,5 @@
 -- What a way does to a trail, step by step: whatever holds of these five steps holds of every way.
-use Rattle.std.specs.Prelude.{◌≡◌, ◌&&◌, ◌++◌, ℕ, Bool, true, List, Option, Some, Ok}
+use Rattle.std.specs.Prelude.{◌≡◌, ◌≤◌, ◌&&◌, ◌++◌, ℕ, Bool, true, List, Option, Some, Ok}
 use Rattle.std.specs.Map.{keys_of}
 use Rattle.conn_table.specs.Connections.{ConnectionList, committed, IsPair}
 use Rattle.conn_table.specs.Picks.{Choice}
@@ -16,6 +16,10 @@ use Rattle.net_model.specs.Trail.{Trail, Lists, ListOwner, list_of, write_list, 
 abbrev pub KeepsTuples : (Entry → Entry) → Type 0
 KeepsTuples change = (e : Entry) → ((change e).forward ≡ e.forward) × ((change e).reply ≡ e.reply)
 
+-- and it leaves no last use after the time, where there was none
+abbrev pub UsesBy : ℕ → (Entry → Entry) → Type 0
+UsesBy now change = (e : Entry) → e.used ≤ now → (change e).used ≤ now
+
 -- from one trail to another: nothing; an end; a connection that is new and can be committed; a changed entry; a choice
 pub data Leads (now : ℕ) (t : Trail) : Trail → Type 0 where
   stays : Leads now t t
@@ -23,7 +27,7 @@ pub data Leads (now : ℕ) (t : Trail) : Trail → Type 0 where
   commits : {u : Trail} (owner : ListOwner) (from back : Tuple) (list : ConnectionList)
       → seen_tuple (list_of u.lists owner) (Some from) ≡ new from → IsPair from back → committed (list_of u.lists owner) from back now ≡ Ok list
       → Leads now t u → Leads now t (write_list owner list u)
-  refreshes : {u : Trail} (owner : ListOwner) (change : Entry → Entry) (e : Entry) → KeepsTuples change → Leads now t u → Leads now t (refresh owner change e u)
+  refreshes : {u : Trail} (owner : ListOwner) (change : Entry → Entry) (e : Entry) → KeepsTuples change → UsesBy now change → Leads now t u → Leads now t (refresh owner change e u)
   chooses : {u : Trail} (legal : Bool) (left : List Choice) → Leads now t u → Leads now t (record u { choices = left; legal = u.legal && legal })
 
 -- ---- pieces and ways

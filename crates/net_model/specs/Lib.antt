@@ -21,6 +21,7 @@ pub mod State
 pub mod Journey
 pub mod Owners
 pub mod ListOwners
+pub mod ListsAt
 pub mod Transition
 pub mod Leads
 pub mod Hops

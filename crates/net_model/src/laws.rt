@@ -5,7 +5,9 @@ ghost use Rattle.net_model.specs.Arrival.{arrival};
 ghost use Rattle.net_model.specs.Entry.{Scene};
 ghost use Rattle.net_model.specs.Journey.{Journey, Traffic, Places, travel, Travels};
 ghost use Rattle.net_model.specs.Leads.{Leads, IsLater};
-ghost use Rattle.net_model.specs.State.{State};
+ghost use Rattle.net_model.specs.ListsAt.{AreListsAt};
+ghost use Rattle.net_model.specs.State.{State, clocked};
+ghost use Rattle.net_model.specs.Transition.{Turn, turned_by};
 ghost use Rattle.net_model.specs.Trail.{Trail, End, choices_in};
 ghost use Rattle.net_model.specs.Visit.{visit};
 
@@ -48,4 +50,20 @@ pub fn journeys_only_add()
 pub fn choices_determine_ends()
     ensures { (m : State) (traffic : Traffic) (es fs : List End) (a b : State) (left more : List Choice)
         → Travels m traffic es a → Travels m traffic fs b → choices_in es ++ left ≡ choices_in fs ++ more → (es ≡ fs) × (a ≡ b) × (left ≡ more) }
+{}
+
+/// The packets of an event leave each connection list one, with no last use after the clock.
+pub fn journeys_keep_lists()
+    ensures { (m : State) (traffic : Traffic) (ends : List End) (after : State)
+        → Travels m traffic ends after → AreListsAt m.clock m.lists → AreListsAt after.clock after.lists }
+{}
+
+/// So does a change of the records, of the chassis or of the homes of ports.
+pub fn turns_keep_lists()
+    ensures { (turn : Turn) (m : State) → AreListsAt m.clock m.lists → AreListsAt m.clock (turned_by turn m).lists }
+{}
+
+/// And so does the clock as it goes on.
+pub fn clock_keeps_lists()
+    ensures { (seconds : ℕ) (m : State) → AreListsAt m.clock m.lists → AreListsAt (clocked seconds m).clock (clocked seconds m).lists }
 {}

@@ -8,7 +8,6 @@ pub mod HeldLists
 pub mod IngressStages
 pub mod KnownConnections
 pub mod NewConnections
-pub mod NewEntries
 pub mod Noting
 pub mod Pieces
 pub mod Registers

@@ -1,17 +1,18 @@
 -- Changes of a connection list keep it good.
-use Rattle.std.specs.Prelude.{◌≡◌, ◌≢◌, ℕ, true, cond, ◌∷◌, Option, Some, None, is_some, refl}
+use Rattle.std.specs.Prelude.{◌≡◌, ◌≢◌, ℕ, true, ◌∷◌, Option, Some, None, is_some, refl}
 use Rattle.std.specs.BTreeMap.{is_at}
-use Rattle.std.specs.Map.{lookup, set_value}
-use Rattle.std.proofs.Common.{sym, ap, ◌∙◌, subst, arith, inl, inr}
+use Rattle.std.specs.Map.{set_value}
+use Rattle.std.proofs.Common.{sym, ap, ◌∙◌, subst, inl, inr}
 use Rattle.std.proofs.lemmas.Bool.{cond-true, cond-false}
 use Rattle.std.proofs.lemmas.Option.{same_Some}
 use Rattle.conn_table.proofs.TupleLaws.{same_by_cmp, own_by_cmp, other_by_cmp, one_or_two, at_among, among_at}
-use Rattle.conn_table.proofs.ZoneLaws.{IsZone-added, IsZone-by_change}
+use Rattle.conn_table.proofs.ZoneLaws.{IsZone-by_change}
 use Rattle.conn_table.specs.Connections.{ConnectionList, entry_of, begun, changed_option, changed, CanCommit}
 use Rattle.conn_table.specs.Order.{tuple_cmp}
 use Rattle.conn_table.specs.declared.connection.Entry.{Entry}
 use Rattle.conn_table.specs.declared.tuple.Tuple.{Tuple}
-use Rattle.sim_laws.proofs.pipelines.NewEntries.{with_new, new_entries, new_length, new_sorted}
+use Rattle.net_model.proofs.ConnectionLaws.{longer_zone}
+use Rattle.net_model.proofs.NewEntries.{with_new, new_entries}
 use Rattle.sim_laws.proofs.pipelines.SetValues.{set_same, set_apart}
 use Rattle.sim_laws.specs.pipelines.HeldLists.{IsTupleWithin, IsEntryWithin, IsGoodList}
 
@@ -63,16 +64,6 @@ module _ (list : ConnectionList) (good : IsGoodList list) (from back : Tuple) (n
   abbrev pub longer : ConnectionList
   longer = with_new from (begun from back now) list
 
-  -- its reply tuple stands in front
-  first_is : (q : Tuple) → lookup (is_at (tuple_cmp q)) ((back, from) ∷ good.forwards) ≡ cond (is_at (tuple_cmp back) q) (Some from) (lookup (is_at (tuple_cmp q)) good.forwards)
-  first_is q = elim (one_or_two back q) [
-    | inl same ↦
-        subst (λ u. lookup (is_at (tuple_cmp u)) ((back, from) ∷ good.forwards) ≡ cond (is_at (tuple_cmp back) u) (Some from) (lookup (is_at (tuple_cmp u)) good.forwards)) same refl
-    | inr apart ↦
-        cond-false (is_at (tuple_cmp q) back) (Some from) (lookup (is_at (tuple_cmp q)) good.forwards) (other_by_cmp q back (λ h. apart (sym h)))
-        ∙ sym (cond-false (is_at (tuple_cmp back) q) (Some from) (lookup (is_at (tuple_cmp q)) good.forwards) (other_by_cmp back q apart))
-  ]
-
   longer_within : (q : Tuple) (w : Entry) → entry_of longer q ≡ Some w → IsEntryWithin w
   longer_within q w found = elim (one_or_two from q) [
     | inl same ↦
@@ -87,11 +78,9 @@ module _ (list : ConnectionList) (good : IsGoodList list) (from back : Tuple) (n
 
   pub longer_good : IsGoodList longer
   longer_good =
-      let sorted = new_sorted from (begun from back now) list good.zone.law.in_order in
-      let zone = IsZone-added list longer good.forwards ((back, from) ∷ good.forwards) from back now good.zone can sorted (new_entries from (begun from back now) list) first_is
-      (new_length from (begun from back now) list can.no_entry ∙ omega arith) in
+      let zone = longer_zone list good.forwards from back now good.zone can in
       record {
         forwards = (back, from) ∷ good.forwards;
         zone = zone;
-        within = λ q w m. longer_within q w (among_at q w longer sorted m);
+        within = λ q w m. longer_within q w (among_at q w longer zone.law.in_order m);
       }

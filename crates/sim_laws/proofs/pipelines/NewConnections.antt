@@ -1,26 +1,23 @@
 -- A packet that begins a connection: the tuples of the entry can be committed, and the list stays good.
-use Rattle.std.specs.Prelude.{◌≡◌, ◌≢◌, ℕ, nat_lt, not, Bool, true, false, cond, length, Some, Result, Ok, Err, refl}
+use Rattle.std.specs.Prelude.{◌≡◌, ◌≢◌, ℕ, true, false, Some, Ok, refl}
 use Rattle.std.proofs.Common.{sym, ap, ◌∙◌, subst}
 use Rattle.std.proofs.lemmas.Bool.{false≢true}
-use Rattle.conn_table.proofs.CommitLaws.{can_commit}
-use Rattle.conn_table.specs.Connections.{ConnectionList, begun, is_free, committed, IsPair}
+use Rattle.conn_table.specs.Connections.{ConnectionList, committed, IsPair}
 use Rattle.conn_table.specs.Picks.{towards}
-use Rattle.conn_table.specs.Tracking.{new, seen_tuple, seen, state_of}
+use Rattle.conn_table.specs.Tracking.{new, seen_tuple, seen}
 use Rattle.conn_table.specs.Tuples.{tuple_of, reversed, reversed_protocol, is_echo_reply, HasItsPorts}
 use Rattle.conn_table.specs.declared.connection.CommitFault.{CommitFault}
 use Rattle.conn_table.specs.declared.connection.CommitFault.TheVariants as fault
-use Rattle.conn_table.specs.declared.connection.State.TheVariants.{New}
 use Rattle.conn_table.specs.declared.tuple.Protocol.{Protocol}
 use Rattle.conn_table.specs.declared.tuple.Protocol.TheVariants as protocol
 use Rattle.conn_table.specs.declared.tuple.Tuple.{Tuple}
 use Rattle.inet_packet.specs.declared.packet.Packet.{Packet}
+use Rattle.net_model.proofs.ConnectionLaws.{is_committed}
 use Rattle.net_model.specs.Balancing.{commit_cause}
 use Rattle.ovn_base.specs.declared.address.Backend.{Backend}
-use Rattle.ovn_base.specs.declared.limits.TheConstants.{MAX_CONNECTIONS}
 use Rattle.switch_engine.specs.Commits.{is_balanced}
 use Rattle.switch_engine.specs.Commits.{commit_cause as engine_cause}
 use Rattle.sim_laws.proofs.pipelines.GoodLists.{longer_good}
-use Rattle.sim_laws.proofs.pipelines.NewEntries.{with_new}
 use Rattle.sim_laws.proofs.pipelines.Seeing.{IsOfPacket}
 use Rattle.sim_laws.specs.pipelines.HeldLists.{IsTupleWithin, IsGoodList}
 
@@ -69,26 +66,8 @@ pair_from t b of plain tcp = record {
 
 -- ---- the list
 
-module _ (list : ConnectionList) (good : IsGoodList list) (p : Packet) (t back : Tuple) (now : ℕ) (is : seen list p ≡ new t) (has : tuple_of p ≡ Some t)
-    (pair : IsPair t back) (own : IsTupleWithin t) (other : IsTupleWithin back) where
-  fresh : state_of (seen_tuple list (Some t)) ≡ New
-  fresh = ap state_of (sym (ap (seen_tuple list) has) ∙ is)
-
-  abbrev ok : ConnectionList → Result ConnectionList CommitFault
-  ok l = Ok l
-
-  same_ok : (a b : ConnectionList) → ok a ≡ ok b → a ≡ b
-  same_ok a b e = cc
-
-  by_room : (b : Bool) → nat_lt (length list) MAX_CONNECTIONS ≡ b → is_free list back ≡ true → (after : ConnectionList)
-      → cond b (Ok (with_new t (begun t back now) list)) (Err fault.Full) ≡ Ok after → IsGoodList after
-  by_room true room free after e = subst IsGoodList (same_ok (with_new t (begun t back now) list) after e) (longer_good list good t back now (can_commit list t back fresh pair free room) own other)
-  by_room false room free after e = cc
-
-  by_free : (b : Bool) → is_free list back ≡ b → (after : ConnectionList)
-      → cond (not b) (Err (fault.Clash back)) (cond (nat_lt (length list) MAX_CONNECTIONS) (Ok (with_new t (begun t back now) list)) (Err fault.Full)) ≡ Ok after → IsGoodList after
-  by_free true free after e = by_room (nat_lt (length list) MAX_CONNECTIONS) refl free after e
-  by_free false taken after e = cc
-
-  pub committed_good : (after : ConnectionList) → committed list t back now ≡ Ok after → IsGoodList after
-  committed_good after e = by_free (is_free list back) refl after e
+pub committed_good : (list : ConnectionList) → IsGoodList list → (p : Packet) (t back : Tuple) (now : ℕ) → seen list p ≡ new t → tuple_of p ≡ Some t → IsPair t back → IsTupleWithin t → IsTupleWithin back
+    → (after : ConnectionList) → committed list t back now ≡ Ok after → IsGoodList after
+committed_good list good p t back now is has pair own other after e =
+    let c = is_committed list t back now (sym (ap (seen_tuple list) has) ∙ is) pair after e in
+    subst IsGoodList c.is (longer_good list good t back now c.can own other)

@@ -4,6 +4,7 @@ use Rattle.std.specs.Map.{keys_of}
 use Rattle.std.proofs.Common.{ap, ◌∙◌, inl}
 use Rattle.conn_zones.specs.Zoning.{Zoned}
 use Rattle.nb_records.specs.declared.router.Router.{Router}
+use Rattle.net_model.proofs.KeptEntries.{kept_sorted}
 use Rattle.net_model.specs.Config.{home_of_router, is_on_one}
 use Rattle.net_model.specs.ListOwners.{homed_routers, names_of}
 use Rattle.net_model.specs.State.{State}
@@ -11,7 +12,6 @@ use Rattle.net_model.specs.Transition.{Turn, turned_by}
 use Rattle.net_model.specs.Trail.{Lists}
 use Rattle.ovn_base.proofs.AmongLaws.{among_none}
 use Rattle.ovn_base.specs.declared.name.Name.{Name}
-use Rattle.sim_laws.proofs.journey_laws.Expiring.{kept_sorted}
 use Rattle.sim_laws.proofs.turn_laws.TurnedChassis.{zone_home}
 use Rattle.sim_laws.proofs.turn_laws.TurnedLists.{AreInOrder, lists_of, lists_stay}
 use Rattle.sim_laws.specs.journeys.TurnedZones.{KeepingLaw, KeepsHomes}
