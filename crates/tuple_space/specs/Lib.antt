@@ -5,3 +5,4 @@ pub mod Bunches
 pub mod Turns
 pub mod Sieving
 pub mod Space
+pub mod Same

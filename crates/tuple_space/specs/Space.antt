@@ -1,5 +1,6 @@
 -- The flows of a chassis by table, mask and values.
-use Rattle.std.specs.Prelude.{◌≡◌, ◌<◌, ◌≤◌, ◌+◌, ℕ, Bool, true, false, cond, ◌&&◌, Option, None, List, [], ◌∷◌, length, nat_eq, slice_get}
+use Rattle.std.specs.Prelude.{◌≡◌, ◌<◌, ◌≤◌, ◌+◌, ℕ, Bool, cond, ◌&&◌, Option, None, List, [], ◌∷◌, length, nat_eq, slice_get}
+use Rattle.std.specs.Bool.{beq}
 use Rattle.std.specs.Cmp.Lexicographic.{pointwise}
 use Rattle.std.specs.Option.{option_map_or}
 use Rattle.ovn_base.specs.lists.Among.{Among}
@@ -27,14 +28,9 @@ pub record Space : Type 0 where
 abbrev pub same_asked : Asked → Asked → Bool
 same_asked a b = nat_eq a.field b.field && nat_eq a.bits b.bits
 
-abbrev pub same_flag : Bool → Bool → Bool
-same_flag true b = b
-same_flag false true = false
-same_flag false false = true
-
 -- the masks are one
 abbrev pub same_mask : Mask → Mask → Bool
-same_mask m n = pointwise same_asked m.asks n.asks && same_flag m.entry n.entry
+same_mask m n = pointwise same_asked m.asks n.asks && beq m.entry n.entry
 
 -- the number of the mask; how many there are, where it isn't one of them
 abbrev pub mask_number : List Mask → Mask → ℕ

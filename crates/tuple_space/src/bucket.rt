@@ -10,7 +10,7 @@ ghost use Rattle.tuple_space.specs.Masks.{cube_bits, cube_mask};
 ghost use Rattle.tuple_space.specs.Sieving.{bit_of, IsLet, IsLetWhole};
 ghost use Rattle.tuple_space.specs.Space.{mask_number};
 
-use crate::mask::Mask;
+use crate::masks::Masks;
 use crate::number::note_in;
 use crate::sieve::Sieve;
 use flow_table::exact::exact_flow;
@@ -87,7 +87,7 @@ impl Bucket {
     }
 
     /// Marks the masks of the flows of the table in its sieve.
-    pub fn note_all(&self, masks: &[Mask], table: u8, sieve: &mut Sieve)
+    pub fn note_all(&self, masks: &Masks, table: u8, sieve: &mut Sieve)
         ensures kept { (xs : List ℕ) (b : ℕ) → IsLet sieve.old xs b → IsLet sieve.new xs b }
         ensures noted { (f : Flow) → Among f self.now.flows → f.table ≡ table → IsLetWhole sieve.new (cube_bits f.cube) (bit_of (mask_number masks.now (cube_mask f.cube))) }
     {

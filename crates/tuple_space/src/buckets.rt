@@ -11,7 +11,7 @@ ghost use Rattle.tuple_space.specs.Sieving.{bit_of, IsLetWhole};
 ghost use Rattle.tuple_space.specs.Space.{mask_number};
 
 use crate::bucket::Bucket;
-use crate::mask::Mask;
+use crate::masks::Masks;
 use crate::sieve::Sieve;
 use flow_table::flow::Flow;
 use indexmap::IndexMap;
@@ -106,7 +106,7 @@ impl Buckets {
     }
 
     /// Marks the masks of all flows of the table in its sieve.
-    pub fn note_all(&self, masks: &[Mask], table: u8, sieve: &mut Sieve)
+    pub fn note_all(&self, masks: &Masks, table: u8, sieve: &mut Sieve)
         ensures { (f : Flow) → Among f (flows_in self.now) → f.table ≡ table → IsLetWhole sieve.new (cube_bits f.cube) (bit_of (mask_number masks.now (cube_mask f.cube))) }
     {
         for i in 0..self.places.len() {

@@ -6,6 +6,7 @@ mod buckets;
 mod fields;
 mod marks;
 mod mask;
+mod masks;
 mod number;
 mod sieve;
 mod sieves;

@@ -17,7 +17,7 @@ pub struct Asked {
 }
 
 /// The fields that are asked for, and whether the entry is.
-#[derive(PartialEq, Eq, Debug, Drop)]
+#[derive(PartialEq, Eq, Hash, Debug, Drop)]
 pub struct Mask {
     pub asks: List<Asked>,
     pub entry: bool,

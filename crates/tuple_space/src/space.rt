@@ -17,7 +17,8 @@ use crate::buckets::Buckets;
 use crate::fields::{bits_of, values_of};
 use crate::marks::{bit_for, has_bit};
 use crate::mask::{Key, Mask, asks_of, write_masked};
-use crate::number::{number_for, write_key};
+use crate::masks::Masks;
+use crate::number::write_key;
 use crate::sieve::Sieve;
 use crate::sieves::Sieves;
 use crate::turns::Turns;
@@ -38,7 +39,7 @@ const FEW: usize = 8;
 /// Flows by table, mask and values, each once. A look-up asks the masks of its table in the order of their bounds.
 #[derive(Drop)]
 pub struct TupleSpace {
-    masks: Vec<Mask>,
+    masks: Masks,
     turns: Turns,
     sieves: Sieves,
     buckets: Buckets,
@@ -49,9 +50,9 @@ impl Model for TupleSpace {
 
     ghost Value = { Space };
 
-    ghost view = { λ s. record { masks = s.masks.items; turns = s.turns; sieves = s.sieves; bunches = s.buckets } };
+    ghost view = { λ s. record { masks = s.masks; turns = s.turns; sieves = s.sieves; bunches = s.buckets } };
 
-    ghost invariant = { λ s. IsSpace s.masks.items s.turns s.sieves s.buckets };
+    ghost invariant = { λ s. IsSpace s.masks s.turns s.sieves s.buckets };
 }
 
 impl TupleSpace {
@@ -60,7 +61,7 @@ impl TupleSpace {
         ensures { IfOk result (λ s. flows_in s.bunches ≡ []) }
     {
         Ok(TupleSpace {
-            masks: Vec::new(alloc),
+            masks: Masks::new(alloc),
             turns: Turns::new(alloc),
             sieves: Sieves::new(alloc),
             buckets: Buckets::new(alloc),
@@ -75,7 +76,9 @@ impl TupleSpace {
     {
         let bits = bits_of(&flow.cube);
         let asks = asks_of(&bits);
-        let number = number_for(&mut self.masks, asks.as_slice(), flow.cube.at.is_some())?;
+        let number = self
+            .masks
+            .number_for(asks.as_slice(), flow.cube.at.is_some())?;
         self.turns.add(flow.table, number)
     }
 
@@ -87,7 +90,7 @@ impl TupleSpace {
         ensures promised { OnOk result ((k : List ℕ) → promised_under self.new.bunches k ≡ promised_under self.old.bunches k + cond (pointwise nat_eq (key_in self.old.masks flow.now) k) 1 0) }
     {
         let mut key = Key::new();
-        write_key(self.masks.as_slice(), flow, &mut key);
+        write_key(&self.masks, flow, &mut key);
         self.buckets.promise(key.as_slice())
     }
 
@@ -99,7 +102,7 @@ impl TupleSpace {
         ensures promised { (k : List ℕ) → promised_under self.new.bunches k ≡ promised_under self.old.bunches k }
     {
         let mut key = Key::new();
-        write_key(self.masks.as_slice(), flow, &mut key);
+        write_key(&self.masks, flow, &mut key);
         self.buckets.hold();
         self.buckets.take_out(key.as_slice(), flow);
         self.buckets.hold();
@@ -111,12 +114,17 @@ impl TupleSpace {
         ensures turns { self.new.turns ≡ self.old.turns }
         ensures bunches { self.new.bunches ≡ self.old.bunches }
     {
-        let alloc = *self.masks.allocator();
-        let masks = self.masks.as_slice();
+        let alloc = self.masks.allocator();
         let flows = self.buckets.len_of(table).saturating_add(coming);
         let more = self.buckets.len() / 8;
-        let mut sieve = Sieve::new(alloc, masks, self.turns.of(table), flows, more)?;
-        self.buckets.note_all(masks, table, &mut sieve);
+        let mut sieve = Sieve::new(
+            alloc,
+            self.masks.as_slice(),
+            self.turns.of(table),
+            flows,
+            more,
+        )?;
+        self.buckets.note_all(&self.masks, table, &mut sieve);
         self.sieves.set(table, sieve)
     }
 
@@ -137,7 +145,7 @@ impl TupleSpace {
         ensures promised { (k : List ℕ) → promised_under self.old.bunches k ≡ promised_under self.new.bunches k + cond (pointwise nat_eq (key_in self.old.masks flow) k) 1 0 }
     {
         let mut key = Key::new();
-        let number = write_key(self.masks.as_slice(), &flow, &mut key);
+        let number = write_key(&self.masks, &flow, &mut key);
         self.buckets.hold();
         self.turns
             .raise(flow.table, number, flow.priority, flow.rank);

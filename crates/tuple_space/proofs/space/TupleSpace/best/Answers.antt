@@ -14,7 +14,7 @@ use Rattle.tuple_space.proofs.space.TupleSpace.best.Goals as goal
 
 pub returns-then-not-is_above-clause-found : goal.returns-then-not-is_above-clause-found
 returns-then-not-is_above-clause-found c =
-    let ms = c.self.inside.masks.items in
+    let ms = c.self.inside.masks in
     let ts = c.self.inside.turns in
     let bs = c.self.inside.buckets in
     let items = c.of-turns.result.now in
@@ -27,7 +27,7 @@ returns-then-not-is_above-clause-found c =
 
 pub loop-turn-preserved : goal.loop-turn-preserved
 loop-turn-preserved c =
-    let ms = c.self.inside.masks.items in
+    let ms = c.self.inside.masks in
     let ts = c.self.inside.turns in
     let bs = c.self.inside.buckets in
     let items = c.of-turns.result.now in
@@ -44,7 +44,7 @@ loop-turn-preserved c =
 
 pub returns-clause-found : goal.returns-clause-found
 returns-clause-found c =
-    let ms = c.self.inside.masks.items in
+    let ms = c.self.inside.masks in
     let ts = c.self.inside.turns in
     let bs = c.self.inside.buckets in
     let items = c.of-turns.result.now in
@@ -56,7 +56,7 @@ returns-clause-found c =
 
 pub returns-clause-none : goal.returns-clause-none
 returns-clause-none c =
-    let ms = c.self.inside.masks.items in
+    let ms = c.self.inside.masks in
     let ts = c.self.inside.turns in
     let bs = c.self.inside.buckets in
     let items = c.of-turns.result.now in

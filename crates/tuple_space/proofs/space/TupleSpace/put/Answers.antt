@@ -1,4 +1,4 @@
-use Rattle.std.proofs.Common.{◌≡◌, ◌⊎◌, ◌↔◌, sym, subst, ap, ◌∙◌}
+use Rattle.std.proofs.Common.{◌≡◌, ◌⊎◌, ◌↔◌, sym, subst, ◌∙◌}
 use mathlib.Core.Logic.{inl, inr}
 use Rattle.ovn_base.specs.lists.Among.{Among}
 use Rattle.tuple_space.specs.Masks.{cube_mask, AllFit}
@@ -11,16 +11,16 @@ use Rattle.tuple_space.proofs.SpaceLaws.{held_all, filed_more}
 use Rattle.tuple_space.proofs.space.TupleSpace.put.Goals as goal
 
 pub put-requires-clause-fresh : goal.put-requires-clause-fresh
-put-requires-clause-fresh c = λ m. c.requires.fresh (subst (λ v. Among c.args.flow (flows_in v.bunches)) c.self.view_is (under_in c.self.inside.buckets c.as_slice-2.result.now c.args.flow m))
+put-requires-clause-fresh c = λ m. c.requires.fresh (subst (λ v. Among c.args.flow (flows_in v.bunches)) c.self.view_is (under_in c.self.inside.buckets c.as_slice.result.now c.args.flow m))
 
 pub invariant_of-self : goal.invariant_of-self
 invariant_of-self c =
-    let ms = c.self.inside.masks.items in
-    let is : c.as_slice-2.result.now ≡ key_in ms c.args.flow = c.as_slice-2.ensures.value ∙ c.write_key-number.ensures.key ∙ ap (λ l. key_in l c.args.flow) c.as_slice.ensures.value in
+    let ms = c.self.inside.masks in
+    let is : c.as_slice.result.now ≡ key_in ms c.args.flow = c.as_slice.ensures.value ∙ c.write_key-number.ensures.key in
     let served = subst (λ v. IsServed v.masks v.turns c.args.flow 0 0) (sym c.self.view_is) c.requires.served in
-    let number : c.write_key-number.result ≡ mask_number ms (cube_mask c.args.flow.cube) = c.write_key-number.ensures.number ∙ ap (λ l. mask_number l (cube_mask c.args.flow.cube)) c.as_slice.ensures.value in
+    let number : c.write_key-number.result ≡ mask_number ms (cube_mask c.args.flow.cube) = c.write_key-number.ensures.number in
     record {
-      filed = filed_more ms c.self.inside.turns c.self.inside.buckets c.put.new.self c.self.invariant.filed c.hold.ensures c.hold-2.ensures c.args.flow c.as_slice-2.result.now is c.put.ensures.held c.raise.new.self c.raise.ensures.kept
+      filed = filed_more ms c.self.inside.turns c.self.inside.buckets c.put.new.self c.self.invariant.filed c.hold.ensures c.hold-2.ensures c.args.flow c.as_slice.result.now is c.put.ensures.held c.raise.new.self c.raise.ensures.kept
           (record { known = served.known; turn = subst (λ n. HasTurn (turns_of c.raise.new.self c.args.flow.table) n c.args.flow.priority c.args.flow.rank) number c.raise.ensures.has });
       let_through = λ k f m.
           elim ((c.put.ensures.held k f).0 m) [
@@ -32,7 +32,7 @@ invariant_of-self c =
 
 pub returns-clause-held : goal.returns-clause-held
 returns-clause-held c = λ f.
-    let ms = c.self.inside.masks.items in
-    let is : c.as_slice-2.result.now ≡ key_in ms c.args.flow = c.as_slice-2.ensures.value ∙ c.write_key-number.ensures.key ∙ ap (λ l. key_in l c.args.flow) c.as_slice.ensures.value in
+    let ms = c.self.inside.masks in
+    let is : c.as_slice.result.now ≡ key_in ms c.args.flow = c.as_slice.ensures.value ∙ c.write_key-number.ensures.key in
     subst (λ v. Among f (flows_in c.put.new.self) ↔ ((f ≡ c.args.flow) ⊎ Among f (flows_in v.bunches))) c.self.view_is
-    (held_all ms c.self.inside.turns c.self.inside.buckets c.put.new.self c.self.invariant.filed c.hold.ensures c.hold-2.ensures c.args.flow c.as_slice-2.result.now is c.put.ensures.held f)
+    (held_all ms c.self.inside.turns c.self.inside.buckets c.put.new.self c.self.invariant.filed c.hold.ensures c.hold-2.ensures c.args.flow c.as_slice.result.now is c.put.ensures.held f)

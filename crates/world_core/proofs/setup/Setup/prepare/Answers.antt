@@ -7,10 +7,16 @@ use Rattle.physical_flows.specs.Stages.{Basis}
 use Rattle.physical_flows.specs.UnitFlows.{HaveRows, rows_held}
 use Rattle.tuple_space.specs.Bunches.{flows_in}
 use Rattle.world_core.specs.Ground.{changed, IsChangeOf}
-use Rattle.world_core.specs.Setup.{ArePatches, ComesOver, IsFlowBy, IsLoweredOrDone, IsTurnOfTables, SetupView, every_delta, joined}
+use Rattle.world_core.specs.Setup.{ArePatches, ComesOver, HaveStores, IsFlowBy, IsLoweredOrDone, IsTurnOfTables, SetupView, every_delta, joined}
 use Rattle.world_core.proofs.SetupTurns.{AreTablesTurned, ComesWith, new_rows, planned_change, turn_of_tables, was_or_comes}
 use Rattle.world_core.proofs.setup.Setup.prepare.Goals as goal
 use Rattle.world_core.proofs.setup.Setup.prepare.Goals.{in-Some+in_ok-flows-in-Some+in_ok-push-in-Some, in-None}
+
+pub invariant_of-self-in_err-push-in-Some : goal.invariant_of-self-in_err-push-in-Some
+invariant_of-self-in_err-push-in-Some c = record {
+  lowered = c.self.invariant.lowered;
+  stores = subst (HaveStores c.self.inside.ground) (sym c.reserve.ensures.entries) c.prepare_each.ensures.kept;
+}
 
 pub returns-in_err-push-in-Some-clause-patch : goal.returns-in_err-push-in-Some-clause-patch
 returns-in_err-push-in-Some-clause-patch c = let failed = err_from_is_err_and c.from_residual-in_err-push-in-Some.result c.from_residual-in_err-push-in-Some.ensures.1 in rw failed.1 tt
