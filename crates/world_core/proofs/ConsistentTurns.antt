@@ -1,4 +1,5 @@
 -- A consistent state stays so where a chassis or a binding comes.
+use Rattle.net_model.proofs.ListLaws.{turned_keep}
 use Rattle.net_model.specs.Transition.{turned_by, add_chassis, bind}
 use Rattle.std.specs.Prelude.{◌<◌, ◌^◌, IsSome, length, refl}
 use Rattle.std.proofs.Common.{arith}
@@ -27,6 +28,7 @@ module _ (m : State) (zones : Zoned) (old : IsConsistent m zones) (room : event_
       finished_consistent mid zones (record {
         built = old.built;
         clock = clock_still m.clock m.accepted m.refused old.clock;
+        lists = turned_keep (add_chassis m.config c) m old.lists;
         at_rest = record {
           valid = old.at_rest.valid;
           no_router = old.at_rest.no_router;
@@ -48,6 +50,7 @@ module _ (m : State) (zones : Zoned) (old : IsConsistent m zones) (room : event_
       finished_consistent mid after (record {
         built = old.built;
         clock = clock_still m.clock m.accepted m.refused old.clock;
+        lists = turned_keep (bind m.config p c) m old.lists;
         at_rest = record {
           valid = old.at_rest.valid;
           no_router = old.at_rest.no_router;

@@ -15,6 +15,7 @@ use Rattle.nb_records.specs.Network.{Network}
 use Rattle.nb_records.specs.declared.change.Op.{Op}
 use Rattle.nb_edits.specs.declared.plan.EditPlan.{EditPlan}
 use Rattle.nb_rules.specs.Valid as rules
+use Rattle.net_model.proofs.ListLaws.{turned_keep}
 use Rattle.net_model.specs.Owners.{owners_only_in}
 use Rattle.net_model.specs.State.{State, event_count, finished}
 use Rattle.net_model.specs.Transition.{still_bound}
@@ -190,6 +191,7 @@ module _ (m : State) (zones : Zoned) (old : IsConsistent m zones) (room : event_
   consistent_then = finished_consistent mid zones (record {
     built = next_built;
     clock = clock_still m.clock m.accepted m.refused old.clock;
+    lists = turned_keep (edit m.config next) m old.lists;
     at_rest = record {
       valid = sound.valid;
       no_router = no_router next next_built;

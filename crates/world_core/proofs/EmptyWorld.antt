@@ -4,6 +4,7 @@ use Rattle.std.proofs.lemmas.Option.{none-some}
 use Rattle.chassis_sim.specs.State as sim
 use Rattle.chassis_sim.specs.State.{nothing_held}
 use Rattle.conn_zones.specs.Zoning.{Zoned}
+use Rattle.net_model.proofs.ListLaws.{empty_keep}
 use Rattle.net_model.specs.State.{empty}
 use Rattle.sim_laws.proofs.journey_laws.First.{first as nothing_first}
 use Rattle.sim_laws.specs.journeys.First.{nobody_home}
@@ -20,7 +21,7 @@ new_built : IsBuilt empty.config.net
 new_built = record { others = refl; ports = λ q port e. absurd (none-some port e) }
 
 pub new_sound : IsSound new_world
-new_sound = record { whole = refl; consistent = record { at_rest = nothing_first.0; built = new_built; clock = omega arith }; held = nothing_first.1 }
+new_sound = record { whole = refl; consistent = record { at_rest = nothing_first.0; built = new_built; clock = omega arith; lists = empty_keep }; held = nothing_first.1 }
 
 pub are_no_zones : (zones : Zoned) → zones.homes ≡ nobody_home.homes → zones.numbers ≡ nobody_home.numbers → zones ≡ nobody_home
 are_no_zones zones homes numbers = λ i. record { homes = homes i; numbers = numbers i }

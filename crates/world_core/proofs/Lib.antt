@@ -14,6 +14,7 @@ pub mod FlowStores
 pub mod FrameCrossings
 pub mod FreedKeys
 pub mod HeldFlows
+pub mod KeptLists
 pub mod ListedFlows
 pub mod NamesInOrder
 pub mod Names

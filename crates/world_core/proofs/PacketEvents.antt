@@ -28,6 +28,7 @@ use Rattle.switch_engine.specs.Zones.{ZoneLists, zone_at}
 use Rattle.switch_engine.specs.declared.effect.NetEffect.{NetEffect}
 use Rattle.switch_engine.specs.declared.walk.Walk.{Walk}
 use Rattle.world_core.proofs.FreedKeys.{clock_still}
+use Rattle.world_core.proofs.KeptLists.{does_keep}
 use Rattle.world_core.proofs.Refusal.{taken_of}
 use Rattle.world_core.specs.Built.{IsBuilt}
 use Rattle.world_core.specs.EventPasses.{Passes}
@@ -58,7 +59,7 @@ finish_done old event effects walks mid new count t room still does passes u hel
       counts = counts;
       zones = subst (λ z. Rezones event old.zones z) (sym (ap (λ (w : WorldView). w.zones) then ∙ zoned)) zones;
       lists = λ none. subst (λ (w : WorldView). Relists event old.state.clock w.zones old.sim w.sim) (sym then) (subst (λ z. Relists event old.state.clock z old.sim mid.sim) (sym zoned) (lists none));
-      now = subst IsTaken (sym then) (record { consistent = record { at_rest = end.0; built = built; clock = clock_still mid.state.clock mid.state.accepted mid.state.refused clock }; held = end.1; taken = whole });
+      now = subst IsTaken (sym then) (record { consistent = record { at_rest = end.0; built = built; clock = clock_still mid.state.clock mid.state.accepted mid.state.refused clock; lists = does_keep old.state effects mid.state t.consistent.lists event does }; held = end.1; taken = whole });
     }
 
 -- an event that moves packets is none that moves none

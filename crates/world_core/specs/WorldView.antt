@@ -3,6 +3,7 @@ use Rattle.std.specs.Prelude.{◌≡◌, ◌≤◌, ◌*◌, Bool, true, List}
 use Rattle.address_sets.specs.Members.{sets_of}
 use Rattle.conn_zones.specs.Zoning.{Zoned}
 use Rattle.chassis_sim.specs.State as sim
+use Rattle.net_model.specs.ListsAt.{AreListsAt}
 use Rattle.net_model.specs.State.{State, event_count}
 use Rattle.sim_laws.specs.journeys.AtRest.{IsAtRest}
 use Rattle.sim_laws.specs.journeys.Holding.{HoldsNetwork}
@@ -26,6 +27,8 @@ pub record IsConsistent (m : State) (zones : Zoned) : Type 0 where
   pub built : IsBuilt m.config.net
   -- the clock goes on by at most 1,000,000 seconds with each event
   pub clock : m.clock ≤ 1000000 * event_count m
+  -- the connection lists are ones, with no last use after the clock
+  pub lists : AreListsAt m.clock m.lists
 
 -- the simulated chassis hold the state, with rows that were lowered with the sets of the records
 abbrev pub AreHeld : State → Zoned → sim.SimState → Type 0
