@@ -4,6 +4,10 @@
 #[cfg(test)]
 mod actions;
 #[cfg(test)]
+mod connections;
+#[cfg(test)]
+mod cubes;
+#[cfg(test)]
 mod frames;
 #[cfg(test)]
 mod packets;

@@ -1,19 +1,34 @@
 //! Packets at ports, without records.
+ghost use Rattle.std.specs.Prelude.{◌≡◌, ◌∷◌, [], IfOk};
 ghost use Rattle.switch_engine.specs.Proper.{IsProperFlow};
 
-use crate::sims::{exchange, injected, is_all, name, one, packet, row, with_one};
+use crate::cubes::at;
+use crate::sims::{Comes, FRAME, are_so, chassis, enters, leaves, name, one, shows};
 use chassis_sim::change::SimChange;
+use chassis_sim::out::SimFault;
 use chassis_sim::sim::Sim;
+use engine_tests::proper::is_proper;
+use engine_tests::rows::row;
 use flow_table::flow::{Cause, Flow, FlowOp};
 use flow_table::tables::Tables;
 use inet_packet::regs::At;
+use ovn_base::delta::Delta;
 use ovn_base::list::List;
 use ovn_base::memory::NoMemory;
 use ovn_base::name::Name;
 use std::alloc::Global;
 use std::test::Fail;
-use switch_engine::effect::NetEffect;
-use switch_engine::walk::Start;
+
+// The flow comes, and the other goes. The first is named among those that go too: so the delta is one of any flows.
+fn exchange(alloc: Global, comes: Flow, goes: Flow) -> Result<Delta<Flow>, NoMemory>
+    ensures added { IfOk result (λ d. d.added ≡ comes ∷ []) }
+    ensures removed { IfOk result (λ d. d.removed ≡ comes ∷ goes ∷ []) }
+{
+    let mut removed = one(alloc, comes.copy()?)?;
+    removed.push(goes)?;
+    let added = one(alloc, comes)?;
+    Ok(Delta { added, removed })
+}
 
 // The one flow of the chassis comes in place of the other.
 fn replace(
@@ -39,46 +54,40 @@ fn replace(
     Ok(())
 }
 
-// One chassis, whose one flow gives what enters at p1 out of p2.
-fn giving(alloc: Global, p1: Name, p2: Name, chassis: Name) -> Result<Sim<Tables>, NoMemory> {
-    let gives = row(alloc, At::Local(p1), FlowOp::Output(p2))?;
-    with_one(alloc, chassis, gives, p1)
+// The one flow of the chassis, which does this with what enters at p1.
+fn does(alloc: Global, op: FlowOp) -> Result<Flow, NoMemory> {
+    row(alloc, 0, at(At::Local(name("p1")?)), [op])
 }
 
 #[test]
 fn sim_without_records(rt: HostRuntime) -> Result<(), Fail> {
-    let alloc = rt.alloc();
-    let p1 = name(&rt, b"p1");
-    let p2 = name(&rt, b"p2");
-    let hv1 = name(&rt, b"hv1");
-    let mut sim = giving(alloc, p1, p2, hv1)?;
-    let out = injected(alloc, &mut sim, &p1).expect(&rt, "an answer");
-    let given = NetEffect::Out {
-        port: p2,
-        packet: packet(alloc)?,
-    };
-    assert!(rt; is_all(&out, &given, &hv1, &Start::Port(p1), 1));
+    let rows = [does(rt.alloc(), FlowOp::Output(name("p2")?))];
+    let told = shows(rt.alloc(), rows, &[enters(FRAME, leaves(FRAME), 1)]);
+    assert_eq!(rt; told, Ok(true));
     Ok(())
 }
 
-// The flow is replaced by one that drops. Keys that have no name are told as a dash.
+// The flow that gave is replaced by one that drops.
+fn replaced(alloc: Global, sim: &mut Sim<Tables>) -> Result<bool, SimFault> {
+    let (hv1, p2) = (name("hv1")?, name("p2")?);
+    let gave = does(alloc, FlowOp::Output(p2))?;
+    let drops = does(alloc, FlowOp::Drop(Cause::Vlan))?;
+    if !is_proper(&drops) {
+        return Ok(false);
+    }
+    replace(alloc, sim, hv1, drops, gave)?;
+    are_so(alloc, sim, &[enters(FRAME, Comes::Drops(Cause::Vlan), 1)])
+}
+
+// Whether it is so where the chassis came with the first.
+fn is_replaced(alloc: Global) -> Result<bool, SimFault> {
+    let mut sim = chassis(alloc, [does(alloc, FlowOp::Output(name("p2")?))])?;
+    replaced(alloc, &mut sim)
+}
+
+// Keys that have no name are told as a dash.
 #[test]
 fn sim_without_records_drops(rt: HostRuntime) -> Result<(), Fail> {
-    let alloc = rt.alloc();
-    let p1 = name(&rt, b"p1");
-    let p2 = name(&rt, b"p2");
-    let hv1 = name(&rt, b"hv1");
-    let dash = name(&rt, b"-");
-    let mut sim = giving(alloc, p1, p2, hv1)?;
-    let drops = row(alloc, At::Local(p1), FlowOp::Drop(Cause::Vlan))?;
-    let gave = row(alloc, At::Local(p1), FlowOp::Output(p2))?;
-    replace(alloc, &mut sim, hv1, drops, gave)?;
-    let out = injected(alloc, &mut sim, &p1).expect(&rt, "an answer");
-    let dropped = NetEffect::Drop {
-        datapath: dash,
-        port: dash,
-        cause: Cause::Vlan,
-    };
-    assert!(rt; is_all(&out, &dropped, &hv1, &Start::Port(p1), 1));
+    assert_eq!(rt; is_replaced(rt.alloc()), Ok(true));
     Ok(())
 }

@@ -5,7 +5,7 @@ use Rattle.flow_table.specs.declared.tables.Tables.{Tables}
 use Rattle.ovn_base.specs.declared.delta.Delta.{Delta}
 use Rattle.ovn_base.specs.declared.name.Name.{Name}
 use Rattle.switch_engine.specs.Proper.{IsProper}
-use Rattle.sim_tests.proofs.zones.settle.Goals as goal
+use Rattle.sim_tests.proofs.sims.settle.Goals as goal
 
 pub apply-requires-clause-proper : goal.apply-requires-clause-proper
 apply-requires-clause-proper c = record {
