@@ -4,7 +4,7 @@ ghost use Rattle.switch_engine.specs.Proper.{IsProper};
 
 use crate::packets::{ASKED, read};
 use crate::rows::row;
-use crate::tables::{at, comes_to, name, sent_in, set, tables, zones};
+use crate::tables::{all, at, comes_to, name, sent_in, set, tables, zones};
 use flow_table::flow::{FlowOp, ZoneOf};
 use flow_table::tables::Tables;
 use inet_packet::cube::{Bits, Cube};
@@ -12,12 +12,14 @@ use inet_packet::regs::{At, Reg};
 use ovn_base::memory::NoMemory;
 use ovn_base::name::Name;
 use std::alloc::Global;
-use std::test::*;
+use std::test::Fail;
 use switch_engine::effect::Entry;
+use switch_engine::walk::RunOut;
+use switch_engine::zones::Zones;
 
 // The packets that are new to a list.
 fn new() -> Cube {
-    let mut cube = Cube::EVERYTHING;
+    let mut cube = all();
     cube.state = Bits { value: 1, mask: 7 };
     cube
 }
@@ -29,27 +31,30 @@ fn tracking(alloc: Global, p1: Name) -> Result<Tables, NoMemory>
     let look = [set(Reg::ZIn, 7), FlowOp::Find(ZoneOf::In), FlowOp::Go(1)];
     let begin = [FlowOp::Commit(ZoneOf::In), FlowOp::Output(p1)];
     let rows = [
-        row(alloc, 0, at(At::Local(p1)), look)?,
-        row(alloc, 1, new(), begin)?,
+        row(alloc, 0, at(At::Local(p1)), look),
+        row(alloc, 1, new(), begin),
     ];
     tables(alloc, &[], rows)
 }
 
-// Where the zone isn't there nothing is found, so no row of table 1 takes the packet.
+// What comes of the packet in these zones.
+fn tracked(alloc: Global, zones: &mut Zones) -> Result<RunOut, NoMemory> {
+    let p1 = name("p1")?;
+    let packet = read(alloc, ASKED)?;
+    let tables = tracking(alloc, p1)?;
+    sent_in(alloc, &tables, zones, Entry::Vif(p1), packet, 5)
+}
+
+// What comes of it where the zone isn't there.
+fn untracked(alloc: Global) -> Result<RunOut, NoMemory> {
+    let mut zones = zones(alloc, &[8])?;
+    tracked(alloc, &mut zones)
+}
+
+// Nothing is found, so no row of table 1 takes the packet.
 #[test]
 fn no_zone(rt: HostRuntime) -> Result<(), Fail> {
-    let alloc = rt.alloc();
-    let p1 = name(&rt, b"p1");
-    let tables = tracking(alloc, p1)?;
-    let mut zones = zones(alloc, &[8])?;
-    let out = sent_in(
-        alloc,
-        &tables,
-        &mut zones,
-        Entry::Vif(p1),
-        read(alloc, ASKED)?,
-        5,
-    )?;
-    assert!(rt; comes_to(&out, &[], &[0]));
+    let out = untracked(rt.alloc())?;
+    assert!(rt; comes_to(rt.alloc(), &out, &[], &[0]));
     Ok(())
 }

@@ -13,12 +13,12 @@ use inet_packet::regs::Reg;
 use ovn_base::memory::NoMemory;
 use ovn_base::name::Name;
 use std::alloc::Global;
-use std::test::*;
+use std::test::Fail;
 use switch_engine::effect::{Effect, Entry};
 use switch_engine::zones::Zones;
 
 // A UDP packet from 10.0.0.1 to 10.0.0.2, between these ports.
-fn asking(alloc: Global, from: u16, to: u16) -> Result<Packet, Fail>
+fn asking(alloc: Global, from: u16, to: u16) -> Result<Packet, NoMemory>
     ensures { IfOk result IsWhole }
 {
     let [a, b] = from.to_be_bytes();
@@ -27,8 +27,10 @@ fn asking(alloc: Global, from: u16, to: u16) -> Result<Packet, Fail>
         10, 0, 0, 0, 0, 2, 10, 0, 0, 0, 0, 1, 8, 0, 0x45, 0, 0, 28, 0, 1, 0, 0, 64, 17, 0x66, 0xce,
         10, 0, 0, 1, 10, 0, 0, 2, a, b, c, d, 0, 8, 0, 0,
     ];
-    let packet = decode(alloc, &frame).ok().ok_or("the bytes are a frame")?;
-    Ok(packet)
+    match decode(alloc, &frame) {
+        Ok(packet) => Ok(packet),
+        Err(_) => Err(NoMemory),
+    }
 }
 
 // Packets from port 2 of datapath 3 begin connections in zone 7 and go on, where they can.
@@ -42,10 +44,18 @@ fn committing(alloc: Global, p1: Name) -> Result<Tables, NoMemory>
         FlowOp::Commit(ZoneOf::In),
         FlowOp::Output(p1),
     ];
-    tables(alloc, &[], [row(alloc, 0, all(), begin)?])
+    tables(alloc, &[], [row(alloc, 0, all(), begin)])
 }
 
-// What comes of the packet between these ports: its only effect.
+// What comes of a packet.
+#[derive(Clone, Copy, PartialEq, Eq, Debug)]
+enum Comes {
+    Leaves,
+    Drops(Cause),
+    Other,
+}
+
+// What comes of the packet between these ports, where that is its only effect; it is dropped at port 2 of datapath 3.
 fn told(
     alloc: Global,
     tables: &Tables,
@@ -53,40 +63,54 @@ fn told(
     p1: Name,
     from: u16,
     to: u16,
-) -> Result<Option<Effect>, Fail>
+) -> Result<Comes, NoMemory>
     requires { IsProper tables.now.flows }
 {
     let packet = asking(alloc, from, to)?;
-    let mut out = sent_in(alloc, tables, zones, Entry::Vif(p1), packet, 0)?;
-    let effect = out.effects.pop();
-    if out.effects.is_empty() {
-        Ok(effect)
-    } else {
-        Ok(None)
+    let out = sent_in(alloc, tables, zones, Entry::Vif(p1), packet, 0)?;
+    Ok(match out.effects.as_slice() {
+        [Effect::Out { .. }] => Comes::Leaves,
+        [
+            Effect::Drop {
+                vni: 3,
+                port: 2,
+                cause,
+            },
+        ] => Comes::Drops(*cause),
+        _ => Comes::Other,
+    })
+}
+
+// Whether each packet that begins a connection to port 53, one from each port, leaves.
+fn fills(alloc: Global, tables: &Tables, zones: &mut Zones, p1: Name) -> Result<bool, NoMemory>
+    requires { IsProper tables.now.flows }
+{
+    let mut all = true;
+    for port in 0..=u16::MAX {
+        all &= told(alloc, tables, zones, p1, port, 53)? == Comes::Leaves;
     }
+    Ok(all)
+}
+
+// Whether the list is filled, and then what comes of a packet that would begin one more connection, and of one of a connection that is
+// there.
+fn filled(alloc: Global) -> Result<(bool, Comes, Comes), NoMemory> {
+    let p1 = name("p1")?;
+    let tables = committing(alloc, p1)?;
+    let mut zones = zones(alloc, &[7])?;
+    let all = fills(alloc, &tables, &mut zones, p1)?;
+    let more = told(alloc, &tables, &mut zones, p1, 5000, 54)?;
+    let held = told(alloc, &tables, &mut zones, p1, 5000, 53)?;
+    Ok((all, more, held))
 }
 
 // A list has room for 65,536 connections, as many as there are ports. A packet that would begin one more is dropped, and a packet of
 // one that is there is not.
 #[test]
 fn zone_is_full(rt: HostRuntime) -> Result<(), Fail> {
-    let alloc = rt.alloc();
-    let p1 = name(&rt, b"p1");
-    let tables = committing(alloc, p1)?;
-    let mut zones = zones(alloc, &[7])?;
-    let mut all = true;
-    for port in 0..=u16::MAX {
-        let told = told(alloc, &tables, &mut zones, p1, port, 53)?;
-        all &= matches!(told, Some(Effect::Out { .. }));
-    }
-    let one_more = told(alloc, &tables, &mut zones, p1, 5000, 54)?;
-    let held = told(alloc, &tables, &mut zones, p1, 5000, 53)?;
-    let full = Effect::Drop {
-        vni: 3,
-        port: 2,
-        cause: Cause::Full,
-    };
-    assert!(rt; all && one_more == Some(full));
-    assert!(rt; matches!(held, Some(Effect::Out { .. })));
+    assert_eq!(rt;
+        filled(rt.alloc())?,
+        (true, Comes::Drops(Cause::Full), Comes::Leaves)
+    );
     Ok(())
 }

@@ -1,35 +1,38 @@
 //! Packets for groups of ports.
 
 use crate::rows::row;
-use crate::tables::{at, comes_to, name, sent, set, stranger, tables, to};
-use flow_table::flow::{FlowOp, Member};
+use crate::tables::{Comes, at, name, set, shows, to};
+use flow_table::flow::{Flow, FlowOp, Member};
 use inet_packet::regs::{At, Reg};
 use ovn_base::list::List;
+use ovn_base::memory::NoMemory;
 use ovn_base::name::Name;
 use std::alloc::Global;
 use std::test::Fail;
-use switch_engine::effect::{Effect, Entry};
+use switch_engine::effect::Entry;
 
 // The key of the group of the ports that take unknown addresses.
 const UNKNOWN: u16 = 0x8001;
 
 // The packet goes as a frame, on the datapath of the key 1, from the port of the key to the group.
-fn framed(alloc: Global, chassis: Name, in_key: u16) -> Effect {
-    Effect::Frame {
+fn framed(chassis: Name, in_key: u16) -> Comes {
+    Comes::Frame {
         chassis,
         vni: 1,
         in_key,
         out_key: UNKNOWN,
-        packet: stranger(alloc),
     }
 }
 
-// The packet leaves the port.
-fn given(alloc: Global, port: Name) -> Effect {
-    Effect::Out {
-        port,
-        packet: stranger(alloc),
-    }
+// The flow of table 33 that copies what is for the group to these members.
+fn copies(alloc: Global, members: &[Member]) -> Result<Flow, NoMemory> {
+    let members = List::from_slice(alloc, members)?;
+    row(alloc, 33, to(UNKNOWN), [FlowOp::Copies(members)])
+}
+
+// The flow of table 64 that gives what is for the port of the key out of the port.
+fn gives(alloc: Global, key: u16, port: Name) -> Result<Flow, NoMemory> {
+    row(alloc, 64, to(key), [FlowOp::Output(port)])
 }
 
 // On hv1 the port p1 has the key 1, and p3 with the key 3 takes unknown addresses, as a port of hv2 does: a packet of p1 for an
@@ -37,9 +40,16 @@ fn given(alloc: Global, port: Name) -> Effect {
 #[test]
 fn unknown_group_where_it_is_sent(rt: HostRuntime) -> Result<(), Fail> {
     let alloc = rt.alloc();
-    let p1 = name(&rt, b"p1");
-    let p3 = name(&rt, b"p3");
-    let hv2 = name(&rt, b"hv2");
+    let (p1, p3, hv2) = (name("p1")?, name("p3")?, name("hv2")?);
+    let group = u32::from(UNKNOWN);
+    let enter = [set(Reg::Dp, 1), set(Reg::InPort, 1), FlowOp::Go(8)];
+    let rows = [
+        row(alloc, 0, at(At::Local(p1)), enter),
+        row(alloc, 14, to(0), [set(Reg::OutPort, group), FlowOp::Go(32)]),
+        row(alloc, 32, to(UNKNOWN), [FlowOp::Frame(hv2), FlowOp::Go(33)]),
+        copies(alloc, &[Member { key: 3, zone: 7 }]),
+        gives(alloc, 3, p3),
+    ];
     let way = [
         (8, 9),
         (9, 10),
@@ -53,25 +63,9 @@ fn unknown_group_where_it_is_sent(rt: HostRuntime) -> Result<(), Fail> {
         (42, 43),
         (43, 64),
     ];
-    let members = List::from_slice(alloc, &[Member { key: 3, zone: 7 }])?;
-    let group = u32::from(UNKNOWN);
-    let rows = [
-        row(
-            alloc,
-            0,
-            at(At::Local(p1)),
-            [set(Reg::Dp, 1), set(Reg::InPort, 1), FlowOp::Go(8)],
-        )?,
-        row(alloc, 14, to(0), [set(Reg::OutPort, group), FlowOp::Go(32)])?,
-        row(alloc, 32, to(UNKNOWN), [FlowOp::Frame(hv2), FlowOp::Go(33)])?,
-        row(alloc, 33, to(UNKNOWN), [FlowOp::Copies(members)])?,
-        row(alloc, 64, to(3), [FlowOp::Output(p3)])?,
-    ];
-    let tables = tables(alloc, &way, rows)?;
-    let out = sent(alloc, &tables, Entry::Vif(p1))?;
-    let effects = [framed(alloc, hv2, 1), given(alloc, p3)];
-    let way = [0, 8, 9, 10, 11, 12, 13, 14, 32, 33, 34, 40, 41, 42, 43, 64];
-    assert!(rt; comes_to(&out, &effects, &way));
+    let effects = [framed(hv2, 1), Comes::Leaves(p3)];
+    let path = [0, 8, 9, 10, 11, 12, 13, 14, 32, 33, 34, 40, 41, 42, 43, 64];
+    assert!(rt; shows(alloc, &way, rows, Entry::Vif(p1), &effects, &path)?);
     Ok(())
 }
 
@@ -79,30 +73,30 @@ fn unknown_group_where_it_is_sent(rt: HostRuntime) -> Result<(), Fail> {
 #[test]
 fn unknown_group_where_it_arrives(rt: HostRuntime) -> Result<(), Fail> {
     let alloc = rt.alloc();
-    let p4 = name(&rt, b"p4");
-    let way = [(34, 40), (40, 41), (41, 42), (42, 43), (43, 64)];
-    let members = List::from_slice(alloc, &[Member { key: 4, zone: 1 }])?;
+    let p4 = name("p4")?;
+    let arrive = [FlowOp::Header, set(Reg::Arrived, 1), FlowOp::Go(33)];
     let rows = [
-        row(
-            alloc,
-            0,
-            at(At::Tunnel),
-            [FlowOp::Header, set(Reg::Arrived, 1), FlowOp::Go(33)],
-        )?,
-        row(alloc, 33, to(UNKNOWN), [FlowOp::Copies(members)])?,
-        row(alloc, 64, to(4), [FlowOp::Output(p4)])?,
+        row(alloc, 0, at(At::Tunnel), arrive),
+        copies(alloc, &[Member { key: 4, zone: 1 }]),
+        gives(alloc, 4, p4),
     ];
-    let tables = tables(alloc, &way, rows)?;
+    let way = [(34, 40), (40, 41), (41, 42), (42, 43), (43, 64)];
     let entry = Entry::Tunnel {
         vni: 1,
         in_key: 1,
         out_key: UNKNOWN,
     };
-    let out = sent(alloc, &tables, entry)?;
-    let effects = [given(alloc, p4)];
-    let way = [0, 33, 34, 40, 41, 42, 43, 64];
-    assert!(rt; comes_to(&out, &effects, &way));
+    let path = [0, 33, 34, 40, 41, 42, 43, 64];
+    assert!(rt; shows(alloc, &way, rows, entry, &[Comes::Leaves(p4)], &path)?);
     Ok(())
+}
+
+// The flow that gives what is for the port of the key 5 out of it, where its zone is 9.
+fn gives_in_zone(alloc: Global, port: Name) -> Result<Flow, NoMemory> {
+    let mut cube = to(5);
+    cube.z_out.value = 9;
+    cube.z_out.mask = 0xffff;
+    row(alloc, 64, cube, [FlowOp::Output(port)])
 }
 
 // Frames come before the copies, in order. The port p2 with the key 2, at which the packet enters, gets no copy, and the other
@@ -110,67 +104,57 @@ fn unknown_group_where_it_arrives(rt: HostRuntime) -> Result<(), Fail> {
 #[test]
 fn copies_for_all_members_but_one(rt: HostRuntime) -> Result<(), Fail> {
     let alloc = rt.alloc();
-    let p1 = name(&rt, b"p1");
-    let p2 = name(&rt, b"p2");
-    let p5 = name(&rt, b"p5");
-    let hv2 = name(&rt, b"hv2");
-    let hv3 = name(&rt, b"hv3");
+    let (p1, p2, p5) = (name("p1")?, name("p2")?, name("p5")?);
+    let (hv2, hv3) = (name("hv2")?, name("hv3")?);
     let members = [
         Member { key: 1, zone: 8 },
         Member { key: 2, zone: 0 },
         Member { key: 5, zone: 9 },
     ];
-    let members = List::from_slice(alloc, &members)?;
-    let mut to_p5 = to(5);
-    to_p5.z_out.value = 9;
-    to_p5.z_out.mask = 0xffff;
+    let enter = [
+        set(Reg::Dp, 1),
+        set(Reg::InPort, 2),
+        set(Reg::OutPort, u32::from(UNKNOWN)),
+        FlowOp::Frame(hv2),
+        FlowOp::Frame(hv3),
+        FlowOp::Go(33),
+    ];
     let rows = [
-        row(
-            alloc,
-            0,
-            at(At::Local(p2)),
-            [
-                set(Reg::Dp, 1),
-                set(Reg::InPort, 2),
-                set(Reg::OutPort, u32::from(UNKNOWN)),
-                FlowOp::Frame(hv2),
-                FlowOp::Frame(hv3),
-                FlowOp::Go(33),
-            ],
-        )?,
-        row(alloc, 33, to(UNKNOWN), [FlowOp::Copies(members)])?,
-        row(alloc, 64, to(1), [FlowOp::Output(p1)])?,
-        row(alloc, 64, to_p5, [FlowOp::Output(p5)])?,
+        row(alloc, 0, at(At::Local(p2)), enter),
+        copies(alloc, &members),
+        gives(alloc, 1, p1),
+        gives_in_zone(alloc, p5),
     ];
-    let tables = tables(alloc, &[(34, 64)], rows)?;
-    let out = sent(alloc, &tables, Entry::Vif(p2))?;
     let effects = [
-        framed(alloc, hv2, 2),
-        framed(alloc, hv3, 2),
-        given(alloc, p1),
-        given(alloc, p5),
+        framed(hv2, 2),
+        framed(hv3, 2),
+        Comes::Leaves(p1),
+        Comes::Leaves(p5),
     ];
-    let way = [0, 33, 34, 64, 34, 64];
-    assert!(rt; comes_to(&out, &effects, &way));
+    let path = [0, 33, 34, 64, 34, 64];
+    assert!(rt; shows(alloc, &[(34, 64)], rows, Entry::Vif(p2), &effects, &path)?);
     Ok(())
+}
+
+// The flow of table 0 that copies what is for no port to the port of the key 3, and has the packet itself go on.
+fn copies_and_goes(alloc: Global) -> Result<Flow, NoMemory> {
+    let members = List::from_slice(alloc, &[Member { key: 3, zone: 0 }])?;
+    row(alloc, 0, to(0), [FlowOp::Copies(members), FlowOp::Go(40)])
 }
 
 // The copy itself goes to its end, at p1, before the one that was made of it for p3 with the key 3.
 #[test]
 fn carries_each_copy_to_its_end(rt: HostRuntime) -> Result<(), Fail> {
     let alloc = rt.alloc();
-    let p1 = name(&rt, b"p1");
-    let p3 = name(&rt, b"p3");
-    let members = List::from_slice(alloc, &[Member { key: 3, zone: 0 }])?;
+    let (p1, p3) = (name("p1")?, name("p3")?);
     let rows = [
-        row(alloc, 0, to(0), [FlowOp::Copies(members), FlowOp::Go(40)])?,
-        row(alloc, 64, to(3), [FlowOp::Output(p3)])?,
-        row(alloc, 64, to(0), [FlowOp::Output(p1)])?,
+        copies_and_goes(alloc),
+        gives(alloc, 3, p3),
+        gives(alloc, 0, p1),
     ];
-    let tables = tables(alloc, &[(34, 64), (40, 64)], rows)?;
-    let out = sent(alloc, &tables, Entry::Vif(p1))?;
-    let effects = [given(alloc, p1), given(alloc, p3)];
-    let way = [0, 40, 64, 34, 64];
-    assert!(rt; comes_to(&out, &effects, &way));
+    let way = [(34, 64), (40, 64)];
+    let effects = [Comes::Leaves(p1), Comes::Leaves(p3)];
+    let path = [0, 40, 64, 34, 64];
+    assert!(rt; shows(alloc, &way, rows, Entry::Vif(p1), &effects, &path)?);
     Ok(())
 }

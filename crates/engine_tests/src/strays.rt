@@ -1,11 +1,11 @@
 //! Copies whose port isn't here.
 
 use crate::rows::row;
-use crate::tables::{all, at, comes_to, name, sent, set, tables};
+use crate::tables::{Comes, all, at, name, set, shows};
 use flow_table::flow::{Cause, FlowOp};
 use inet_packet::regs::{At, Reg};
 use std::test::Fail;
-use switch_engine::effect::{Effect, Entry};
+use switch_engine::effect::Entry;
 
 // What brings a packet for the port of the key 3 from a tunnel.
 const FROM_TUNNEL: Entry = Entry::Tunnel {
@@ -14,7 +14,7 @@ const FROM_TUNNEL: Entry = Entry::Tunnel {
     out_key: 3,
 };
 
-const UNBOUND: Effect = Effect::Drop {
+const UNBOUND: Comes = Comes::Drops {
     vni: 1,
     port: 3,
     cause: Cause::Unbound,
@@ -23,35 +23,25 @@ const UNBOUND: Effect = Effect::Drop {
 #[test]
 fn lost_straight_from_a_tunnel(rt: HostRuntime) -> Result<(), Fail> {
     let alloc = rt.alloc();
-    let rows = [row(alloc, 0, at(At::Tunnel), [FlowOp::Header, FlowOp::Go(33)])?];
-    let tables = tables(alloc, &[], rows)?;
-    let out = sent(alloc, &tables, FROM_TUNNEL)?;
-    assert!(rt; comes_to(&out, &[Effect::Lost], &[0]));
+    let rows = [row(alloc, 0, at(At::Tunnel), [FlowOp::Header, FlowOp::Go(33)])];
+    assert!(rt; shows(alloc, &[], rows, FROM_TUNNEL, &[Comes::Lost], &[0])?);
     Ok(())
 }
 
 #[test]
 fn dropped_on_the_way_from_a_tunnel(rt: HostRuntime) -> Result<(), Fail> {
     let alloc = rt.alloc();
-    let rows = [row(alloc, 0, at(At::Tunnel), [FlowOp::Header, FlowOp::Go(32)])?];
-    let tables = tables(alloc, &[(32, 33)], rows)?;
-    let out = sent(alloc, &tables, FROM_TUNNEL)?;
-    assert!(rt; comes_to(&out, &[UNBOUND], &[0, 32]));
+    let rows = [row(alloc, 0, at(At::Tunnel), [FlowOp::Header, FlowOp::Go(32)])];
+    assert!(rt; shows(alloc, &[(32, 33)], rows, FROM_TUNNEL, &[UNBOUND], &[0, 32])?);
     Ok(())
 }
 
 #[test]
 fn dropped_from_a_port(rt: HostRuntime) -> Result<(), Fail> {
     let alloc = rt.alloc();
-    let p1 = name(&rt, b"p1");
-    let rows = [row(
-        alloc,
-        0,
-        all(),
-        [set(Reg::Dp, 1), set(Reg::OutPort, 3), FlowOp::Go(33)],
-    )?];
-    let tables = tables(alloc, &[], rows)?;
-    let out = sent(alloc, &tables, Entry::Vif(p1))?;
-    assert!(rt; comes_to(&out, &[UNBOUND], &[0]));
+    let p1 = name("p1")?;
+    let ops = [set(Reg::Dp, 1), set(Reg::OutPort, 3), FlowOp::Go(33)];
+    let rows = [row(alloc, 0, all(), ops)];
+    assert!(rt; shows(alloc, &[], rows, Entry::Vif(p1), &[UNBOUND], &[0])?);
     Ok(())
 }

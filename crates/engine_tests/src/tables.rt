@@ -1,10 +1,10 @@
-//! Tables of proper flows, and what comes of a packet in them.
+//! Tables of proper flows, and what has to come of a packet in them.
 ghost use Rattle.std.specs.Prelude.{IfOk};
 ghost use Rattle.inet_packet.specs.Whole.{IsWhole};
 ghost use Rattle.switch_engine.specs.Proper.{IsEntry, IsProper};
 
 use crate::rows::{put_all, row};
-use flow_table::flow::{Flow, FlowOp};
+use flow_table::flow::{Cause, Flow, FlowOp};
 use flow_table::tables::Tables;
 use inet_packet::cube::{Bits, Cube};
 use inet_packet::packet::{Body, Packet};
@@ -14,7 +14,6 @@ use ovn_base::list::List;
 use ovn_base::memory::NoMemory;
 use ovn_base::name::Name;
 use std::alloc::Global;
-use std::process::Abort;
 use switch_engine::effect::{Effect, Entry};
 use switch_engine::engine::run;
 use switch_engine::walk::RunOut;
@@ -59,18 +58,28 @@ pub fn set(reg: Reg, value: u32) -> FlowOp {
     FlowOp::Set { reg, value }
 }
 
+// The flows, and one for each pair of tables on the way, which takes every packet from the one to the other.
+fn with_way(
+    alloc: Global,
+    way: &[(u8, u8)],
+    rows: Vec<Result<Flow, NoMemory>>,
+) -> Result<Vec<Flow>, NoMemory> {
+    let mut flows: Vec<Flow> = rows.into_iter().try_collect(alloc)?;
+    for &(table, next) in way {
+        flows.push(row(alloc, table, all(), [FlowOp::Go(next)])?)?;
+    }
+    Ok(flows)
+}
+
 /// Tables with the rows, and with one for each pair of tables on the way, which takes every packet from the one to the other.
 pub fn tables<const N: usize>(
     alloc: Global,
     way: &[(u8, u8)],
-    rows: [Flow; N],
+    rows: [Result<Flow, NoMemory>; N],
 ) -> Result<Tables, NoMemory>
     ensures { IfOk result (λ t. IsProper t.flows) }
 {
-    let mut flows = Vec::from_array(alloc, rows)?;
-    for &(table, next) in way {
-        flows.push(row(alloc, table, all(), [FlowOp::Go(next)])?)?;
-    }
+    let flows = with_way(alloc, way, Vec::from_array(alloc, rows)?)?;
     put_all(alloc, flows)
 }
 
@@ -111,18 +120,106 @@ pub fn zones(alloc: Global, numbers: &[u16]) -> Result<Zones, NoMemory> {
     Ok(zones)
 }
 
+/// What is to come of a packet for a stranger.
+#[derive(Clone, Copy)]
+pub enum Comes {
+    /// It leaves the port.
+    Leaves(Name),
+    /// It is sent to the chassis as a frame with these keys.
+    Frame {
+        chassis: Name,
+        vni: u32,
+        in_key: u16,
+        out_key: u16,
+    },
+    /// It is dropped on the datapath of the key at the port of the key.
+    Drops {
+        vni: u32,
+        port: u16,
+        cause: Cause,
+    },
+    /// It came from a tunnel for a port that isn't here.
+    Lost,
+}
+
+// The effect on the packet.
+fn effect(alloc: Global, comes: Comes) -> Effect {
+    match comes {
+        Comes::Leaves(port) => Effect::Out {
+            port,
+            packet: stranger(alloc),
+        },
+        Comes::Frame {
+            chassis,
+            vni,
+            in_key,
+            out_key,
+        } => {
+            Effect::Frame {
+                chassis,
+                vni,
+                in_key,
+                out_key,
+                packet: stranger(alloc),
+            }
+        }
+        Comes::Drops { vni, port, cause } => Effect::Drop { vni, port, cause },
+        Comes::Lost => Effect::Lost,
+    }
+}
+
+// Whether the effects are these, in this order.
+fn are(alloc: Global, effects: &[Effect], wanted: &[Comes]) -> bool {
+    for (told, comes) in effects.iter().zip(wanted) {
+        if *told != effect(alloc, *comes) {
+            return false;
+        }
+    }
+    effects.len() == wanted.len()
+}
+
 // Whether the steps are of these tables.
-fn visits(out: &RunOut, way: &[u8]) -> bool {
+fn visits(out: &RunOut, path: &[u8]) -> bool {
     let mut steps = out.walk.as_slice().iter().map(|step| step.table);
-    steps.eq(way.iter().copied())
+    steps.eq(path.iter().copied())
 }
 
 /// Whether the packet came to these effects, in steps of these tables.
-pub fn comes_to(out: &RunOut, effects: &[Effect], way: &[u8]) -> bool {
-    out.effects.as_slice() == effects && visits(out, way)
+pub fn comes_to(alloc: Global, out: &RunOut, effects: &[Comes], path: &[u8]) -> bool {
+    are(alloc, out.effects.as_slice(), effects) && visits(out, path)
 }
 
-/// The name of a test.
-pub fn name(rt: &impl Abort, text: &[u8]) -> Name {
-    Name::read(text).expect(rt, "a name")
+/// Whether a packet for a stranger comes to these effects in steps of these tables, without zones.
+pub fn leads_to(
+    alloc: Global,
+    tables: &Tables,
+    entry: Entry,
+    effects: &[Comes],
+    path: &[u8],
+) -> Result<bool, NoMemory>
+    requires tables { IsProper tables.now.flows }
+    requires entry { IsEntry entry }
+{
+    let out = sent(alloc, tables, entry)?;
+    Ok(comes_to(alloc, &out, effects, path))
+}
+
+/// Whether it does in tables that have these rows, and one for each pair of tables on the way.
+pub fn shows<const N: usize>(
+    alloc: Global,
+    way: &[(u8, u8)],
+    rows: [Result<Flow, NoMemory>; N],
+    entry: Entry,
+    effects: &[Comes],
+    path: &[u8],
+) -> Result<bool, NoMemory>
+    requires { IsEntry entry }
+{
+    let tables = tables(alloc, way, rows)?;
+    leads_to(alloc, &tables, entry, effects, path)
+}
+
+/// The name of that text.
+pub fn name(text: &str) -> Result<Name, NoMemory> {
+    Name::read(text.as_bytes()).ok_or(NoMemory)
 }
