@@ -25,7 +25,7 @@ use ovn_base::memory::NoMemory;
 use ovn_base::name::Name;
 use ovn_base::steps::Steps;
 use std::alloc::Global;
-use std::test::Fail;
+use tunnel_keys::fault::KeyFault;
 use tunnel_keys::store::KeyStore;
 
 /// Names the counter of calls.
@@ -35,19 +35,29 @@ pub(crate) fn name(text: &[u8]) -> Result<Name, NoMemory> {
     Name::read(text).ok_or(NoMemory)
 }
 
-/// The datapaths r0 and s0, which have the keys 1 and 2, and the ports p1 and p2 of s0, which have 1 and 2.
-pub(crate) fn some_keys(alloc: Global) -> Result<Register, Fail> {
-    let s0 = name(b"s0")?;
-    let mut register = Register::with_ranges(alloc, MAX_DATAPATH_KEY, MAX_PORT_KEY)?;
-    register.add_datapath(name(b"r0")?)?;
+// The datapaths r0 and s0 come, and the ports p1 and p2 of s0.
+fn come(register: &mut Register, datapaths: [Name; 2], ports: [Name; 2]) -> Result<(), KeyFault> {
+    let [r0, s0] = datapaths;
+    let [p1, p2] = ports;
+    register.add_datapath(r0)?;
     register.add_datapath(s0)?;
-    register.add_port(s0, name(b"p1")?)?;
-    register.add_port(s0, name(b"p2")?)?;
-    Ok(register)
+    register.add_port(s0, p1)?;
+    register.add_port(s0, p2)
+}
+
+/// The datapaths r0 and s0, which have the keys 1 and 2, and the ports p1 and p2 of s0, which have 1 and 2.
+pub(crate) fn some_keys(alloc: Global) -> Result<Register, NoMemory> {
+    let datapaths = [name(b"r0")?, name(b"s0")?];
+    let ports = [name(b"p1")?, name(b"p2")?];
+    let mut register = Register::with_ranges(alloc, MAX_DATAPATH_KEY, MAX_PORT_KEY)?;
+    match come(&mut register, datapaths, ports) {
+        Ok(()) => Ok(register),
+        Err(_) => Err(NoMemory),
+    }
 }
 
 // The set `nets` of two subnets.
-fn some_sets(alloc: Global) -> Result<Sets, Fail> {
+fn nets(alloc: Global) -> Result<List<SetEntry>, NoMemory> {
     let nets = [
         SetEntry::Ip(Cidr {
             addr: Ip4(0x0a00_0000),
@@ -58,21 +68,25 @@ fn some_sets(alloc: Global) -> Result<Sets, Fail> {
             len: 32,
         }),
     ];
+    List::from_slice(alloc, &nets)
+}
+
+fn some_sets(alloc: Global) -> Result<Sets, NoMemory> {
     let mut addresses = List::new(alloc);
-    addresses.push((name(b"nets")?, List::from_slice(alloc, &nets)?))?;
+    addresses.push((name(b"nets")?, nets(alloc)?))?;
     Ok(Sets {
         addresses,
         groups: List::new(alloc),
     })
 }
 
-fn read(alloc: Global, text: &[u8]) -> Result<Expr, Fail>
+fn read(alloc: Global, text: &[u8]) -> Result<Expr, NoMemory>
     ensures { IfOk result (λ x. are_suited x true ≡ true) }
 {
     fitting_is_suited();
     match parse(alloc, text, Direction::ToLport) {
         Ok(expr) => Ok(expr),
-        Err(fault) => Err(fault.into()),
+        Err(_) => Err(NoMemory),
     }
 }
 
@@ -104,12 +118,15 @@ pub(crate) fn flows(
     text: &[u8],
     regs: &[RegIs],
     steps: &mut Steps<Lowerings>,
-) -> Result<List<Flow>, Fail> {
+) -> Result<List<Flow>, NoMemory> {
     let (s0, p2) = (name(b"s0")?, name(b"p2")?);
+    if !has_datapath(keys, &s0) || !has_port(keys, &p2) {
+        return Err(NoMemory);
+    }
     let sets = some_sets(alloc)?;
     let matching = read(alloc, text)?;
-    if !is_narrow(&matching, &sets) || !has_datapath(keys, &s0) || !has_port(keys, &p2) {
-        return Err(NoMemory.into());
+    if !is_narrow(&matching, &sets) {
+        return Err(NoMemory);
     }
     let mut actions = List::new(alloc);
     actions.push(Action::SetOut(p2))?;
