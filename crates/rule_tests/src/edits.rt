@@ -2,6 +2,7 @@
 
 use crate::lines::{Row, differing, edit, name, planned};
 use nb_edits::edit::apply;
+use nb_edits::plan::EditPlan;
 use nb_records::records::Records;
 use ovn_base::address::{Backend, Birth, Ip4};
 use ovn_base::memory::NoMemory;
@@ -21,24 +22,29 @@ fn after(alloc: Global, ops: &str) -> Result<Records, NoMemory> {
     Ok(records)
 }
 
+const REFUSED: &str =
+    r#"{"add":"switch","name":"s1"},{"set":"switch_port","name":"p1","enabled":false},{"remove":"acl","name":"zz"}"#;
+
+// Whether the switch s1 isn't there, and the port p1 is enabled.
+fn is_as_it_was(records: &Records) -> Result<bool, NoMemory> {
+    let (s1, p1) = (name("s1")?, name("p1")?);
+    let is_enabled = records.switch_port(&p1).is_some_and(|port| port.enabled);
+    Ok(records.switch(&s1).is_none() && is_enabled)
+}
+
+// What is told of the refused edit, and whether it left the records as they were.
+fn refused(alloc: Global) -> Result<(String, bool), NoMemory> {
+    let mut records = after(alloc, PORT)?;
+    let told = edit(alloc, &mut records, REFUSED, 2)?;
+    let is_as_it_was = is_as_it_was(&records)?;
+    Ok((told, is_as_it_was))
+}
+
 // The third operation is refused, so the first two aren't done.
 #[test]
 fn a_refused_edit_changes_nothing(rt: HostRuntime) -> Result<(), Fail> {
-    let alloc = rt.alloc();
-    let mut records = after(alloc, PORT)?;
-    let told = edit(
-        alloc,
-        &mut records,
-        r#"{"add":"switch","name":"s1"},{"set":"switch_port","name":"p1","enabled":false},{"remove":"acl","name":"zz"}"#,
-        2,
-    )?;
-    assert_eq!(rt; told.as_str(), "NoSuch zz");
-    assert!(rt; records.switch(&name("s1")?).is_none());
-    assert!(rt;
-        records
-            .switch_port(&name("p1")?)
-            .is_some_and(|port| port.enabled)
-    );
+    let (told, is_as_it_was) = refused(rt.alloc())?;
+    assert_eq!(rt; (told.as_str(), is_as_it_was), ("NoSuch zz", true));
     Ok(())
 }
 
@@ -92,24 +98,40 @@ fn owner(birth: u64) -> Result<KeyOwner, NoMemory> {
     })
 }
 
+// Whether the plan has the port of the first event go, and that of the second come.
+fn replaces_port(plan: &EditPlan) -> Result<bool, NoMemory> {
+    let (old, new) = (owner(1)?, owner(2)?);
+    Ok(plan.removed() == [old].as_slice() && plan.added() == [new].as_slice())
+}
+
+// Whether the port is of the second event.
+fn is_of_second_birth(records: &Records) -> Result<bool, NoMemory> {
+    let p1 = name("p1")?;
+    Ok(
+        records
+            .switch_port(&p1)
+            .is_some_and(|port| port.birth == Birth(2)),
+    )
+}
+
+const AGAIN: &str =
+    r#"{"remove":"switch_port","name":"p1"},{"add":"switch_port","name":"p1","switch":"s0"}"#;
+
+// Whether it is so of the plan, and of the records where it was applied.
+fn is_another(alloc: Global) -> Result<bool, NoMemory> {
+    let mut records = after(alloc, PORT)?;
+    let Ok(plan) = planned(alloc, &mut records, AGAIN, 2)? else {
+        return Ok(false);
+    };
+    let is_planned = replaces_port(&plan)?;
+    apply(&mut records, plan);
+    Ok(is_planned && is_of_second_birth(&records)?)
+}
+
 // The port that is added is another than the one that is removed; the switch stays.
 #[test]
 fn a_name_that_is_removed_and_added_is_of_another_birth(rt: HostRuntime) -> Result<(), Fail> {
-    let alloc = rt.alloc();
-    let mut records = after(alloc, PORT)?;
-    let ops =
-        r#"{"remove":"switch_port","name":"p1"},{"add":"switch_port","name":"p1","switch":"s0"}"#;
-    let Ok(plan) = planned(alloc, &mut records, ops, 2)? else {
-        return Err(NoMemory.into());
-    };
-    assert!(rt; plan.removed() == [owner(1)?].as_slice());
-    assert!(rt; plan.added() == [owner(2)?].as_slice());
-    apply(&mut records, plan);
-    assert!(rt;
-        records
-            .switch_port(&name("p1")?)
-            .is_some_and(|port| port.birth == Birth(2))
-    );
+    assert!(rt; is_another(rt.alloc())?);
     Ok(())
 }
 
@@ -125,8 +147,8 @@ const SERVER: Backend = Backend {
 
 // Whether the server is online behind the edit, where it was marked offline before.
 fn online_after(alloc: Global, ops: &str) -> Result<bool, NoMemory> {
-    let mut records = after(alloc, BALANCER)?;
     let b = name("b")?;
+    let mut records = after(alloc, BALANCER)?;
     records.mark(&b, SERVER, false)?;
     edit(alloc, &mut records, ops, 2)?;
     Ok(records.is_online(&b, SERVER))

@@ -1,6 +1,6 @@
 //! Widths of matches, and how many records there may be, each at its edge.
 
-use crate::lines::{answer, edit, name};
+use crate::lines::{answer, answers, edit, name};
 use match_language::expr::Expr;
 use match_language::field::Direction;
 use nb_records::record::Record;
@@ -37,39 +37,39 @@ const WIDTHS: [(&str, &str); 4] = [
     ),
 ];
 
+// What is told of a rule with the match.
+fn told_of(alloc: Global, matching: &str) -> Result<String, NoMemory> {
+    let rule = format!(in alloc;
+        r#"{{"add":"acl","name":"a","switch":"s0","direction":"to-lport","priority":1,"match":"{matching}","action":"drop"}}"#
+    )?;
+    answer(alloc, GROUP, rule.as_str())
+}
+
 #[test]
 fn a_match_has_a_greatest_width(rt: HostRuntime) -> Result<(), Fail> {
-    let alloc = rt.alloc();
     for (matching, wanted) in WIDTHS {
-        let rule = format!(in alloc;
-            r#"{{"add":"acl","name":"a","switch":"s0","direction":"to-lport","priority":1,"match":"{matching}","action":"drop"}}"#
-        )?;
-        let told = answer(alloc, GROUP, rule.as_str())?;
+        let told = told_of(rt.alloc(), matching)?;
         assert_eq!(rt; told.as_str(), wanted, "{matching}");
     }
     Ok(())
 }
 
+// The two switches with the group.
+fn group(alloc: Global) -> Result<Records, NoMemory> {
+    let mut records = Records::new(alloc)?;
+    edit(alloc, &mut records, GROUP, 1)?;
+    Ok(records)
+}
+
 // The rule is 32,768 wide on each of two switches; one without width counts as 1.
 #[test]
 fn cubes_are_summed_over_switches(rt: HostRuntime) -> Result<(), Fail> {
-    let alloc = rt.alloc();
-    let mut records = Records::new(alloc)?;
-    edit(alloc, &mut records, GROUP, 1)?;
-    let full = edit(
-        alloc,
-        &mut records,
-        r#"{"add":"acl","name":"a","port_group":"vms","direction":"to-lport","priority":1,"match":"ip4.src != {1, 2, 3}","action":"drop"}"#,
-        2,
-    )?;
-    let more = edit(
-        alloc,
-        &mut records,
-        r#"{"add":"acl","name":"b","switch":"s0","direction":"to-lport","priority":1,"match":"0","action":"drop"}"#,
-        3,
-    )?;
-    assert_eq!(rt; full.as_str(), "ok");
-    assert_eq!(rt; more.as_str(), "Limit cubes");
+    let full =
+        r#"{"add":"acl","name":"a","port_group":"vms","direction":"to-lport","priority":1,"match":"ip4.src != {1, 2, 3}","action":"drop"}"#;
+    let more =
+        r#"{"add":"acl","name":"b","switch":"s0","direction":"to-lport","priority":1,"match":"0","action":"drop"}"#;
+    let told = answers(rt.alloc(), group(rt.alloc()), full, more)?;
+    assert_eq!(rt; told.as_str(), "ok, Limit cubes");
     Ok(())
 }
 
@@ -80,16 +80,11 @@ fn numbered(alloc: Global, kind: &str, number: u32) -> Result<Name, NoMemory> {
     name(text.as_str())
 }
 
-// So many switches.
-fn switches(alloc: Global, count: u32) -> Result<Records, NoMemory> {
-    let mut records = Records::new(alloc)?;
-    for number in 0..count {
-        records.put(Record::Switch(Switch {
-            name: numbered(alloc, "s", number)?,
-            birth: Birth(1),
-        }))?;
-    }
-    Ok(records)
+fn switch(alloc: Global, number: u32) -> Result<Record, NoMemory> {
+    Ok(Record::Switch(Switch {
+        name: numbered(alloc, "s", number)?,
+        birth: Birth(1),
+    }))
 }
 
 fn port(alloc: Global, number: u32) -> Result<Record, NoMemory> {
@@ -105,84 +100,91 @@ fn port(alloc: Global, number: u32) -> Result<Record, NoMemory> {
     }))
 }
 
-// So many ports of one switch.
-fn ports(alloc: Global, count: u32) -> Result<Records, NoMemory> {
-    let mut records = switches(alloc, 1)?;
+// A rule of one switch for all packets.
+fn rule(alloc: Global, number: u32) -> Result<Record, NoMemory> {
+    Ok(Record::Acl(Acl {
+        name: numbered(alloc, "a", number)?,
+        birth: Birth(1),
+        switch: Some(name("s0")?),
+        port_group: None,
+        direction: Direction::ToLport,
+        priority: 1,
+        matching: Expr::Const(true),
+        action: RuleAction::Drop,
+    }))
+}
+
+fn add_switches(alloc: Global, records: &mut Records, count: u32) -> Result<(), NoMemory> {
+    for number in 0..count {
+        records.put(switch(alloc, number)?)?;
+    }
+    Ok(())
+}
+
+fn add_ports(alloc: Global, records: &mut Records, count: u32) -> Result<(), NoMemory> {
     for number in 0..count {
         records.put(port(alloc, number)?)?;
     }
+    Ok(())
+}
+
+fn add_rules(alloc: Global, records: &mut Records, count: u32) -> Result<(), NoMemory> {
+    for number in 0..count {
+        records.put(rule(alloc, number)?)?;
+    }
+    Ok(())
+}
+
+// So many switches, of which s0 has so many ports and rules.
+fn network(alloc: Global, switches: u32, ports: u32, rules: u32) -> Result<Records, NoMemory> {
+    let mut records = Records::new(alloc)?;
+    add_all(alloc, &mut records, switches, ports, rules)?;
     Ok(records)
+}
+
+fn add_all(
+    alloc: Global,
+    records: &mut Records,
+    switches: u32,
+    ports: u32,
+    rules: u32,
+) -> Result<(), NoMemory> {
+    add_switches(alloc, records, switches)?;
+    add_ports(alloc, records, ports)?;
+    add_rules(alloc, records, rules)
 }
 
 // Both kinds of datapaths count, and both kinds of ports.
 #[test]
 fn datapaths_have_a_limit(rt: HostRuntime) -> Result<(), Fail> {
-    let alloc = rt.alloc();
-    let mut records = switches(alloc, 1023)?;
-    let last = edit(alloc, &mut records, r#"{"add":"router","name":"r0"}"#, 2)?;
-    let more = edit(alloc, &mut records, r#"{"add":"router","name":"r1"}"#, 3)?;
-    assert_eq!(rt; last.as_str(), "ok");
-    assert_eq!(rt; more.as_str(), "Limit datapath");
+    let records = network(rt.alloc(), 1023, 0, 0);
+    let last = r#"{"add":"router","name":"r0"}"#;
+    let more = r#"{"add":"router","name":"r1"}"#;
+    let told = answers(rt.alloc(), records, last, more)?;
+    assert_eq!(rt; told.as_str(), "ok, Limit datapath");
     Ok(())
 }
 
 #[test]
 fn ports_have_a_limit(rt: HostRuntime) -> Result<(), Fail> {
-    let alloc = rt.alloc();
-    let mut records = ports(alloc, 9999)?;
-    let last = edit(
-        alloc,
-        &mut records,
-        r#"{"add":"router","name":"r0"},{"add":"router_port","name":"rp1","router":"r0","mac":"0a:00:00:00:01:fe","networks":["10.0.0.254/24"]}"#,
-        2,
-    )?;
-    let more = edit(
-        alloc,
-        &mut records,
-        r#"{"add":"switch_port","name":"one","switch":"s0"}"#,
-        3,
-    )?;
-    assert_eq!(rt; last.as_str(), "ok");
-    assert_eq!(rt; more.as_str(), "Limit port");
+    let records = network(rt.alloc(), 1, 9999, 0);
+    let last =
+        r#"{"add":"router","name":"r0"},{"add":"router_port","name":"rp1","router":"r0","mac":"0a:00:00:00:01:fe","networks":["10.0.0.254/24"]}"#;
+    let more = r#"{"add":"switch_port","name":"one","switch":"s0"}"#;
+    let told = answers(rt.alloc(), records, last, more)?;
+    assert_eq!(rt; told.as_str(), "ok, Limit port");
     Ok(())
-}
-
-// So many rules of one switch, each for all packets.
-fn rules(alloc: Global, count: u32) -> Result<Records, NoMemory> {
-    let mut records = switches(alloc, 1)?;
-    for number in 0..count {
-        records.put(Record::Acl(Acl {
-            name: numbered(alloc, "a", number)?,
-            birth: Birth(1),
-            switch: Some(name("s0")?),
-            port_group: None,
-            direction: Direction::ToLport,
-            priority: 1,
-            matching: Expr::Const(true),
-            action: RuleAction::Drop,
-        }))?;
-    }
-    Ok(records)
 }
 
 #[test]
 fn rules_have_a_limit(rt: HostRuntime) -> Result<(), Fail> {
-    let alloc = rt.alloc();
-    let mut records = rules(alloc, 16383)?;
-    let last = edit(
-        alloc,
-        &mut records,
-        r#"{"add":"acl","name":"one","switch":"s0","direction":"from-lport","priority":1,"match":"1","action":"allow"}"#,
-        2,
-    )?;
-    let more = edit(
-        alloc,
-        &mut records,
-        r#"{"add":"acl","name":"two","switch":"s0","direction":"from-lport","priority":1,"match":"1","action":"allow"}"#,
-        3,
-    )?;
-    assert_eq!(rt; last.as_str(), "ok");
-    assert_eq!(rt; more.as_str(), "Limit acl");
+    let records = network(rt.alloc(), 1, 0, 16383);
+    let last =
+        r#"{"add":"acl","name":"one","switch":"s0","direction":"from-lport","priority":1,"match":"1","action":"allow"}"#;
+    let more =
+        r#"{"add":"acl","name":"two","switch":"s0","direction":"from-lport","priority":1,"match":"1","action":"allow"}"#;
+    let told = answers(rt.alloc(), records, last, more)?;
+    assert_eq!(rt; told.as_str(), "ok, Limit acl");
     Ok(())
 }
 

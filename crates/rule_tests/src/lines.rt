@@ -66,6 +66,28 @@ pub(crate) fn answer(alloc: Global, first: &str, second: &str) -> Result<String,
     edit(alloc, &mut records, second, 2)
 }
 
+/// Tells what is wrong with two edits, one after the other, that are made on these records.
+pub(crate) fn answers(
+    alloc: Global,
+    records: Result<Records, NoMemory>,
+    first: &str,
+    second: &str,
+) -> Result<String, NoMemory> {
+    let mut records = records?;
+    both_told(alloc, &mut records, first, second)
+}
+
+fn both_told(
+    alloc: Global,
+    records: &mut Records,
+    first: &str,
+    second: &str,
+) -> Result<String, NoMemory> {
+    let one = edit(alloc, records, first, 2)?;
+    let other = edit(alloc, records, second, 3)?;
+    Ok(format!(in alloc; "{one}, {other}")?)
+}
+
 /// What is there, an edit, and what is wrong with it.
 pub(crate) type Row = (&'static str, &'static str, &'static str);
 
