@@ -15,8 +15,8 @@ use crate::crossing::Crossing;
 use inet_packet::packet::Packet;
 use nb_records::switch::SwitchPort;
 
-/// A packet's way from its entry adds ends, begins connections that are new, changes entries that are there, and makes choices; and
-/// it does nothing else.
+/// A packet's way from its entry adds ends, begins connections that are new, changes entries that are there, and makes choices, of
+/// which others may be left; and it does nothing else.
 #[tactic(auto, using(crate::proofs::VisitLeads::visit_leads))]
 pub fn visits_lead_on()
     ensures { (s : Scene) (i : SwitchPort) (t : Trail) (p : Packet) → Leads s.now t (visit s i t p) }
@@ -52,7 +52,7 @@ pub fn choices_determine_ends()
         → Travels m traffic es a → Travels m traffic fs b → choices_in es ++ left ≡ choices_in fs ++ more → (es ≡ fs) × (a ≡ b) × (left ≡ more) }
 {}
 
-/// The packets of an event leave each connection list one, with no last use after the clock.
+/// The packets of an event leave each owner's connection list one, with no last use after the clock.
 pub fn journeys_keep_lists()
     ensures { (m : State) (traffic : Traffic) (ends : List End) (after : State)
         → Travels m traffic ends after → AreListsAt m.clock m.lists → AreListsAt after.clock after.lists }
