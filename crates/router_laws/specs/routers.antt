@@ -1,0 +1,4 @@
+-- What the tables of a router's two pipelines do, where the router translates nothing.
+pub mod RouterStanding
+pub mod RouterIngress
+pub mod RouterEgress

@@ -1,0 +1,4 @@
+//! Laws over definitions alone: that walks through the tables of a router's pipelines mean the logical network.
+#![tactic(auto)]
+
+pub mod routers;

@@ -1,0 +1,18 @@
+//! The laws of a router's two pipelines, on a function that does nothing: call it, and its clauses are facts of the call.
+ghost use Rattle.router_laws.specs.routers.RouterEgress.{RouterEgressLaw};
+ghost use Rattle.router_laws.specs.routers.RouterIngress.{RouterIngressLaw};
+ghost use Rattle.router_laws.specs.routers.RouterStanding.{FirstRouterTableLaw};
+
+use row_laws::routers::{router_stages_are_the_way, router_tables_do_so};
+
+/// Whatever walk takes on a copy through the tables of the pipelines of a router that translates nothing does what the network says: the copy
+/// is answered, routed or dropped, and comes to the output as it was at the first table of exit. It stands before the first table of all with the
+/// keys of its router and its port.
+pub fn router_pipelines()
+    ensures first { FirstRouterTableLaw }
+    ensures in_as_told { RouterIngressLaw }
+    ensures out_as_told { RouterEgressLaw }
+{
+    router_tables_do_so();
+    router_stages_are_the_way();
+}
