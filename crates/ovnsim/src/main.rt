@@ -14,9 +14,20 @@ use crate::std_io::{StdSink, StdSource};
 use std::process::ExitCode;
 use std::{env, io};
 
-fn main(rt: HostRuntime) -> io::Result<ExitCode> {
-    let words: Vec<String> = env::args(&rt)?.skip(1).collect(rt.alloc())?;
+// Words of which one isn't UTF-8 are refused as others are.
+fn main(rt: HostRuntime) -> ExitCode {
+    let words = match env::args(&rt) {
+        Ok(args) => args.skip(1).collect(rt.alloc()),
+        Err(fault) if fault.kind() == io::ErrorKind::InvalidData => {
+            return ExitCode::from(top::USAGE);
+        }
+        Err(_) => return ExitCode::from(top::NO_MEMORY),
+    };
+    let words: Vec<String> = match words {
+        Ok(words) => words,
+        Err(_) => return ExitCode::from(top::NO_MEMORY),
+    };
     let mut source = StdSource::new(rt.reader());
     let mut sink = StdSink::new(io::writer(&rt));
-    Ok(ExitCode::from(top::ovnsim(rt.alloc(), &words, &mut source, &mut sink)))
+    ExitCode::from(top::ovnsim(rt.alloc(), &words, &mut source, &mut sink))
 }

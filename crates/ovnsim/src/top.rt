@@ -16,7 +16,7 @@ use std::alloc::Global;
 const ALL_ACCEPTED: u8 = 0;
 
 /// The words are refused.
-const USAGE: u8 = 2;
+pub const USAGE: u8 = 2;
 
 /// An event was refused.
 const SOME_REFUSED: u8 = 3;
@@ -25,7 +25,8 @@ const READ_FAULT: u8 = 4;
 
 const WRITE_FAULT: u8 = 5;
 
-const NO_MEMORY: u8 = 6;
+/// Memory was wanted and not found.
+pub const NO_MEMORY: u8 = 6;
 
 const INPUT_TOO_LONG: u8 = 8;
 
