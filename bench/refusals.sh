@@ -9,7 +9,7 @@
 set -euo pipefail
 source "$(dirname "$0")/loops.sh"
 
-make_program ovn_base inet_packet geneve_frames match_language flow_refs match_cubes conn_table conn_zones tunnel_keys flow_table tuple_space nb_records nb_rules net_model nb_edits physical_flows sim_laws edit_reader switch_engine event_lines chassis_sim world_core serde_json json indexmap hex itoa arrayvec bitflags byteorder thiserror <<'PROGRAM'
+make_program ovn_base inet_packet geneve_frames match_language flow_refs match_cubes conn_table conn_zones tunnel_keys flow_table tuple_space nb_records nb_rules net_model nb_edits physical_flows sim_laws edit_reader switch_engine event_lines chassis_sim world_setup world_core serde_json json indexmap hex itoa arrayvec bitflags byteorder thiserror <<'PROGRAM'
 //! Takes the events of its lines. What is refused for want of memory is done again. At the end it writes the texts of the events, and
 //! then of each chassis how many flows it holds, and a sum over them. Its word is the number of allocations that do nothing.
 #![tactic(auto)]

@@ -53,11 +53,11 @@ use Rattle.tunnel_keys.specs.declared.owner.DatapathKey.{DatapathKey}
 use Rattle.tunnel_keys.specs.declared.owner.KeyOwner.{KeyOwner}
 use Rattle.tunnel_keys.specs.declared.owner.KeyOwner.TheVariants.{Datapath, Port}
 use Rattle.tunnel_keys.specs.declared.owner.PortKey.{PortKey}
-use Rattle.world_core.proofs.RefusedTurns.{edit_faultless}
-use Rattle.world_core.specs.Editing.{next_net, Edits}
-use Rattle.world_core.specs.KeyLines.{added_ports, as_place, datapath_effect, key_effects, port_effect}
-use Rattle.world_core.specs.Refusing.{refusal}
-use Rattle.world_core.specs.Step.{NetworkStep, Does, Moves}
+use Rattle.world_setup.proofs.RefusedTurns.{edit_faultless}
+use Rattle.world_setup.specs.Editing.{next_net, Edits}
+use Rattle.world_setup.specs.KeyLines.{added_ports, as_place, datapath_effect, key_effects, port_effect}
+use Rattle.world_setup.specs.Refusing.{refusal}
+use Rattle.world_setup.specs.Step.{NetworkStep, Does, Moves}
 
 -- ---- what is named
 

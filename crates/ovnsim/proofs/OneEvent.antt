@@ -10,7 +10,7 @@ use Rattle.event_lines.specs.Picks.{picks_of}
 use Rattle.world_core.specs.Outcome.{IsAccepted, IsRefused, matched}
 use Rattle.world_core.specs.WorldView.{WorldView, IsSound}
 use Rattle.net_model.specs.State.{State, event_count}
-use Rattle.world_core.specs.Step.{NetworkStep, Does}
+use Rattle.world_setup.specs.Step.{NetworkStep, Does}
 use Rattle.ovnsim.specs.Runs.{Takes, accepts, refuses}
 use Rattle.ovnsim.specs.Taking.{TakesWith, WasCut}
 use Rattle.ovnsim.specs.declared.run.Stop.{Stop}

@@ -9,11 +9,11 @@ use Rattle.world_core.specs.Outcome.{matched}
 use Rattle.world_core.specs.StepParts.{new_world}
 use Rattle.world_core.specs.Picks.{Fate, Run, was_accepted, was_refused}
 use Rattle.world_core.specs.Picks as network
-use Rattle.world_core.specs.Refusing.{refusal}
+use Rattle.world_setup.specs.Refusing.{refusal}
 use Rattle.world_core.specs.WorldView.{IsSound, WorldView}
 use Rattle.net_model.specs.State.{State, event_count}
-use Rattle.world_core.specs.Step as net
-use Rattle.world_core.specs.Zones.{Rezones}
+use Rattle.world_setup.specs.Step as net
+use Rattle.world_setup.specs.Zones.{Rezones}
 use Rattle.world_core.proofs.EmptyWorld.{new_sound}
 use Rattle.world_core.proofs.OneStep.{step_with}
 use Rattle.world_core.proofs.SameLists.{accepted_alike, matched_is}

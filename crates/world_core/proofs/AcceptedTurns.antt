@@ -14,26 +14,28 @@ use Rattle.switch_engine.specs.declared.effect.NetEffect.{NetEffect}
 use Rattle.switch_engine.specs.declared.walk.Walk.{Walk}
 use Rattle.tuple_space.specs.declared.space.TupleSpace.{TupleSpace}
 use Rattle.tunnel_keys.specs.Keys.{Keys, settled}
-use Rattle.world_core.specs.EventKinds.{event_of_turn}
-use Rattle.world_core.specs.Ground.{GroundView, changed, ground_of}
+use Rattle.world_setup.specs.TurnEvents.{event_of_turn}
+use Rattle.world_setup.specs.Ground.{GroundView, changed, ground_of}
 use Rattle.world_core.specs.Inside.{seen_of}
 use Rattle.world_core.specs.Outcome.{IsAccepted}
-use Rattle.world_core.specs.Setup.{IsTurnOfTables, SetupView}
-use Rattle.world_core.specs.Turning.{IsTurn, IsTurned}
+use Rattle.world_setup.specs.Setup.{IsTurnOfTables, SetupView}
+use Rattle.world_setup.specs.Turning.{IsTurn, IsTurned}
 use Rattle.world_core.specs.Waiting.{crossing_of, crossings_of, frame_under}
-use Rattle.world_core.specs.declared.event_kinds.TurnEvent.{TurnEvent}
-use Rattle.world_core.specs.declared.setup.Turn.{Turn}
+use Rattle.world_setup.specs.declared.turn_event.TurnEvent.{TurnEvent}
+use Rattle.world_setup.specs.declared.setup.Turn.{Turn}
 use Rattle.world_core.specs.declared.world.World.TheInside.{Inside}
-use Rattle.world_core.proofs.HeldFlows.{flows_of}
+use Rattle.world_setup.proofs.HeldFlows.{flows_of}
 use Rattle.address_sets.specs.Members.{sets_of}
 use Rattle.conn_zones.specs.Zoning.{Zoned}
 use Rattle.sim_laws.proofs.journey_laws.Finishing.{begins}
 use Rattle.sim_laws.proofs.journey_laws.ListsSeen.{lists_are_seen}
 use Rattle.sim_laws.specs.journeys.SeenLists.{lists_seen}
 use Rattle.sim_laws.specs.journeys.TurnedZones.{turned_with}
-use Rattle.world_core.specs.WorldView.{AreHeld, IsConsistent, IsSound, WorldView}
+use Rattle.world_setup.specs.Consistent.{IsConsistent}
+use Rattle.world_core.specs.WorldView.{AreHeld, IsSound, WorldView}
 use Rattle.world_core.proofs.DecidedFlows.{IsExactFlow}
-use Rattle.world_core.proofs.TurnEvents.{given_up, kept_on, no_walks, same_settled}
+use Rattle.world_setup.proofs.TurnEvents.{given_up, kept_on, same_settled}
+use Rattle.world_core.proofs.EventKinds.{no_walks}
 use Rattle.world_core.proofs.TurnedLists.{relisted}
 use Rattle.world_core.proofs.Turned.{are_deltas, are_proper, held_then, tables_once}
 

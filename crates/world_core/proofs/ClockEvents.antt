@@ -22,8 +22,9 @@ use Rattle.switch_engine.specs.Zones.{ZoneLists, all_expired, zone_at}
 use Rattle.world_core.proofs.PacketEvents.{counted_world}
 use Rattle.world_core.specs.Outcome.{IsAccepted}
 use Rattle.world_core.specs.StepParts.{clocked_world}
-use Rattle.world_core.specs.WorldView.{AreHeld, IsConsistent, IsSound, WorldView}
-use Rattle.world_core.specs.Zones.{Relists, list_on}
+use Rattle.world_setup.specs.Consistent.{IsConsistent}
+use Rattle.world_core.specs.WorldView.{AreHeld, IsSound, WorldView}
+use Rattle.world_setup.specs.Zones.{Relists, list_on}
 
 module _ (m : State) (zones : Zoned) (s : sim.SimState) (seconds : ℕ) (consistent : IsConsistent m zones) (held : AreHeld m zones s) where
   abbrev now : ℕ

@@ -21,7 +21,7 @@ use Rattle.physical_flows.specs.UnitFlows.{same_flow}
 use Rattle.physical_flows.specs.Units.{HasRow, all_units}
 use Rattle.stage_rows.specs.Rows.{on_some}
 use Rattle.stage_rows.specs.Units.{datapath_of, rows_of, units_of}
-use Rattle.world_core.specs.Setup.{IsFlowBy}
+use Rattle.world_setup.specs.Setup.{IsFlowBy}
 
 -- equal flows are the same
 abbrev pub IsExactFlow : Type 0

@@ -10,8 +10,8 @@ use Rattle.sim_laws.proofs.journey_laws.First.{first as nothing_first}
 use Rattle.sim_laws.specs.journeys.First.{nobody_home}
 use Rattle.sim_laws.specs.journeys.SeenLists.{lists_seen}
 use Rattle.switch_engine.specs.declared.walk.Walk.{Walk}
-use Rattle.world_core.specs.Built.{IsBuilt}
-use Rattle.world_core.specs.Ground.{GroundView, ground_of}
+use Rattle.world_setup.specs.Built.{IsBuilt}
+use Rattle.world_setup.specs.Ground.{GroundView, ground_of}
 use Rattle.world_core.specs.StepParts.{new_world}
 use Rattle.world_core.specs.Waiting.{crossings_of}
 use Rattle.world_core.specs.WorldView.{IsSound}

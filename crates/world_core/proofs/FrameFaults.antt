@@ -18,7 +18,7 @@ use Rattle.inet_packet.specs.declared.packet.Packet.{Packet}
 use Rattle.inet_packet.proofs.DecodeLaws.{IsBytes, IsHead, is_bad, not_bad, type_at}
 use Rattle.inet_packet.proofs.Ip4.{whole_is_ip4}
 use Rattle.world_core.specs.FrameReading.{IsGood, IsOfLength, IsOfPacket}
-use Rattle.world_core.specs.Frames.{is_arp_bytes, is_bad_ip4, is_ip4_bytes, is_too_big, is_too_short}
+use Rattle.world_setup.specs.Frames.{is_arp_bytes, is_bad_ip4, is_ip4_bytes, is_too_big, is_too_short}
 use Rattle.world_core.proofs.HeaderParts.{AtLeast, HasNumber, ip4_body, one, one_of, two_of}
 
 -- ---- the bytes behind the type

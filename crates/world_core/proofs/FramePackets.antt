@@ -15,7 +15,7 @@ use Rattle.inet_packet.specs.declared.packet.Packet.{Packet}
 use Rattle.inet_packet.specs.declared.packet.Part.{Part}
 use Rattle.inet_packet.specs.declared.packet.Part.TheVariants.{Tcp, Udp, Icmp, OtherIp, Fragment}
 use Rattle.world_core.specs.FramePackets.{arp_in, body_in, icmp_in, ip4_in, packet_in, part_in, tcp_in, two_at, udp_in, options_len}
-use Rattle.world_core.specs.Frames.{is_arp_bytes}
+use Rattle.world_setup.specs.Frames.{is_arp_bytes}
 use Rattle.world_core.proofs.FrameFaults.{arp_tests}
 
 -- ---- numbers

@@ -11,8 +11,8 @@ use Rattle.net_model.specs.ListsAt.{AreListsAt}
 use Rattle.net_model.specs.State.{State}
 use Rattle.net_model.specs.Transition.{Turn, turned_by, edit, bind, unbind, add_chassis, remove_chassis, mark_backend}
 use Rattle.switch_engine.specs.declared.effect.NetEffect.{NetEffect}
-use Rattle.world_core.specs.Editing.{next_net}
-use Rattle.world_core.specs.Step.{Does, Moves, Sends}
+use Rattle.world_setup.specs.Editing.{next_net}
+use Rattle.world_setup.specs.Step.{Does, Moves, Sends}
 
 -- in this state they are
 abbrev Lists : State → Type 0

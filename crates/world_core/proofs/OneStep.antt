@@ -34,12 +34,12 @@ use Rattle.ovn_base.proofs.SameEntries.{same_found}
 use Rattle.tunnel_keys.proofs.OwnerLaws.{datapaths_have, ports_have}
 use Rattle.net_model.specs.Owners.{owners_only_in}
 use Rattle.tunnel_keys.specs.declared.owner.KeyOwner.TheVariants.{Port}
-use Rattle.world_core.specs.Editing.{edited, next_net}
-use Rattle.world_core.specs.KeyLines.{added_ports, as_place, datapath_effect, key_effects, port_effect}
+use Rattle.world_setup.specs.Editing.{edited, next_net}
+use Rattle.world_setup.specs.KeyLines.{added_ports, as_place, datapath_effect, key_effects, port_effect}
 use Rattle.physical_flows.specs.Numbers.{datapath_number, port_number}
 use Rattle.world_core.specs.Picks.{Fate, was_refused, was_accepted, Happens, Run}
 use Rattle.net_model.specs.State.{State, finished}
-use Rattle.world_core.specs.Step.{NetworkStep, Does, Moves, Sends}
+use Rattle.world_setup.specs.Step.{NetworkStep, Does, Moves, Sends}
 
 -- the same effects, the same state, and the same picks left
 pub record Same (effects others : List NetEffect) (after later : State) (left more : List Pick) : Type 0 where

@@ -27,18 +27,18 @@ use Rattle.switch_engine.specs.Outcome.{any_legal}
 use Rattle.switch_engine.specs.Zones.{ZoneLists, zone_at}
 use Rattle.switch_engine.specs.declared.effect.NetEffect.{NetEffect}
 use Rattle.switch_engine.specs.declared.walk.Walk.{Walk}
-use Rattle.world_core.proofs.FreedKeys.{clock_still}
+use Rattle.world_setup.proofs.FreedKeys.{clock_still}
 use Rattle.world_core.proofs.KeptLists.{does_keep}
 use Rattle.world_core.proofs.Refusal.{taken_of}
-use Rattle.world_core.specs.Built.{IsBuilt}
+use Rattle.world_setup.specs.Built.{IsBuilt}
 use Rattle.world_core.specs.EventPasses.{Passes}
 use Rattle.world_core.specs.Outcome.{IsAccepted, matched, moves_packets}
 use Rattle.world_core.specs.Packets.{AreGone, HasArrived, HasEntered, IsPacketOf, most_sent, state_with}
-use Rattle.world_core.specs.Refusing.{no_frame}
-use Rattle.world_core.specs.Step.{Does, Moves}
+use Rattle.world_setup.specs.Refusing.{no_frame}
+use Rattle.world_setup.specs.Step.{Does, Moves}
 use Rattle.world_core.specs.StepParts.{IsDone, IsTaken}
 use Rattle.world_core.specs.WorldView.{AreHeld, IsSound, WorldView}
-use Rattle.world_core.specs.Zones.{Relists, Rezones}
+use Rattle.world_setup.specs.Zones.{Relists, Rezones}
 
 -- ---- the event is done
 

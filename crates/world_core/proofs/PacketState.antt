@@ -29,7 +29,7 @@ use Rattle.sim_laws.specs.journeys.SeenLists.{lists_seen}
 use Rattle.sim_laws.specs.journeys.UnderWay.{IsUnderWay}
 use Rattle.switch_engine.specs.Outcome.{any_legal}
 use Rattle.switch_engine.specs.declared.effect.NetEffect.{NetEffect}
-use Rattle.world_core.specs.Built.{IsBuilt}
+use Rattle.world_setup.specs.Built.{IsBuilt}
 use Rattle.world_core.specs.Packets.{CanBeKept, HasArrived, HasEntered, HasPassed, most_sent, state_with}
 use Rattle.world_core.specs.Waiting.{crossings_of}
 use Rattle.world_core.specs.WorldView.{AreHeld, WorldView}

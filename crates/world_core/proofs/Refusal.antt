@@ -9,7 +9,8 @@ use Rattle.event_lines.specs.Text.{StartsWith}
 use Rattle.tunnel_keys.proofs.Births.{born_later}
 use Rattle.world_core.specs.Outcome.{IsAccepted, IsRefused}
 use Rattle.world_core.specs.StepParts.{IsTaken}
-use Rattle.world_core.specs.WorldView.{AreHeld, IsConsistent, IsSound, WorldView}
+use Rattle.world_setup.specs.Consistent.{IsConsistent}
+use Rattle.world_core.specs.WorldView.{AreHeld, IsSound, WorldView}
 use Rattle.sim_laws.specs.journeys.AtRest.{IsAtRest}
 use Rattle.sim_laws.specs.Sound.{MayWait}
 use Rattle.net_model.specs.State.{State, event_count}

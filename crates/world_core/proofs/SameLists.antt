@@ -32,7 +32,7 @@ use Rattle.world_core.proofs.PacketState.{virtual_ports}
 use Rattle.world_core.specs.EventPasses.{Passes}
 use Rattle.world_core.specs.Outcome.{IsAccepted, matched, moves_packets}
 use Rattle.world_core.specs.WorldView.{AreHeld, IsSound, WorldView}
-use Rattle.world_core.specs.Zones.{Relists, emptied_by, left_by, list_on}
+use Rattle.world_setup.specs.Zones.{Relists, emptied_by, left_by, list_on}
 
 -- ---- how many flows were matched
 

@@ -5,7 +5,7 @@ use Rattle.conn_zones.specs.Zoning.{Zoned}
 use Rattle.conn_zones.proofs.OneResult.{one_result}
 use Rattle.edit_reader.specs.declared.event.Event.{Event}
 use Rattle.edit_reader.specs.declared.event.Event.TheVariants.{Edit, Bind, Unbind, AddChassis, RemoveChassis, Keys, Health, Clock, Inject, Deliver, Lose, Repeat, Drain, Packet, Unread}
-use Rattle.world_core.specs.Zones.{home_change, leaving, Rezones, unbinding}
+use Rattle.world_setup.specs.Zones.{home_change, leaving, Rezones, unbinding}
 
 pub same_zones : (event : Event) (before one other : Zoned) → Rezones event before one → Rezones event before other → one ≡ other
 same_zones (Edit ops) before one other h k = h ∙ sym k

@@ -40,14 +40,15 @@ use Rattle.switch_engine.specs.declared.effect.NetEffect.{NetEffect}
 use Rattle.tunnel_keys.specs.Keys.{Keys}
 use Rattle.tuple_space.specs.declared.space.TupleSpace.{TupleSpace}
 use Rattle.world_core.proofs.DecidedFlows.{IsExactFlow, decided_flow}
-use Rattle.world_core.proofs.HeldFlows.{flows_of}
-use Rattle.world_core.proofs.Names.{names_once}
-use Rattle.world_core.proofs.TurnEvents.{same_settled}
-use Rattle.world_core.specs.Ground.{GroundView, basis_in, ground_of}
-use Rattle.world_core.specs.Built.{IsBuilt}
-use Rattle.world_core.specs.Setup.{IsFlowOn, IsTurnOfTables, lowering_in}
-use Rattle.world_core.specs.Turning.{IsTurned}
-use Rattle.world_core.specs.WorldView.{AreHeld, IsConsistent}
+use Rattle.world_setup.proofs.HeldFlows.{flows_of}
+use Rattle.world_setup.proofs.Names.{names_once}
+use Rattle.world_setup.proofs.TurnEvents.{same_settled}
+use Rattle.world_setup.specs.Ground.{GroundView, basis_in, ground_of}
+use Rattle.world_setup.specs.Built.{IsBuilt}
+use Rattle.world_setup.specs.Setup.{IsFlowOn, IsTurnOfTables, lowering_in}
+use Rattle.world_setup.specs.Turning.{IsTurned}
+use Rattle.world_setup.specs.Consistent.{IsConsistent}
+use Rattle.world_core.specs.WorldView.{AreHeld}
 
 -- what comes and goes is the difference, where it can be told which flows there are then
 difference_of : (Before After : Flow → Type 0) (delta : Delta Flow) → ((f : Flow) → After f ⊎ (¬ After f)) → IsChange Before After delta → of_sim.IsFlowChange Before After delta

@@ -18,14 +18,14 @@ use Rattle.ovn_base.specs.names.SameName.{same_name}
 use Rattle.sim_laws.proofs.turn_laws.SetEntries.{among_or_not, none_comes, one_comes}
 use Rattle.switch_engine.specs.Zones.{ZoneLists, zone_at}
 use Rattle.tuple_space.specs.declared.space.TupleSpace.{TupleSpace}
-use Rattle.world_core.proofs.HeldFlows.{flows_of}
-use Rattle.world_core.specs.EventKinds.{event_of_turn}
-use Rattle.world_core.specs.Ground.{GroundView, ground_of}
-use Rattle.world_core.specs.Setup.{IsTurnOfTables}
+use Rattle.world_setup.proofs.HeldFlows.{flows_of}
+use Rattle.world_setup.specs.TurnEvents.{event_of_turn}
+use Rattle.world_setup.specs.Ground.{GroundView, ground_of}
+use Rattle.world_setup.specs.Setup.{IsTurnOfTables}
 use Rattle.world_core.specs.WorldView.{AreHeld}
-use Rattle.world_core.specs.Zones.{Relists, emptied_by, left_by, list_on}
-use Rattle.world_core.specs.declared.event_kinds.TurnEvent.{TurnEvent}
-use Rattle.world_core.specs.declared.event_kinds.TurnEvent.TheVariants as turn_event
+use Rattle.world_setup.specs.Zones.{Relists, emptied_by, left_by, list_on}
+use Rattle.world_setup.specs.declared.turn_event.TurnEvent.{TurnEvent}
+use Rattle.world_setup.specs.declared.turn_event.TurnEvent.TheVariants as turn_event
 
 -- the list of a zone, where there are zones
 abbrev list_among : ℕ → Option ZoneLists → Option ConnectionList

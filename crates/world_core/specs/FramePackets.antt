@@ -11,7 +11,7 @@ use Rattle.inet_packet.specs.declared.packet.Ip4Packet.{Ip4Packet}
 use Rattle.inet_packet.specs.declared.packet.Packet.{Packet}
 use Rattle.inet_packet.specs.declared.packet.Part.{Part}
 use Rattle.inet_packet.specs.declared.packet.Part.TheVariants.{Tcp, Udp, Icmp, OtherIp, Fragment}
-use Rattle.world_core.specs.Frames.{is_arp_bytes}
+use Rattle.world_setup.specs.Frames.{is_arp_bytes}
 
 -- the number in two bytes at a place, the highest first, and that in four
 abbrev pub two_at : ℕ → List ℕ → ℕ

@@ -5,7 +5,7 @@ use Rattle.inet_packet.specs.Whole.{IsWhole}
 use Rattle.inet_packet.specs.declared.packet.Packet.{Packet}
 use Rattle.world_core.specs.declared.frames.Entering.{Entering}
 use Rattle.world_core.specs.declared.frames.Entering.TheVariants.{Whole, Short, Big, BadIp4}
-use Rattle.world_core.specs.Frames.{is_bad_ip4, is_too_big, is_too_short}
+use Rattle.world_setup.specs.Frames.{is_bad_ip4, is_too_big, is_too_short}
 
 -- neither too short nor too big
 pub record IsOfLength (frame : List ℕ) : Type 0 where

@@ -10,11 +10,11 @@ use Rattle.event_lines.specs.declared.refusal.StepFault.TheVariants.{Refused, Me
 use Rattle.switch_engine.specs.declared.effect.NetEffect.{NetEffect}
 use Rattle.switch_engine.specs.declared.walk.Walk.{Walk}
 use Rattle.world_core.specs.EventPasses.{Passes}
-use Rattle.world_core.specs.Refusing.{refusal}
+use Rattle.world_setup.specs.Refusing.{refusal}
 use Rattle.world_core.specs.WorldView.{WorldView, IsSound}
 use Rattle.net_model.specs.State.{event_count}
-use Rattle.world_core.specs.Step as net
-use Rattle.world_core.specs.Zones.{Relists, Rezones}
+use Rattle.world_setup.specs.Step as net
+use Rattle.world_setup.specs.Zones.{Relists, Rezones}
 
 -- how many flows were matched in all
 abbrev pub matched : List Walk → ℕ

@@ -4,9 +4,9 @@ use Rattle.edit_reader.specs.declared.event.Event.{Event}
 use Rattle.event_lines.specs.declared.refusal.Refusal.{Refusal}
 use Rattle.event_lines.specs.Picks.{Pick, picks_of}
 use Rattle.switch_engine.specs.declared.effect.NetEffect.{NetEffect}
-use Rattle.world_core.specs.Refusing.{refusal}
+use Rattle.world_setup.specs.Refusing.{refusal}
 use Rattle.net_model.specs.State.{State}
-use Rattle.world_core.specs.Step.{NetworkStep}
+use Rattle.world_setup.specs.Step.{NetworkStep}
 
 -- what became of an event
 pub data Fate : Type 0 where

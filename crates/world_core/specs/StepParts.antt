@@ -9,12 +9,13 @@ use Rattle.switch_engine.specs.declared.effect.NetEffect.{NetEffect}
 use Rattle.switch_engine.specs.declared.walk.Walk.{Walk}
 use Rattle.world_core.specs.Outcome.{matched, moves_packets, IsAccepted, IsRefused}
 use Rattle.world_core.specs.EventPasses.{Passes}
-use Rattle.world_core.specs.WorldView.{WorldView, IsConsistent, AreHeld}
+use Rattle.world_setup.specs.Consistent.{IsConsistent}
+use Rattle.world_core.specs.WorldView.{WorldView, AreHeld}
 use Rattle.net_model.specs.State.{clocked, empty}
-use Rattle.world_core.specs.Refusing.{refusal}
-use Rattle.world_core.specs.Step as net
+use Rattle.world_setup.specs.Refusing.{refusal}
+use Rattle.world_setup.specs.Step as net
 use Rattle.world_core.specs.declared.world.Done.{Done}
-use Rattle.world_core.specs.Zones.{Relists, Rezones}
+use Rattle.world_setup.specs.Zones.{Relists, Rezones}
 use Rattle.sim_laws.specs.journeys.First.{nobody_home}
 use Rattle.sim_laws.specs.journeys.Ticking.{all_zones_expired}
 

@@ -5,7 +5,7 @@ ghost use Rattle.event_lines.specs.Picks.{Pick, picks_of};
 ghost use Rattle.switch_engine.specs.declared.effect.NetEffect.{NetEffect};
 ghost use Rattle.world_core.specs.Picks.{Fate, Run};
 ghost use Rattle.net_model.specs.State.{State};
-ghost use Rattle.world_core.specs.Step.{NetworkStep};
+ghost use Rattle.world_setup.specs.Step.{NetworkStep};
 
 /// An event and what was picked for it, keys and backends and source ports, determine its effects and the state after it. So
 /// events and picks determine a run: which events are refused and why, the effects of the others, and the states.

@@ -9,18 +9,17 @@ ghost use Rattle.event_lines.specs.Text.{StartsWith};
 ghost use Rattle.edit_reader.specs.Fitting.{IsEventInGrammar};
 ghost use Rattle.edit_reader.specs.declared.event.Event.{Event};
 ghost use Rattle.edit_reader.specs.declared.event.Event.TheVariants as event_of;
-ghost use Rattle.world_core.specs.EventKinds.{event_of_packets, event_of_turn};
+ghost use Rattle.world_setup.specs.TurnEvents.{event_of_turn};
+ghost use Rattle.world_core.specs.PacketEvents.{event_of_packets};
 ghost use Rattle.world_core.specs.Outcome.{IsAccepted, moves_packets, Outcome};
 ghost use Rattle.world_core.specs.StepParts.{IsTaken, Leaves, clocked_world, new_world};
-ghost use Rattle.world_core.specs.Refusing.{refusal};
-ghost use Rattle.world_core.specs.Turning.{Tells};
+ghost use Rattle.world_setup.specs.Refusing.{refusal};
+ghost use Rattle.world_setup.specs.Turning.{Tells};
 ghost use Rattle.world_core.specs.WorldView.{IsSound};
 ghost use Rattle.net_model.specs.State.{event_count, finished};
 
 use crate::crossing_names::CrossingNames;
-use crate::event_kinds::{PacketEvent, TurnEvent};
-use crate::held::Held;
-use crate::setup::Setup;
+use crate::packet_event::PacketEvent;
 use crate::world::texts::{write_accepted, write_refused};
 use chassis_sim::sim::Sim;
 use edit_reader::event::Event;
@@ -36,6 +35,9 @@ use std::collections::BTreeMap;
 use std::marker::Model;
 use switch_engine::effect::NetEffect;
 use switch_engine::walk::Walk;
+use world_setup::held::Held;
+use world_setup::setup::Setup;
+use world_setup::turn_event::TurnEvent;
 
 mod packets;
 mod steps;
@@ -124,7 +126,7 @@ impl World {
     pub fn chassis(&self, index: usize) -> Option<&Name>
         ensures { option_copied result ≡ slice_get self.now.state.config.chassis index }
     {
-        self.setup.ground().chassis.as_slice().get(index)
+        self.setup.chassis().as_slice().get(index)
     }
 
     /// Each flow that the chassis holds at exactly one index below their number; `None` past the last, and where no such

@@ -10,7 +10,7 @@ ghost use Rattle.inet_packet.specs.Whole.{IsWhole};
 ghost use Rattle.sim_laws.specs.Passing.{most_arrivals};
 ghost use Rattle.sim_laws.specs.journeys.Refining.{without_crossing};
 ghost use Rattle.sim_laws.specs.journeys.UnderWay.{IsUnderWay};
-ghost use Rattle.world_core.specs.Built.{IsBuilt};
+ghost use Rattle.world_setup.specs.Built.{IsBuilt};
 ghost use Rattle.world_core.specs.WorldView.{AreHeld};
 ghost use Rattle.sim_laws.specs.Sound.{AreCrossings};
 ghost use Rattle.net_model.specs.State.{event_count};
@@ -58,7 +58,7 @@ impl World {
         if key == UNKNOWN_KEY {
             return Some(Aim::ToGroup(Group::Unknown));
         }
-        let Some(ports) = self.setup.ground().keys.ports(switch) else {
+        let Some(ports) = self.setup.keys().ports(switch) else {
             return None;
         };
         let Some(name) = port_of_key(ports.list.as_slice(), key) else {

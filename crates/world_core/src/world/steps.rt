@@ -1,16 +1,17 @@
 //! The steps of a world that move packets, one for each kind of event.
-ghost use Rattle.std.specs.Prelude.{cond, ◌≡◌, ◌<◌, ◌^◌, None, IfErr, IfOk};
+ghost use Rattle.std.specs.Prelude.{cond, is_none, ◌≡◌, ◌<◌, ◌^◌, None, IfErr, IfOk};
 ghost use Rattle.edit_reader.specs.declared.event.Event.TheVariants as event_of;
-ghost use Rattle.world_core.specs.EventKinds.{event_of_packets};
+ghost use Rattle.world_core.specs.PacketEvents.{event_of_packets};
 ghost use Rattle.world_core.specs.Packets.{IsPacketOf};
 ghost use Rattle.world_core.specs.StepParts.{IsTaken, IsTried, IsDone};
 ghost use Rattle.world_core.specs.Outcome.{matched};
-ghost use Rattle.world_core.specs.Turning.{Tells};
-ghost use Rattle.world_core.specs.Refusing.{cause_of_entry, no_frame, too_many_wait};
+ghost use Rattle.world_setup.specs.Turning.{Tells};
+ghost use Rattle.world_setup.specs.Refusing.{cause_of_entry, is_virtual_port, no_frame, too_many_wait};
 ghost use Rattle.net_model.specs.State.{event_count};
+ghost use Rattle.ovn_base.specs.names.ByName.{at};
 
-use crate::event_kinds::PacketEvent;
 use crate::frames::{Entering, read_entering};
+use crate::packet_event::PacketEvent;
 use crate::world::{Done, World};
 use chassis_sim::out::SimOut;
 use event_lines::refusal::{Refusal, StepFault};
@@ -70,16 +71,30 @@ impl World {
         None
     }
 
+    // Whether a virtual port of the name is there.
+    fn is_virtual_port(&self, port: &Name) -> bool
+        ensures { result ≡ is_virtual_port (at self.now.state.config.net.switch_ports port.now) }
+    {
+        self.setup.is_virtual_port(port)
+    }
+
+    // Whether the port of the name is bound to no chassis.
+    fn is_unbound(&self, port: &Name) -> bool
+        ensures { result ≡ is_none (at self.now.state.config.bindings port.now) }
+    {
+        self.setup.is_unbound(port)
+    }
+
     // The packet of the frame, which may enter at the port, or why it may not.
     fn packet_for(&self, alloc: Global, port: &Name, frame: &[u8]) -> Result<Packet, StepFault>
         ensures allowed { IfOk result (λ packet. cause_of_entry self.now.state port.now frame.now ≡ None) }
         ensures packet { IfOk result (λ packet. IsPacketOf packet frame.now) }
         ensures refused { IfErr result (λ fault. Tells fault (cause_of_entry self.now.state port.now frame.now)) }
     {
-        if !self.setup.ground().is_virtual_port(port) {
+        if !self.is_virtual_port(port) {
             return Err(StepFault::Refused(Refusal::NoSuch(*port)));
         }
-        if self.setup.ground().zones.homes().port(port).is_none() {
+        if self.is_unbound(port) {
             return Err(StepFault::Refused(Refusal::NotBound(*port)));
         }
         let packet = match read_entering(alloc, frame)? {

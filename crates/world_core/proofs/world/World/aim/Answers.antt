@@ -9,7 +9,7 @@ use Rattle.ovn_base.specs.declared.ports.Ports.{Ports}
 use Rattle.nb_records.specs.Network.{Network}
 use Rattle.nb_records.specs.declared.switch.SwitchPort.{SwitchPort}
 use Rattle.net_model.specs.declared.crossing.Aim.TheVariants.{ToPort}
-use Rattle.world_core.specs.Ground.{GroundView}
+use Rattle.tunnel_keys.specs.Keys.{Keys}
 use Rattle.world_core.proofs.Aims.{aims_flood, aims_unknown, aims_port, port_found, ports_are, ports_of}
 use Rattle.world_core.proofs.world.World.aim.Goals as goal
 
@@ -24,14 +24,14 @@ returns-in_default c = λ aim n.
     let m = (seen_of c.self.inside).state in
     let have : HaveKeys m.config.net m.keys = subst (λ (v : WorldView). HaveKeys v.state.config.net v.state.keys) (sym c.self.view_is) c.requires.keys in
     let p = aims_port m have c.args.switch.now c.args.key c.if-key-eq-FLOOD_KEY.false c.if-key-eq-UNKNOWN_KEY.false aim (subst (λ (v : WorldView). IsNumberOf v.state c.args.switch.now c.args.key aim) (sym c.self.view_is) n) in
-    absurd (none-some _ (ports_are m have c.args.switch.now p.id.name c.args.key p.has None (c.in_default.ensures ∙ ap (λ (g : GroundView). ports_of g.keys c.args.switch.now) (c.behind-self.view_is ∙ c.ground.ensures))))
+    absurd (none-some _ (ports_are m have c.args.switch.now p.id.name c.args.key p.has None (c.in_default.ensures ∙ ap (λ (k : Keys). ports_of k c.args.switch.now) c.keys.ensures)))
 
 pub returns-in_default-port_of_key : goal.returns-in_default-port_of_key
 returns-in_default-port_of_key c = λ aim n.
     let m = (seen_of c.self.inside).state in
     let have : HaveKeys m.config.net m.keys = subst (λ (v : WorldView). HaveKeys v.state.config.net v.state.keys) (sym c.self.view_is) c.requires.keys in
     let p = aims_port m have c.args.switch.now c.args.key c.if-key-eq-FLOOD_KEY.false c.if-key-eq-UNKNOWN_KEY.false aim (subst (λ (v : WorldView). IsNumberOf v.state c.args.switch.now c.args.key aim) (sym c.self.view_is) n) in
-    let listed = same_Some _ _ (ports_are m have c.args.switch.now p.id.name c.args.key p.has (Some c.in-Some.ports.now) (c.in-Some.ensures ∙ ap (λ (g : GroundView). ports_of g.keys c.args.switch.now) (c.behind-self.view_is ∙ c.ground.ensures))) in
+    let listed = same_Some _ _ (ports_are m have c.args.switch.now p.id.name c.args.key p.has (Some c.in-Some.ports.now) (c.in-Some.ensures ∙ ap (λ (k : Keys). ports_of k c.args.switch.now) c.keys.ensures)) in
     let found = ap (λ l. port_of_key l c.args.key) (c.as_slice.ensures ∙ ap (λ (x : Ports). x.list) listed) ∙ port_found m have c.args.switch.now p.id.name c.args.key p.has in
     absurd (none-some _ (c.in_default-port_of_key.ensures ∙ found))
 
@@ -40,7 +40,7 @@ returns-in_default-switch_port c = λ aim n.
     let m = (seen_of c.self.inside).state in
     let have : HaveKeys m.config.net m.keys = subst (λ (v : WorldView). HaveKeys v.state.config.net v.state.keys) (sym c.self.view_is) c.requires.keys in
     let p = aims_port m have c.args.switch.now c.args.key c.if-key-eq-FLOOD_KEY.false c.if-key-eq-UNKNOWN_KEY.false aim (subst (λ (v : WorldView). IsNumberOf v.state c.args.switch.now c.args.key aim) (sym c.self.view_is) n) in
-    let listed = same_Some _ _ (ports_are m have c.args.switch.now p.id.name c.args.key p.has (Some c.in-Some.ports.now) (c.in-Some.ensures ∙ ap (λ (g : GroundView). ports_of g.keys c.args.switch.now) (c.behind-self.view_is ∙ c.ground.ensures))) in
+    let listed = same_Some _ _ (ports_are m have c.args.switch.now p.id.name c.args.key p.has (Some c.in-Some.ports.now) (c.in-Some.ensures ∙ ap (λ (k : Keys). ports_of k c.args.switch.now) c.keys.ensures)) in
     let found = ap (λ l. port_of_key l c.args.key) (c.as_slice.ensures ∙ ap (λ (x : Ports). x.list) listed) ∙ port_found m have c.args.switch.now p.id.name c.args.key p.has in
     let name = same_Some _ _ (c.in-Some-port_of_key.ensures ∙ found) in
     absurd (none-some _ (c.in_default-switch_port.ensures ∙ ap (λ (n : Network). at n.switch_ports c.in-Some-port_of_key.name) c.records.ensures ∙ ap (λ q. at m.config.net.switch_ports q) name ∙ p.there'))
@@ -50,7 +50,7 @@ returns c = λ aim n.
     let m = (seen_of c.self.inside).state in
     let have : HaveKeys m.config.net m.keys = subst (λ (v : WorldView). HaveKeys v.state.config.net v.state.keys) (sym c.self.view_is) c.requires.keys in
     let p = aims_port m have c.args.switch.now c.args.key c.if-key-eq-FLOOD_KEY.false c.if-key-eq-UNKNOWN_KEY.false aim (subst (λ (v : WorldView). IsNumberOf v.state c.args.switch.now c.args.key aim) (sym c.self.view_is) n) in
-    let listed = same_Some _ _ (ports_are m have c.args.switch.now p.id.name c.args.key p.has (Some c.in-Some.ports.now) (c.in-Some.ensures ∙ ap (λ (g : GroundView). ports_of g.keys c.args.switch.now) (c.behind-self.view_is ∙ c.ground.ensures))) in
+    let listed = same_Some _ _ (ports_are m have c.args.switch.now p.id.name c.args.key p.has (Some c.in-Some.ports.now) (c.in-Some.ensures ∙ ap (λ (k : Keys). ports_of k c.args.switch.now) c.keys.ensures)) in
     let found = ap (λ l. port_of_key l c.args.key) (c.as_slice.ensures ∙ ap (λ (x : Ports). x.list) listed) ∙ port_found m have c.args.switch.now p.id.name c.args.key p.has in
     let name : c.in-Some-port_of_key.name ≡ p.id.name = same_Some _ _ (c.in-Some-port_of_key.ensures ∙ found) in
     let port = same_Some _ _ (c.in-Some-switch_port.ensures ∙ ap (λ (n : Network). at n.switch_ports c.in-Some-port_of_key.name) c.records.ensures ∙ ap (λ q. at m.config.net.switch_ports q) name ∙ p.there') in

@@ -8,7 +8,7 @@ use Rattle.sim_laws.specs.journeys.Refining.{waiting_on}
 use Rattle.sim_laws.specs.journeys.UnderWay.{IsUnderWay}
 use Rattle.world_core.proofs.PacketState.{arrived_passed, arrived_seen, world_with}
 use Rattle.world_core.proofs.WaitingNames.{all_names, names_back, removed_names}
-use Rattle.world_core.specs.Built.{IsBuilt}
+use Rattle.world_setup.specs.Built.{IsBuilt}
 use Rattle.world_core.specs.Inside.{seen_of}
 use Rattle.world_core.specs.Packets.{HasArrived, most_sent}
 use Rattle.world_core.specs.Waiting.{crossings_of}

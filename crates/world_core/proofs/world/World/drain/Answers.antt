@@ -1,7 +1,7 @@
 use Rattle.std.proofs.Common.{◌≡◌, ◌-◌, [], ◌∷◌, sym, ap, ◌∙◌, subst, inl, inr, arith, false}
 use Rattle.std.proofs.lemmas.Bool.{false≢true}
 use Rattle.net_model.specs.State.{State}
-use Rattle.world_core.specs.Built.{IsBuilt}
+use Rattle.world_setup.specs.Built.{IsBuilt}
 use Rattle.world_core.specs.Packets.{HasArrived}
 use Rattle.world_core.specs.Waiting.{crossing_of, crossings_of, frame_under}
 use Rattle.world_core.specs.WorldView.{WorldView}

@@ -15,7 +15,7 @@ use Rattle.sim_laws.specs.journeys.UnderWay.{IsUnderWay}
 use Rattle.switch_engine.specs.declared.effect.NetEffect.{NetEffect}
 use Rattle.world_core.proofs.PacketState.{GoesOn, behind_with, goes_on, world_with}
 use Rattle.world_core.proofs.WaitingNames.{names_back, others_wait, seen_front}
-use Rattle.world_core.specs.Built.{IsBuilt}
+use Rattle.world_setup.specs.Built.{IsBuilt}
 use Rattle.world_core.specs.Inside.{seen_of}
 use Rattle.world_core.specs.Packets.{CanBeKept, HasEntered}
 use Rattle.world_core.specs.WorldView.{AreHeld, WorldView}

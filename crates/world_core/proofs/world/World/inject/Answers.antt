@@ -1,6 +1,6 @@
 use Rattle.std.proofs.Common.{◌≡◌, None, subst}
 use Rattle.edit_reader.specs.declared.event.Event.TheVariants as event_of
-use Rattle.world_core.specs.Refusing.{cause_of_entry}
+use Rattle.world_setup.specs.Refusing.{cause_of_entry}
 use Rattle.world_core.specs.StepParts.{IsDone}
 use Rattle.world_core.proofs.PacketEvents.{entry_done, handed_on, under_way_of}
 use Rattle.world_core.proofs.world.World.inject.Goals as goal

@@ -1,6 +1,6 @@
 use Rattle.std.proofs.Common.{Some, ap, sym, ◌∙◌}
 use Rattle.event_lines.specs.declared.refusal.Refusal.TheVariants as why
-use Rattle.world_core.specs.Causes.{cause_if}
+use Rattle.world_setup.specs.Causes.{cause_if}
 use Rattle.world_core.proofs.WaitingNames.{waits_or_not}
 use Rattle.world_core.proofs.world.World.refusal_of_frame.Goals as goal
 

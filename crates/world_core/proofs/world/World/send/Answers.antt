@@ -2,8 +2,8 @@ use Rattle.std.specs.Prelude.{◌<◌, ◌^◌}
 use Rattle.std.proofs.Common.{◌≡◌, None, ap, subst, sym, ◌∙◌}
 use Rattle.edit_reader.specs.declared.event.Event.TheVariants as event_of
 use Rattle.net_model.specs.State.{State, event_count}
-use Rattle.world_core.specs.Built.{IsBuilt}
-use Rattle.world_core.specs.Refusing.{cause_of_entry}
+use Rattle.world_setup.specs.Built.{IsBuilt}
+use Rattle.world_setup.specs.Refusing.{cause_of_entry}
 use Rattle.world_core.specs.StepParts.{IsDone}
 use Rattle.world_core.proofs.PacketEvents.{handed_on, packet_done, under_way_of}
 use Rattle.world_core.proofs.world.World.send.Goals as goal

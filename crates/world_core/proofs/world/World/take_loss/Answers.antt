@@ -5,7 +5,7 @@ use Rattle.net_model.specs.State.{event_count}
 use Rattle.sim_laws.specs.Sound.{AreCrossings}
 use Rattle.world_core.specs.Inside.{seen_of}
 use Rattle.world_core.specs.Outcome.{IsAccepted}
-use Rattle.world_core.specs.Refusing.{no_frame}
+use Rattle.world_setup.specs.Refusing.{no_frame}
 use Rattle.world_core.specs.WorldView.{IsSound, WorldView}
 use Rattle.world_core.proofs.PacketEvents.{counted_world, loss_taken, lost_world}
 use Rattle.world_core.proofs.world.World.take_loss.Goals as goal

@@ -3,7 +3,7 @@ use Rattle.std.proofs.lemmas.Bool.{false≢true}
 use Rattle.std.proofs.lemmas.Result.{err_from_is_err_and}
 use Rattle.event_lines.specs.Lines.{accepted_lines}
 use Rattle.net_model.specs.State.{event_count}
-use Rattle.world_core.specs.EventKinds.{event_of_turn}
+use Rattle.world_setup.specs.TurnEvents.{event_of_turn}
 use Rattle.world_core.specs.Inside.{seen_of}
 use Rattle.world_core.specs.Outcome.{IsAccepted}
 use Rattle.world_core.specs.WorldView.{IsSound}

@@ -1,0 +1,58 @@
+-- Records that are built are those of a switched network, and their rows can be lowered.
+use Rattle.std.specs.Prelude.{◌≡◌, ◌≤◌, length, true, [], Option, Some, None, IsSome, is_some, option_map}
+use Rattle.std.proofs.Common.{ap, arith}
+use Rattle.nb_records.specs.Network.{Network, records_of}
+use Rattle.nb_records.specs.declared.record.Record.{Record}
+use Rattle.nb_records.specs.declared.record.Record.TheVariants as row
+use Rattle.nb_records.specs.declared.switch.Switch.{Switch}
+use Rattle.nb_records.specs.declared.switch.SwitchPort.{SwitchPort}
+use Rattle.nb_rules.proofs.Validity.{unbroken}
+use Rattle.nb_rules.specs.References.{references_of}
+use Rattle.nb_rules.specs.Unbroken.{AreThere}
+use Rattle.nb_rules.specs.Valid.{IsValid}
+use Rattle.row_laws.proofs.records.ValidPorts.{port_row}
+use Rattle.ovn_base.proofs.AmongLaws.{among_all}
+use Rattle.ovn_base.specs.declared.name.Name.{Name}
+use Rattle.ovn_base.specs.names.ByName.{at}
+use Rattle.northd_core.specs.Lowering.{CanCompile}
+use Rattle.physical_flows.specs.RecordKeys.{HaveKeys}
+use Rattle.physical_flows.specs.Switched.{IsSwitched}
+use Rattle.sim_laws.specs.journeys.UnderWay.{HasNoRouter}
+use Rattle.sim_laws.proofs.journey_laws.Premises.{owners_live}
+use Rattle.tunnel_keys.specs.Keys.{Keys}
+use Rattle.world_setup.specs.Built.{IsBuilt}
+
+module _ (net : Network) (built : IsBuilt net) where
+  pub no_router : HasNoRouter net
+  no_router = record { routers = ap (λ (w : Network). w.routers) built.others; router_ports = ap (λ (w : Network). w.router_ports) built.others }
+
+  module _ (keys : Keys) (valid : IsValid net) (have : HaveKeys net keys) where
+    pub switched : IsSwitched net keys
+    switched = record { valid = valid; no_routers = no_router.routers; no_router_ports = no_router.router_ports; keyed = have }
+
+    pub can_compile : CanCompile (record { net = net; keys = keys })
+    can_compile = record {
+      valid = valid;
+      gate = record {
+        routers = no_router.routers;
+        router_ports = no_router.router_ports;
+        routes = ap (λ (w : Network). w.routes) built.others;
+        nats = ap (λ (w : Network). w.nats) built.others;
+        balancers = ap (λ (w : Network). w.load_balancers) built.others;
+      };
+      hold = have.hold;
+      live = owners_live net keys valid have no_router;
+    }
+
+-- the switch of a port is there
+there_some : (o : Option Switch) → is_some (option_map row.Switch o) ≡ true → IsSome o
+there_some None h = h
+there_some (Some switch) h = h
+
+pub on_switch : (net : Network) → IsValid net → (q : Name) (port : SwitchPort) → at net.switch_ports q ≡ Some port → IsSome (at net.switches port.switch)
+on_switch net valid q port found =
+    there_some (at net.switches port.switch) (among_all (λ (r : Record). AreThere net (references_of r)) (row.SwitchPort port) (records_of net) ((unbroken net []).0 valid.unbroken).references (port_row net valid q port found)).0
+
+-- there are not too many ports
+pub few_ports : (net : Network) → IsValid net → length net.switch_ports ≤ 10000
+few_ports net valid = let ports = ((unbroken net []).0 valid.unbroken).ports in omega (arith, ports)

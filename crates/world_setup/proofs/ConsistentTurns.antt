@@ -1,0 +1,64 @@
+-- A consistent state stays so where a chassis or a binding comes.
+use Rattle.net_model.proofs.ListLaws.{turned_keep}
+use Rattle.net_model.specs.Transition.{turned_by, add_chassis, bind}
+use Rattle.std.specs.Prelude.{◌<◌, ◌^◌, IsSome, length, refl}
+use Rattle.std.proofs.Common.{arith}
+use Rattle.ovn_base.specs.lists.Among.{Among}
+use Rattle.ovn_base.specs.declared.name.Name.{Name}
+use Rattle.ovn_base.specs.names.ByName.{at}
+use Rattle.conn_zones.specs.Rezoning.{IsRezoned}
+use Rattle.conn_zones.specs.Zoning.{Zoned}
+use Rattle.sim_laws.proofs.turn_laws.TurnedLists.{turned_at_home}
+use Rattle.world_setup.specs.Consistent.{IsConsistent}
+use Rattle.net_model.specs.State.{State, event_count, finished}
+use Rattle.world_setup.specs.Zones.{home_change}
+use Rattle.world_setup.proofs.NamesInOrder.{name_kept, names_few, names_sorted}
+use Rattle.world_setup.proofs.RecordChanges.{bound_kept, bound_fresh, born_kept}
+use Rattle.world_setup.proofs.WaitingFrames.{same_kept, way_on}
+use Rattle.world_setup.proofs.FreedKeys.{clock_still, counted, finished_consistent}
+
+module _ (m : State) (zones : Zoned) (old : IsConsistent m zones) (room : event_count m < 2 ^ 42) where
+  -- ---- a chassis
+
+  pub chassis_comes : (c : Name) → length m.config.chassis < 64 → IsConsistent (finished (turned_by (add_chassis m.config c) m)) zones
+  chassis_comes c few =
+      let mid = turned_by (add_chassis m.config c) m in
+      let n = counted mid in
+      let more = names_few m.config.chassis c in
+      finished_consistent mid zones (record {
+        built = old.built;
+        clock = clock_still m.clock m.accepted m.refused old.clock;
+        lists = turned_keep (add_chassis m.config c) m old.lists;
+        at_rest = record {
+          valid = old.at_rest.valid;
+          no_router = old.at_rest.no_router;
+          at_home = turned_at_home m (add_chassis m.config c);
+          keys = old.at_rest.keys;
+          bound = bound_kept m n zones old.at_rest.bound refl (λ q h. h) (λ d h. name_kept m.config.chassis c d h) (names_sorted m.config.chassis c old.at_rest.bound.chassis_sorted) (omega (arith, few, more));
+          born = born_kept m n old.at_rest.born (omega arith) (λ h. absurd (omega arith)) refl refl;
+          on_the_way = way_on m n old.at_rest.born (same_kept m n refl refl old.at_rest.keys.hold) old.at_rest.on_the_way refl refl (omega arith) (λ h. omega arith);
+          few = omega (arith, room);
+        };
+      })
+
+  -- ---- a binding
+
+  pub port_bound : (p c : Name) (after : Zoned) → IsSome (at m.config.net.switch_ports p) → Among c m.config.chassis → IsRezoned zones (home_change p c) after → IsConsistent (finished (turned_by (bind m.config p c) m)) after
+  port_bound p c after there known rezoned =
+      let mid = turned_by (bind m.config p c) m in
+      let n = counted mid in
+      finished_consistent mid after (record {
+        built = old.built;
+        clock = clock_still m.clock m.accepted m.refused old.clock;
+        lists = turned_keep (bind m.config p c) m old.lists;
+        at_rest = record {
+          valid = old.at_rest.valid;
+          no_router = old.at_rest.no_router;
+          at_home = turned_at_home m (bind m.config p c);
+          keys = old.at_rest.keys;
+          bound = bound_fresh m n zones after p c old.at_rest.bound refl refl refl there known rezoned;
+          born = born_kept m n old.at_rest.born (omega arith) (λ h. absurd (omega arith)) refl refl;
+          on_the_way = way_on m n old.at_rest.born (same_kept m n refl refl old.at_rest.keys.hold) old.at_rest.on_the_way refl refl (omega arith) (λ h. omega arith);
+          few = omega (arith, room);
+        };
+      })

@@ -1,0 +1,323 @@
+-- What turns make of the ground may be prepared: for each kind of event, in the terms in which the setup has it.
+use Rattle.std.specs.Prelude.{◌≡◌, ◌<◌, ◌↔◌, ◌⊎◌, ◌+◌, ◌^◌, ℕ, List, [], ◌∷◌, Option, Some, None, IsSome, length, map, nat_le, option_map, false, true, refl}
+use Rattle.std.specs.BTreeSet.{insert_key}
+use Rattle.std.specs.Cmp.Lexicographic.{slice_cmp}
+use Rattle.std.specs.Map.{keys_of}
+use Rattle.std.specs.Ordering.{nat_cmp}
+use Rattle.std.proofs.Common.{sym, ap, subst, ◌∙◌}
+use Rattle.std.proofs.lemmas.Bool.{false≢true}
+use Rattle.chassis_sim.specs.declared.change.SimChange.{SimChange}
+use Rattle.conn_zones.specs.Rezoning.{IsHomeChange, IsRezoned}
+use Rattle.edit_reader.specs.declared.event.Event.TheVariants as event_of
+use Rattle.edit_reader.specs.Fitting.{IsEventInGrammar}
+use Rattle.nb_edits.specs.declared.plan.EditPlan.{EditPlan}
+use Rattle.nb_records.specs.Editing.{accepted}
+use Rattle.nb_records.specs.Network.{Network}
+use Rattle.nb_records.specs.declared.change.Op.{Op}
+use Rattle.net_model.specs.Owners.{owners_only_in}
+use Rattle.net_model.specs.Config.{Config, is_chassis}
+use Rattle.net_model.specs.State.{State, event_count}
+use Rattle.ovn_base.specs.declared.name.Name.{Name}
+use Rattle.ovn_base.specs.lists.Among.{Among}
+use Rattle.ovn_base.specs.lists.Once.{EachOnce}
+use Rattle.ovn_base.specs.names.ByName.{at, put}
+use Rattle.ovn_base.specs.names.SameName.{bytes_decides, same_name}
+use Rattle.ovn_base.proofs.AmongLaws.{among_any}
+use Rattle.ovn_base.proofs.ByNameLaws.{put_there}
+use Rattle.physical_flows.specs.Units.{ChangeOnly}
+use Rattle.physical_flows.specs.declared.unit.FlowUnit.{FlowUnit}
+use Rattle.switch_engine.specs.declared.effect.NetEffect.{NetEffect}
+use Rattle.tunnel_keys.specs.Keys.{Keys}
+use Rattle.tuple_space.specs.declared.space.TupleSpace.{TupleSpace}
+use Rattle.world_setup.specs.Ground.{GroundView, changed, ground_of, IsChangeOf}
+use Rattle.world_setup.specs.Editing.{next_net}
+use Rattle.world_setup.specs.KeyLines.{key_effects, key_name}
+use Rattle.world_setup.specs.Refusing.{is_virtual_port, refusal}
+use Rattle.world_setup.specs.Setup.{AreTouched, HasDelta, IsTurnOfTables, lowering_in, rows_on, units_of}
+use Rattle.world_setup.specs.Touched.{touched_by}
+use Rattle.world_setup.specs.Turning.{IsPlannedEdit, IsTurned, LacksFor, MayTurn, Tells, fault_of_keys}
+use Rattle.world_setup.specs.Zones.{home_change}
+use Rattle.world_setup.specs.declared.ground.GroundChange.{GroundChange}
+use Rattle.world_setup.specs.Consistent.{IsConsistent}
+use Rattle.conn_zones.specs.Zoning.{KnownHomes, Zoned, number_on}
+use Rattle.conn_zones.specs.declared.numbers.ZoneUse.TheVariants.{Port}
+use Rattle.northd_core.specs.Lowering.{CanCompile}
+use Rattle.physical_flows.specs.Switched.{IsSwitched}
+use Rattle.world_setup.proofs.BuiltTables.{can_compile, few_ports, switched}
+use Rattle.event_lines.specs.declared.refusal.Refusal.TheVariants as why
+use Rattle.event_lines.specs.declared.refusal.StepFault.{StepFault}
+use Rattle.event_lines.specs.declared.refusal.StepFault.TheVariants.{Refused, Memory}
+use Rattle.nb_edits.specs.OpFaults.{fault_of}
+use Rattle.nb_edits.specs.Plans.{StandsFor}
+use Rattle.nb_rules.specs.declared.fault.SchemaFault.{SchemaFault}
+use Rattle.std.proofs.lemmas.Option.{none-some}
+use Rattle.tunnel_keys.specs.Causes.{IsCause}
+use Rattle.tunnel_keys.specs.Edits.{IsKeyEdit}
+use Rattle.tunnel_keys.specs.declared.fault.KeyFault.{KeyFault}
+use Rattle.tunnel_keys.specs.declared.fault.KeyFault.TheVariants as key
+use Rattle.world_setup.specs.Built.{is_built_edit}
+use Rattle.world_setup.specs.KeyCauses.{datapath_keys, key_lack, port_keys}
+use Rattle.world_setup.proofs.KeyLacks.{IsLack}
+use Rattle.world_setup.proofs.RefusedTurns.{bind_allowed, bind_no_chassis, chassis_allowed, chassis_full, edit_faulty, edit_lacks}
+use Rattle.world_setup.proofs.EditedStates.{after, edit_fits, edit_lack, edit_turned, fits, have, next_built, same_beside, sound}
+use Rattle.world_setup.proofs.SetupTurns.{units_once}
+use Rattle.world_setup.proofs.PortHomes.{can_come, homes_after}
+use Rattle.world_setup.proofs.Refusals.{chassis_new}
+use Rattle.world_setup.proofs.Names.{names_once}
+use Rattle.world_setup.proofs.TurnedHomes.{binding_turned, chassis_turned}
+use Rattle.world_setup.proofs.TurnedUnits.{binding_units, chassis_units, edited_units, homes_bound}
+
+-- tables can be made of the records and the keys
+pub record AreTables (g : GroundView) : Type 0 where
+  pub switched : IsSwitched g.config.net g.keys
+  pub compiled : CanCompile (lowering_in g)
+
+tables_of_state : (m : State) (zones : Zoned) → IsConsistent m zones → AreTables (ground_of m zones)
+tables_of_state m zones now = record {
+  switched = switched m.config.net now.built m.keys now.at_rest.valid now.at_rest.keys;
+  compiled = can_compile m.config.net now.built m.keys now.at_rest.valid now.at_rest.keys;
+}
+
+-- what `prepare` asks of a change of the ground, and of the units that it touches
+pub record IsReadied (g : GroundView) (change : GroundChange) (touched : List FlowUnit) : Type 0 where
+  pub fits : IsChangeOf g change
+  pub once : EachOnce g.config.chassis
+  pub tables : AreTables g
+  pub tables_then : AreTables (changed change g)
+  pub touched_alone : AreTouched g (changed change g) touched
+
+-- the ground of these records, chassis, keys and zones
+abbrev pub ground_with : Network → List Name → Keys → Zoned → GroundView
+ground_with net names keys zones = record { config = record { net = net; chassis = names; bindings = zones.homes.ports }; keys = keys; zones = zones }
+
+-- the tables' part of a turn says nothing of what is bound and named
+pub tables_then : (h g : GroundView) → h ≡ g → (own change : GroundChange) → own ≡ change → (s t : SimChange TupleSpace) → t.added ≡ s.added → t.removed ≡ s.removed → t.tables ≡ s.tables
+    → IsTurnOfTables h (changed change h) s → IsTurnOfTables g (changed own g) t
+tables_then h g same own change is s t added removed tables turn =
+    let all : IsTurnOfTables h (changed change h) t = record {
+      removed = removed ∙ turn.removed;
+      tables = ap (λ l. keys_of l) tables ∙ turn.tables;
+      deltas = λ c among. subst (λ l. HasDelta h (changed change h) l c) (sym tables) (turn.deltas c among);
+      chassis = λ c among. subst (λ l. Among c h.config.chassis ⊎ Among c (keys_of l)) (sym added) (turn.chassis c among);
+      stay = turn.stay;
+      added = λ e among. turn.added e (subst (λ l. Among e l) added among);
+    } in
+    subst (λ ch. IsTurnOfTables g (changed ch g) t) (sym is) (subst (λ x. IsTurnOfTables x (changed change x) t) same all)
+
+-- ---- an edit
+
+-- the change of the ground that an edit makes
+abbrev pub edit_change : EditPlan → Keys → GroundChange
+edit_change plan keys = record { records = Some plan; chassis = None; keys = Some keys; zones = None }
+
+module _ (m : State) (zones : Zoned) (old : IsConsistent m zones) (room : event_count m < 2 ^ 42) (ops : List Op) (grammar : IsEventInGrammar (event_of.Edit ops)) (plan : EditPlan) (keys : Keys)
+    (planned : IsPlannedEdit (ground_of m zones) (event_count m + 1) ops plan keys) where
+  abbrev next : Network
+  next = next_net m ops
+
+  edit_ground : changed (edit_change plan keys) (ground_of m zones) ≡ record { config = record m.config { net = next }; keys = keys; zones = zones }
+  edit_ground = λ i. record { config = record m.config { net = planned.stands.after i; bindings = homes_bound m zones old i }; keys = keys; zones = zones }
+
+  pub edit_tables_then : AreTables (changed (edit_change plan keys) (ground_of m zones))
+  edit_tables_then = subst (λ g. AreTables g) (sym edit_ground) (record {
+    switched = switched next (next_built m zones old room ops grammar plan keys planned) keys (sound m zones old room ops grammar plan keys planned).valid (have m zones old room ops grammar plan keys planned);
+    compiled = can_compile next (next_built m zones old room ops grammar plan keys planned) keys (sound m zones old room ops grammar plan keys planned).valid (have m zones old room ops grammar plan keys planned);
+  })
+
+  pub edit_is_readied : (units : List FlowUnit) → EachOnce units → ((u : FlowUnit) → Among u units ↔ Among u (touched_by m.config.net next ops)) → IsReadied (ground_of m zones) (edit_change plan keys) units
+  edit_is_readied units once are = record {
+    fits = record {
+      keys = record {
+        added = owners_only_in next m.config.net;
+        removed = owners_only_in m.config.net next;
+        fits = fits m zones old room ops grammar plan keys planned;
+        gives = (after m zones old room ops grammar plan keys planned).gives;
+      };
+      zones = tt;
+    };
+    once = names_once m.config.chassis old.at_rest.bound.chassis_sorted;
+    tables = tables_of_state m zones old;
+    tables_then = edit_tables_then;
+    touched_alone = record {
+      once = once;
+      only = λ d among. subst (λ g. ChangeOnly units (rows_on (ground_of m zones) d) (rows_on g d)) (sym edit_ground)
+          (edited_units m zones old next keys units (sound m zones old room ops grammar plan keys planned).valid.in_order.switch_ports (same_beside m zones old room ops grammar plan keys planned units are) d);
+    };
+  }
+
+  pub edit_is_turned : (effects : List NetEffect) → effects ≡ key_effects plan.added keys → (change : SimChange TupleSpace) → change.bound ≡ [] → change.emptied ≡ [] → change.names ≡ map (key_name keys) plan.added
+      → IsTurned m zones (event_of.Edit ops) effects change (changed (edit_change plan keys) (ground_of m zones))
+  edit_is_turned effects named change bound emptied names =
+      subst (λ g. IsTurned m zones (event_of.Edit ops) effects change g) (sym edit_ground) (edit_turned m zones old room ops grammar plan keys planned effects named change bound emptied names)
+
+-- why an edit is refused, in the terms in which the setup has it
+module _ (g : GroundView) (n : ℕ) (ops : List Op) (m : State) (may : MayTurn g n (event_of.Edit ops) m) where
+  -- the records that it leaves
+  pub edit_leaves : accepted g.config.net ops n ≡ next_net m ops
+  edit_leaves = λ i. accepted (sym may.ground i).config.net ops (may.number i)
+
+  fault_same : fault_of m.config.net ops (event_count m + 1) ≡ fault_of g.config.net ops n
+  fault_same = λ i. fault_of (may.ground i).config.net ops (sym may.number i)
+
+  keys_same : m.keys ≡ g.keys
+  keys_same = ap (λ (x : GroundView). x.keys) may.ground
+
+  -- the owners that come and go by the plan
+  come_same : (plan : EditPlan) → StandsFor g.config.net (accepted g.config.net ops n) plan → owners_only_in (next_net m ops) m.config.net ≡ plan.added
+  come_same plan stands = (λ i. owners_only_in (sym edit_leaves i) (may.ground i).config.net) ∙ sym stands.added
+
+  go_same : (plan : EditPlan) → StandsFor g.config.net (accepted g.config.net ops n) plan → owners_only_in m.config.net (next_net m ops) ≡ plan.removed
+  go_same plan stands = (λ i. owners_only_in (may.ground i).config.net (sym edit_leaves i)) ∙ sym stands.removed
+
+  pub edit_tells : (fault : StepFault) → is_built_edit ops ≡ true → Tells fault (option_map (λ f. why.Schema f) (fault_of g.config.net ops n)) → Tells fault (refusal m (event_of.Edit ops))
+  edit_tells (Refused cause) built told = by (fault_of g.config.net ops n) refl told
+    where
+      by : (o : Option SchemaFault) → fault_of g.config.net ops n ≡ o → option_map (λ f. why.Schema f) o ≡ Some cause → refusal m (event_of.Edit ops) ≡ Some cause
+      by None is h = absurd (none-some cause h)
+      by (Some f) is h = edit_faulty m ops f built (fault_same ∙ is) ∙ h
+  edit_tells Memory built told = tt
+
+  pub keys_fit : (plan : EditPlan) → is_built_edit ops ≡ true → fault_of g.config.net ops n ≡ None → StandsFor g.config.net (accepted g.config.net ops n) plan → (keys : Keys) → keys ≡ g.keys → IsKeyEdit keys plan.added plan.removed
+  keys_fit plan built none stands keys is =
+      subst (λ k. IsKeyEdit k plan.added plan.removed) (keys_same ∙ sym is)
+      (subst (λ owners. IsKeyEdit m.keys owners plan.removed) (come_same plan stands)
+      (subst (λ owners. IsKeyEdit m.keys (owners_only_in (next_net m ops) m.config.net) owners) (go_same plan stands)
+      (edit_fits m g.zones may.consistent ops may.in_grammar built (fault_same ∙ none))))
+
+  pub keys_tell : (plan : EditPlan) → is_built_edit ops ≡ true → fault_of g.config.net ops n ≡ None → StandsFor g.config.net (accepted g.config.net ops n) plan → (keys : Keys) → keys ≡ g.keys → (fault : StepFault) → LacksFor keys plan.added plan.removed fault
+      → Tells fault (refusal m (event_of.Edit ops))
+  keys_tell plan built none stands keys is fault lacks = subst (λ f. Tells f (refusal m (event_of.Edit ops))) (sym lacks.fault_is) (by lacks.lack (edit_lack m g.zones may.consistent ops may.in_grammar built (fault_same ∙ none) lacks.lack cause))
+    where
+      cause : IsCause m.keys (owners_only_in (next_net m ops) m.config.net) (owners_only_in m.config.net (next_net m ops)) lacks.lack
+      cause =
+          subst (λ owners. IsCause m.keys owners (owners_only_in m.config.net (next_net m ops)) lacks.lack) (sym (come_same plan stands))
+          (subst (λ owners. IsCause m.keys plan.added owners lacks.lack) (sym (go_same plan stands)) (subst (λ k. IsCause k plan.added plan.removed lacks.lack) (is ∙ sym keys_same) lacks.cause))
+
+      by : (lack : KeyFault) → IsLack lack (key_lack m.keys m.config.net (next_net m ops)) → Tells (fault_of_keys lack) (refusal m (event_of.Edit ops))
+      by key.NoDatapathKey lack = edit_lacks m ops datapath_keys built (fault_same ∙ none) lack
+      by (key.NoPortKey d) lack = edit_lacks m ops (port_keys d) built (fault_same ∙ none) lack
+      by key.Memory lack = tt
+
+-- the same in the terms in which the setup has it
+module _ (g : GroundView) (n : ℕ) (ops : List Op) (m : State) (may : MayTurn g n (event_of.Edit ops) m) (plan : EditPlan) (keys : Keys) (planned : IsPlannedEdit g n ops plan keys) where
+  pub planned_here : IsPlannedEdit (ground_of m g.zones) (event_count m + 1) ops plan keys
+  planned_here = subst (λ k. IsPlannedEdit (ground_of m g.zones) k ops plan keys) may.number (subst (λ x. IsPlannedEdit x n ops plan keys) (sym may.ground) planned)
+
+  -- tables can be made before and after
+  pub edit_tables : AreTables g × AreTables (changed (edit_change plan keys) g)
+  edit_tables = subst (λ x. AreTables x × AreTables (changed (edit_change plan keys) x)) may.ground (tables_of_state m g.zones may.consistent, edit_tables_then m g.zones may.consistent may.few ops may.in_grammar plan keys planned_here)
+
+  pub edit_readied : (h : GroundView) → h ≡ g → (units : List FlowUnit) → EachOnce units → ((u : FlowUnit) → Among u units ↔ Among u (touched_by g.config.net (accepted g.config.net ops n) ops)) → IsReadied h (edit_change plan keys) units
+  edit_readied h is units once are =
+      subst (λ x. IsReadied x (edit_change plan keys) units) (may.ground ∙ sym is)
+      (edit_is_readied m g.zones may.consistent may.few ops may.in_grammar plan keys planned_here units once
+      (subst (λ net. (u : FlowUnit) → Among u units ↔ Among u (touched_by m.config.net net ops)) (edit_leaves g n ops m may)
+      (subst (λ (x : GroundView). (u : FlowUnit) → Among u units ↔ Among u (touched_by x.config.net (accepted g.config.net ops n) ops)) (sym may.ground) are)))
+
+  pub edit_turns : (effects : List NetEffect) → effects ≡ key_effects plan.added keys → (change : SimChange TupleSpace) → change.bound ≡ [] → change.emptied ≡ [] → change.names ≡ map (key_name keys) plan.added
+      → IsTurned m g.zones (event_of.Edit ops) effects change (changed (edit_change plan keys) g)
+  edit_turns effects named change bound emptied names =
+      subst (λ x. IsTurned m g.zones (event_of.Edit ops) effects change (changed (edit_change plan keys) x)) may.ground
+      (edit_is_turned m g.zones may.consistent may.few ops may.in_grammar plan keys planned_here effects named change bound emptied names)
+
+-- ---- a chassis comes
+
+-- when it does, and why else it doesn't
+module _ (g : GroundView) (n : ℕ) (c : Name) (m : State) (may : MayTurn g n (event_of.AddChassis c) m) (h : GroundView) (is : h ≡ g) where
+  config_same : m.config ≡ h.config
+  config_same = ap (λ (x : GroundView). x.config) (may.ground ∙ sym is)
+
+  pub chassis_may_come : is_chassis h.config c ≡ false → nat_le 64 (length h.config.chassis) ≡ false → refusal m (event_of.AddChassis c) ≡ None
+  chassis_may_come new few = chassis_allowed m c (ap (λ (x : Config). is_chassis x c) config_same ∙ new) (ap (λ (x : Config). nat_le 64 (length x.chassis)) config_same ∙ few)
+
+  pub chassis_too_many : is_chassis h.config c ≡ false → nat_le 64 (length h.config.chassis) ≡ true → refusal m (event_of.AddChassis c) ≡ Some why.LimitChassis
+  chassis_too_many new full = chassis_full m c (ap (λ (x : Config). is_chassis x c) config_same ∙ new) (ap (λ (x : Config). nat_le 64 (length x.chassis)) config_same ∙ full)
+
+module _ (g : GroundView) (n : ℕ) (c : Name) (m : State) (may : MayTurn g n (event_of.AddChassis c) m) (allowed : refusal m (event_of.AddChassis c) ≡ None) where
+  abbrev chassis_change : List Name → GroundChange
+  chassis_change names = record { records = None; chassis = Some names; keys = None; zones = None }
+
+  abbrev longer : List Name
+  longer = insert_key (slice_cmp nat_cmp) m.config.chassis c
+
+  -- it isn't there yet
+  pub chassis_absent : ¬ Among c g.config.chassis
+  chassis_absent among =
+      let there : Among c m.config.chassis = subst (λ (x : GroundView). Among c x.config.chassis) (sym may.ground) among in
+      false≢true (sym (chassis_new m c allowed).0 ∙ among_any (λ d. same_name d c) c m.config.chassis there ((bytes_decides c c).1 refl))
+
+  chassis_names : (names : List Name) → names ≡ insert_key (slice_cmp nat_cmp) g.config.chassis c → names ≡ longer
+  chassis_names names is = is ∙ ap (λ (x : GroundView). insert_key (slice_cmp nat_cmp) x.config.chassis c) (sym may.ground)
+
+  chassis_ground : changed (chassis_change longer) (ground_of m g.zones) ≡ record { config = record m.config { chassis = longer }; keys = m.keys; zones = g.zones }
+  chassis_ground = λ i. record { config = record m.config { chassis = longer; bindings = homes_bound m g.zones may.consistent i }; keys = m.keys; zones = g.zones }
+
+  chassis_is_readied : IsReadied (ground_of m g.zones) (chassis_change longer) []
+  chassis_is_readied = record {
+    fits = record { keys = tt; zones = tt };
+    once = names_once m.config.chassis may.consistent.at_rest.bound.chassis_sorted;
+    tables = tables_of_state m g.zones may.consistent;
+    tables_then = record { switched = (tables_of_state m g.zones may.consistent).switched; compiled = (tables_of_state m g.zones may.consistent).compiled };
+    touched_alone = record {
+      once = tt;
+      only = λ d among. subst (λ x. ChangeOnly [] (rows_on (ground_of m g.zones) d) (rows_on x d)) (sym chassis_ground)
+          (chassis_units m g.zones may.consistent c (λ there. chassis_absent (subst (λ (x : GroundView). Among c x.config.chassis) may.ground there)) d);
+    };
+  }
+
+  pub chassis_readied : (h : GroundView) → h ≡ g → (names : List Name) → names ≡ insert_key (slice_cmp nat_cmp) g.config.chassis c → IsReadied h (chassis_change names) []
+  chassis_readied h is names longer' =
+      subst (λ x. IsReadied x (chassis_change names) []) (may.ground ∙ sym is) (subst (λ x. IsReadied (ground_of m g.zones) (chassis_change x) []) (sym (chassis_names names longer')) chassis_is_readied)
+
+  pub chassis_turns : (names : List Name) → names ≡ insert_key (slice_cmp nat_cmp) g.config.chassis c → (effects : List NetEffect) → effects ≡ [] → (change : SimChange TupleSpace) → change.bound ≡ [] → change.names ≡ [] → change.emptied ≡ []
+      → IsTurned m g.zones (event_of.AddChassis c) effects change (changed (chassis_change names) g)
+  chassis_turns names longer' effects none change bound called emptied =
+      subst (λ x. IsTurned m g.zones (event_of.AddChassis c) effects change (changed (chassis_change names) x)) may.ground
+      (subst (λ x. IsTurned m g.zones (event_of.AddChassis c) effects change (changed (chassis_change x) (ground_of m g.zones))) (sym (chassis_names names longer'))
+      (subst (λ x. IsTurned m g.zones (event_of.AddChassis c) effects change x) (sym chassis_ground)
+      (chassis_turned m g.zones may.consistent may.few effects none change c allowed bound called emptied)))
+
+-- ---- a port is bound
+
+-- when it is, and why else it isn't
+module _ (g : GroundView) (n : ℕ) (p c : Name) (m : State) (may : MayTurn g n (event_of.Bind p c) m) (h : GroundView) (is : h ≡ g) where
+  bound_config : m.config ≡ h.config
+  bound_config = ap (λ (x : GroundView). x.config) (may.ground ∙ sym is)
+
+  pub port_may_be_bound : is_virtual_port (at h.config.net.switch_ports p) ≡ true → is_chassis h.config c ≡ true → refusal m (event_of.Bind p c) ≡ None
+  port_may_be_bound port there = bind_allowed m p c (ap (λ (x : Config). is_virtual_port (at x.net.switch_ports p)) bound_config ∙ port) (ap (λ (x : Config). is_chassis x c) bound_config ∙ there)
+
+  pub chassis_is_absent : is_virtual_port (at h.config.net.switch_ports p) ≡ true → is_chassis h.config c ≡ false → refusal m (event_of.Bind p c) ≡ Some (why.NoSuch c)
+  chassis_is_absent port there = bind_no_chassis m p c (ap (λ (x : Config). is_virtual_port (at x.net.switch_ports p)) bound_config ∙ port) (ap (λ (x : Config). is_chassis x c) bound_config ∙ there)
+
+module _ (g : GroundView) (n : ℕ) (p c : Name) (m : State) (may : MayTurn g n (event_of.Bind p c) m) (allowed : refusal m (event_of.Bind p c) ≡ None) where
+  abbrev zone_change : Zoned → GroundChange
+  zone_change zones = record { records = None; chassis = None; keys = None; zones = Some zones }
+
+  pub binding_can_come : IsHomeChange g.zones.homes (home_change p c)
+  binding_can_come = can_come m.config g.zones may.consistent.at_rest.bound p c (few_ports m.config.net may.consistent.at_rest.valid)
+
+  module _ (after : Zoned) (rezoned : IsRezoned g.zones (home_change p c) after) where
+    binding_is_readied : IsReadied (ground_of m g.zones) (zone_change after) (units_of (at m.config.net.switch_ports p) p)
+    binding_is_readied = record {
+      fits = record { keys = tt; zones = record { change = home_change p c; fits = binding_can_come; rezoned = rezoned } };
+      once = names_once m.config.chassis may.consistent.at_rest.bound.chassis_sorted;
+      tables = tables_of_state m g.zones may.consistent;
+      tables_then = record { switched = (tables_of_state m g.zones may.consistent).switched; compiled = (tables_of_state m g.zones may.consistent).compiled };
+      touched_alone = record { once = units_once (at m.config.net.switch_ports p) p; only = λ d among. binding_units m g.zones may.consistent p c allowed after rezoned d };
+    }
+
+    pub binding_readied : (h : GroundView) → h ≡ g → IsReadied h (zone_change after) (units_of (at h.config.net.switch_ports p) p)
+    binding_readied h is = subst (λ x. IsReadied x (zone_change after) (units_of (at x.config.net.switch_ports p) p)) (may.ground ∙ sym is) binding_is_readied
+
+    -- the port has a number there
+    pub binding_numbered : ¬ (number_on after.numbers c (Port p) ≡ None)
+    binding_numbered none =
+        let ports : after.homes.ports ≡ put m.config.bindings p c = ap (λ (h : KnownHomes). h.ports) (homes_after m.config g.zones may.consistent.at_rest.bound p c after rezoned) in
+        false≢true (subst IsSome none ((rezoned.zoned.at_home c (Port p)).0 (ap (λ l. at l p) ports ∙ put_there m.config.bindings p c)))
+
+    pub binding_turns : (z : ℕ) → number_on after.numbers c (Port p) ≡ Some z → (effects : List NetEffect) → effects ≡ [] → (change : SimChange TupleSpace) → change.bound ≡ (p, Some c) ∷ [] → change.names ≡ [] → change.emptied ≡ (c, z) ∷ []
+        → IsTurned m g.zones (event_of.Bind p c) effects change (changed (zone_change after) g)
+    binding_turns z numbered effects none change bound called emptied =
+        subst (λ x. IsTurned m g.zones (event_of.Bind p c) effects change (changed (zone_change after) x)) may.ground
+        (binding_turned m g.zones may.consistent may.few effects none change p c allowed after rezoned z numbered bound called emptied)

@@ -1,0 +1,10 @@
+//! What a turn of the configuration makes of records, keys, zones and the flows of each chassis: all of it is prepared, and then applied.
+#![tactic(auto)]
+
+mod built;
+mod edited;
+pub mod ground;
+pub mod held;
+pub mod setup;
+mod stores;
+pub mod turn_event;
