@@ -1,5 +1,5 @@
 //! The lines of events.
-ghost use Rattle.std.specs.Prelude.{◌≡◌, ◌++◌, codes, decimal, OnOk, OnErr};
+ghost use Rattle.std.specs.Prelude.{◌≡◌, ◌++◌, codes, decimal, take, OnOk, OnErr};
 ghost use Rattle.flow_table.specs.Causes.{cause_name};
 ghost use Rattle.event_lines.specs.Lines.{route_words, words_of, line_of, ok_line, accepted_lines, refused_line, end_line};
 ghost use Rattle.event_lines.specs.Text.{StartsWith, backend_text};
@@ -126,9 +126,8 @@ fn put_words(effect: &NetEffect, out: &mut Vec<u8>) -> Result<(), NoMemory>
     }
 }
 
-/// Adds the line of an effect of the event of this number. Without memory the text keeps what it held, and may have a
-/// part of the line behind it.
-pub fn line(effect: &NetEffect, number: u64, out: &mut Vec<u8>) -> Result<(), NoMemory>
+// The line of an effect of the event of this number.
+fn put_line(effect: &NetEffect, number: u64, out: &mut Vec<u8>) -> Result<(), NoMemory>
     ensures ok { OnOk result (out.new.items ≡ out.old.items ++ line_of number (words_of effect.now)) }
     ensures err { OnErr result (StartsWith out.new.items out.old.items) }
 {
@@ -149,9 +148,8 @@ fn put_ok(walks: u128, number: u64, out: &mut Vec<u8>) -> Result<(), NoMemory>
     put(b"\n", out)
 }
 
-/// Adds the lines of an accepted event: one for each effect, and the last with the number of flows that were matched.
-/// Without memory the text keeps what it held, and may have a part of the lines behind it.
-pub fn accepted(
+// A line for each effect, and the last one.
+fn put_accepted(
     effects: &[NetEffect],
     walks: u128,
     number: u64,
@@ -161,14 +159,13 @@ pub fn accepted(
     ensures err { OnErr result (StartsWith out.new.items out.old.items) }
 {
     'effects: for effect in effects {
-        line(effect, number, out)?;
+        put_line(effect, number, out)?;
     }
     put_ok(walks, number, out)
 }
 
-/// Adds the line of a refused event of this number. Without memory the text keeps what it held, and may have a part of the
-/// line behind it.
-pub fn refused(refusal: &Refusal, number: u64, out: &mut Vec<u8>) -> Result<(), NoMemory>
+// The line of a refused event of this number.
+fn put_refused(refusal: &Refusal, number: u64, out: &mut Vec<u8>) -> Result<(), NoMemory>
     ensures ok { OnOk result (out.new.items ≡ out.old.items ++ refused_line number refusal.now) }
     ensures err { OnErr result (StartsWith out.new.items out.old.items) }
 {
@@ -179,9 +176,8 @@ pub fn refused(refusal: &Refusal, number: u64, out: &mut Vec<u8>) -> Result<(), 
     put(b"\n", out)
 }
 
-/// Adds the last line of all: how many events there were, how many of them were accepted and refused, and how many
-/// frames wait. Without memory the text keeps what it held, and may have a part of the line behind it.
-pub fn end(
+// The last line of all.
+fn put_end(
     events: u64,
     accepted: u64,
     refused: u64,
@@ -196,4 +192,69 @@ pub fn end(
     put_count(b" refused=", refused as u128, out)?;
     put_count(b" waiting=", waiting as u128, out)?;
     put(b"\n", out)
+}
+
+// Where memory was wanting, what was added behind the first bytes, so many, goes again.
+fn or_as_before(added: Result<(), NoMemory>, len: usize, out: &mut Vec<u8>) -> Result<(), NoMemory>
+    ensures same { result ≡ added }
+    ensures ok { OnOk added (out.new.items ≡ out.old.items) }
+    ensures err { OnErr added (out.new.items ≡ take len out.old.items) }
+{
+    if added.is_err() {
+        out.truncate(len);
+    }
+    added
+}
+
+/// Adds the line of an effect of the event of this number. Without memory the text is as it was.
+pub fn line(effect: &NetEffect, number: u64, out: &mut Vec<u8>) -> Result<(), NoMemory>
+    ensures ok { OnOk result (out.new.items ≡ out.old.items ++ line_of number (words_of effect.now)) }
+    ensures err { OnErr result (out.new.items ≡ out.old.items) }
+{
+    let len = out.len();
+    let added = put_line(effect, number, out);
+    or_as_before(added, len, out)
+}
+
+/// Adds the lines of an accepted event: one for each effect, and the last with the number of flows that were matched.
+/// Without memory the text is as it was.
+pub fn accepted(
+    effects: &[NetEffect],
+    walks: u128,
+    number: u64,
+    out: &mut Vec<u8>,
+) -> Result<(), NoMemory>
+    ensures ok { OnOk result (out.new.items ≡ out.old.items ++ accepted_lines number effects.now walks) }
+    ensures err { OnErr result (out.new.items ≡ out.old.items) }
+{
+    let len = out.len();
+    let added = put_accepted(effects, walks, number, out);
+    or_as_before(added, len, out)
+}
+
+/// Adds the line of a refused event of this number. Without memory the text is as it was.
+pub fn refused(refusal: &Refusal, number: u64, out: &mut Vec<u8>) -> Result<(), NoMemory>
+    ensures ok { OnOk result (out.new.items ≡ out.old.items ++ refused_line number refusal.now) }
+    ensures err { OnErr result (out.new.items ≡ out.old.items) }
+{
+    let len = out.len();
+    let added = put_refused(refusal, number, out);
+    or_as_before(added, len, out)
+}
+
+/// Adds the last line of all: how many events there were, how many of them were accepted and refused, and how many
+/// frames wait. Without memory the text is as it was.
+pub fn end(
+    events: u64,
+    accepted: u64,
+    refused: u64,
+    waiting: usize,
+    out: &mut Vec<u8>,
+) -> Result<(), NoMemory>
+    ensures ok { OnOk result (out.new.items ≡ out.old.items ++ end_line events accepted refused waiting) }
+    ensures err { OnErr result (out.new.items ≡ out.old.items) }
+{
+    let len = out.len();
+    let added = put_end(events, accepted, refused, waiting, out);
+    or_as_before(added, len, out)
 }

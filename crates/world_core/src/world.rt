@@ -20,7 +20,7 @@ ghost use Rattle.net_model.specs.State.{event_count, finished};
 
 use crate::crossing_names::CrossingNames;
 use crate::packet_event::PacketEvent;
-use crate::world::texts::{write_accepted, write_refused};
+use event_lines::lines::{accepted, refused};
 use chassis_sim::sim::Sim;
 use edit_reader::event::Event;
 use event_lines::refusal::{Refusal, StepFault};
@@ -41,7 +41,6 @@ use world_setup::turn_event::TurnEvent;
 
 mod packets;
 mod steps;
-mod texts;
 
 /// The network and its simulated chassis.
 #[derive(Drop)]
@@ -173,7 +172,7 @@ impl World {
         ensures same { OnErr result (self.new ≡ self.old) }
         ensures front { OnErr result (text.new.items ≡ text.old.items) }
     {
-        write_refused(why, self.accepted + self.refused + 1, text)?;
+        refused(why, self.accepted + self.refused + 1, text)?;
         self.refused += 1;
         self.walks.clear();
         Ok(())
@@ -201,7 +200,7 @@ impl World {
         let number = self.accepted + self.refused + 1;
         let turn = self.setup.turn(alloc, number, event, steps)?;
         self.sim.prepare(&turn.sim)?;
-        write_accepted(turn.effects.as_slice(), 0, number, text)?;
+        accepted(turn.effects.as_slice(), 0, number, text)?;
         self.setup.apply(turn.patch);
         self.sim.apply(turn.sim);
         self.walks.clear();
@@ -252,7 +251,7 @@ impl World {
         if let Some(why) = self.refusal_of_frame(frame) {
             return self.take_refused(why, text);
         }
-        write_accepted(&[], 0, self.accepted + self.refused + 1, text)?;
+        accepted(&[], 0, self.accepted + self.refused + 1, text)?;
         self.whole = false;
         self.lose(u128::from(frame));
         self.walks.clear();
@@ -279,7 +278,7 @@ impl World {
         requires few { seconds ≤ 1000000 }
         ensures { Outcome result self.old (event_of.Clock seconds) text.old.items text.new.items self.new }
     {
-        write_accepted(&[], 0, self.accepted + self.refused + 1, text)?;
+        accepted(&[], 0, self.accepted + self.refused + 1, text)?;
         self.whole = false;
         self.tick(seconds);
         self.walks.clear();
@@ -371,7 +370,7 @@ impl World {
         let number = self.accepted + self.refused + 1;
         match self.accept(alloc, event) {
             Ok(done) => {
-                write_accepted(done.effects.as_slice(), done.matched, number, text)?;
+                accepted(done.effects.as_slice(), done.matched, number, text)?;
                 self.walks = done.walks;
                 Ok(())
             }

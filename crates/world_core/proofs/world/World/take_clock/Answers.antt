@@ -29,9 +29,9 @@ returns c =
     let old = c.args.self.now in
     let seconds = c.args.seconds in
     let before = c.args.text.now.items in
-    let text = c.write_accepted.new.text.items in
+    let text = c.accepted.new.out.items in
     let ticked : seen_of c.self-2.inside ≡ clocked_world (record old { whole = false }) seconds = c.self-2.view_is ∙ c.tick.ensures ∙ ap (λ (w : WorldView). clocked_world (record w { whole = false }) seconds) c.self.view_is in
     let end : seen_of (record c.self-3.inside { whole = true }) ≡ counted_world (clocked_world old seconds) [] =
     ap (λ (w : WorldView). record w { whole = true }) (c.self-3.view_is ∙ c.finish.ensures) ∙ (λ i. counted_world (ticked i) (c.clear.ensures i)) in
-    let lines : text ≡ before ++ accepted_lines (event_count old.state + 1) [] 0 = c.in_ok-write_accepted.ensures.ok ∙ ap (λ (w : WorldView). before ++ accepted_lines (event_count w.state + 1) [] 0) c.self.view_is in
+    let lines : text ≡ before ++ accepted_lines (event_count old.state + 1) [] 0 = c.in_ok-accepted.ensures.ok ∙ ap (λ (w : WorldView). before ++ accepted_lines (event_count w.state + 1) [] 0) c.self.view_is in
     subst (λ w. IsAccepted old (event_of.Clock seconds) before text w × IsSound w) (sym end) (clock_taken old seconds c.requires.sound c.requires.room c.requires.few before text lines)

@@ -29,12 +29,12 @@ returns c =
     let old = c.args.self.now in
     let n = c.from.result in
     let before = c.args.text.now.items in
-    let text = c.write_accepted.new.text.items in
+    let text = c.accepted.new.out.items in
     let lost : seen_of c.self-2.inside ≡ lost_world old n = c.self-2.view_is ∙ c.lose.ensures ∙ ap (λ (w : WorldView). lost_world w n) c.self.view_is in
     let end : seen_of (record c.self-3.inside { whole = true }) ≡ counted_world (lost_world old n) [] =
     ap (λ (w : WorldView). record w { whole = true }) (c.self-3.view_is ∙ c.finish.ensures) ∙ (λ i. counted_world (lost i) (c.clear.ensures i)) in
     let allowed : no_frame old.state n ≡ None = ap (λ k. no_frame old.state k) c.from.ensures ∙ sym c.refusal_of_frame.ensures ∙ c.in_default.is in
-    let lines : text ≡ before ++ accepted_lines (event_count old.state + 1) [] 0 = c.in_ok-write_accepted.ensures.ok ∙ ap (λ (w : WorldView). before ++ accepted_lines (event_count w.state + 1) [] 0) c.self.view_is in
+    let lines : text ≡ before ++ accepted_lines (event_count old.state + 1) [] 0 = c.in_ok-accepted.ensures.ok ∙ ap (λ (w : WorldView). before ++ accepted_lines (event_count w.state + 1) [] 0) c.self.view_is in
     let taken = loss_taken old n c.requires.sound c.requires.room allowed before text lines in
     subst (λ w. IsAccepted old (event_of.Lose c.args.frame) before text w × IsSound w) (sym end)
     (subst (λ k. IsAccepted old (event_of.Lose k) before text (counted_world (lost_world old n) [])) c.from.ensures taken.0, taken.1)

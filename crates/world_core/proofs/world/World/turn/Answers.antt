@@ -32,17 +32,17 @@ returns-in_err-prepare-clause-sound bounds c = let failed = err_from_is_err_and 
 pub returns-in_err-prepare-clause-same : goal.returns-in_err-prepare-clause-same
 returns-in_err-prepare-clause-same bounds c = let failed = err_from_is_err_and c.from_residual-in_err-prepare.result c.from_residual-in_err-prepare.ensures.1 in rw failed.1 ((λ i. seen_with c.self.inside (c.turn.ensures.kept i) (c.prepare.ensures.kept i)) ∙ c.self.view_is)
 
-pub returns-in_err-write_accepted-clause-done : goal.returns-in_err-write_accepted-clause-done
-returns-in_err-write_accepted-clause-done bounds c = let failed = err_from_is_err_and c.from_residual-in_err-write_accepted.result c.from_residual-in_err-write_accepted.ensures.1 in rw failed.1 tt
+pub returns-in_err-accepted-clause-done : goal.returns-in_err-accepted-clause-done
+returns-in_err-accepted-clause-done bounds c = let failed = err_from_is_err_and c.from_residual-in_err-accepted.result c.from_residual-in_err-accepted.ensures.1 in rw failed.1 tt
 
-pub returns-in_err-write_accepted-clause-told : goal.returns-in_err-write_accepted-clause-told
-returns-in_err-write_accepted-clause-told bounds c = let failed = err_from_is_err_and c.from_residual-in_err-write_accepted.result c.from_residual-in_err-write_accepted.ensures.1 in rw failed.1 (rw failed.2 tt)
+pub returns-in_err-accepted-clause-told : goal.returns-in_err-accepted-clause-told
+returns-in_err-accepted-clause-told bounds c = let failed = err_from_is_err_and c.from_residual-in_err-accepted.result c.from_residual-in_err-accepted.ensures.1 in rw failed.1 (rw failed.2 tt)
 
-pub returns-in_err-write_accepted-clause-sound : goal.returns-in_err-write_accepted-clause-sound
-returns-in_err-write_accepted-clause-sound bounds c = let failed = err_from_is_err_and c.from_residual-in_err-write_accepted.result c.from_residual-in_err-write_accepted.ensures.1 in rw failed.1 tt
+pub returns-in_err-accepted-clause-sound : goal.returns-in_err-accepted-clause-sound
+returns-in_err-accepted-clause-sound bounds c = let failed = err_from_is_err_and c.from_residual-in_err-accepted.result c.from_residual-in_err-accepted.ensures.1 in rw failed.1 tt
 
-pub returns-in_err-write_accepted-clause-same : goal.returns-in_err-write_accepted-clause-same
-returns-in_err-write_accepted-clause-same bounds c = let failed = err_from_is_err_and c.from_residual-in_err-write_accepted.result c.from_residual-in_err-write_accepted.ensures.1 in rw failed.1 ((λ i. seen_with c.self.inside (c.turn.ensures.kept i) (c.prepare.ensures.kept i)) ∙ c.self.view_is)
+pub returns-in_err-accepted-clause-same : goal.returns-in_err-accepted-clause-same
+returns-in_err-accepted-clause-same bounds c = let failed = err_from_is_err_and c.from_residual-in_err-accepted.result c.from_residual-in_err-accepted.ensures.1 in rw failed.1 ((λ i. seen_with c.self.inside (c.turn.ensures.kept i) (c.prepare.ensures.kept i)) ∙ c.self.view_is)
 
 pub invariant_of-self-then-is_empty : goal.invariant_of-self-then-is_empty
 invariant_of-self-then-is_empty bounds c =
@@ -57,9 +57,9 @@ invariant_of-self-else-is_empty bounds c =
 pub returns-clause-done : goal.returns-clause-done
 returns-clause-done bounds c =
     let before = c.args.text.now.items in
-    let text = c.write_accepted.new.text.items in
+    let text = c.accepted.new.out.items in
     let lines : text ≡ before ++ accepted_lines (event_count (seen_of c.self.inside).state + 1) c.in_ok-turn.turn.effects 0 =
-    subst (λ effects. text ≡ before ++ accepted_lines (event_count (seen_of c.self.inside).state + 1) effects 0) c.as_slice.ensures c.in_ok-write_accepted.ensures.ok in
+    subst (λ effects. text ≡ before ++ accepted_lines (event_count (seen_of c.self.inside).state + 1) effects 0) c.as_slice.ensures c.in_ok-accepted.ensures.ok in
     let waits = ground_waits c.self.inside c.args.self.now c.self.view_is c.args.event.now c.requires.sound c.requires.room c.requires.admitted c.turn.new.self c.in_ok-turn.turn c.in_ok-turn.ensures.turn c.exact_flow.ensures c.turn.new.self.ground c.apply.new.self.ground c.turn.ensures.kept c.apply.ensures in
     let settles = ground_settles c.self.inside c.args.self.now c.self.view_is c.args.event.now c.requires.sound c.requires.room c.requires.admitted c.turn.new.self c.in_ok-turn.turn c.in_ok-turn.ensures.turn c.exact_flow.ensures c.turn.new.self.ground c.apply.new.self.ground c.turn.ensures.kept c.apply.ensures in
     let accepted = accepted_end c.self.inside c.args.self.now c.self.view_is c.args.event.now c.requires.sound c.requires.room c.requires.admitted c.turn.new.self c.in_ok-turn.turn c.in_ok-turn.ensures.turn c.exact_flow.ensures c.prepare.new.self.state c.apply-2.new.self.state c.prepare.ensures.kept c.apply-2.ensures in

@@ -1,6 +1,6 @@
 use Rattle.std.proofs.lemmas.Result.{on_ok_weaker, on_err_weaker}
 use Rattle.event_lines.proofs.Pieces.{end_is_put, end_keeps}
-use Rattle.event_lines.proofs.lines.end.Goals as goal
+use Rattle.event_lines.proofs.lines.put_end.Goals as goal
 
 pub returns-clause-ok : goal.returns-clause-ok
 returns-clause-ok c =

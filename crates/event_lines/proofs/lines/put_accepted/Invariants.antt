@@ -1,7 +1,7 @@
 use Rattle.std.proofs.Common.{◌≡◌, ◌++◌, drop, flat_map}
 use Rattle.event_lines.specs.Lines.{line_of, words_of}
 use Rattle.event_lines.specs.Text.{StartsWith}
-use Rattle.event_lines.proofs.lines.accepted.Given as goal
+use Rattle.event_lines.proofs.lines.put_accepted.Given as goal
 
 -- the lines so far, and those of the effects that are left
 abbrev pub invariant-effects : goal.invariant-effects
