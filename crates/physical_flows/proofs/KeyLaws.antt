@@ -2,6 +2,7 @@
 use Rattle.std.specs.Prelude.{◌≡◌, ◌≤◌, ◌<◌, ◌^◌, ℕ, Some, None, Option, map, filter_map, refl}
 use Rattle.std.specs.Option.{option_map}
 use Rattle.std.proofs.Common.{arith, sym, ap, ◌∙◌}
+use mathlib.Core.Logic.{inl, inr}
 use Rattle.std.proofs.lemmas.Option.{none-some, same_Some}
 use Rattle.ovn_base.specs.lists.Among.{Among}
 use Rattle.ovn_base.specs.declared.name.Name.{Name}
@@ -38,13 +39,16 @@ module _ (net : Network) (keys : Keys) (have : HaveKeys net keys) where
   pub datapaths_apart : (a b : Name) (j k : DatapathKey) → at keys.datapaths a ≡ Some j → at keys.datapaths b ≡ Some k → j.key ≡ k.key → a ≡ b
   datapaths_apart a b j k at_a at_b same = ap (λ (o : Identity). o.name) (have.hold.datapaths_apart (held_datapath (a, j)) (held_datapath (b, k)) (datapath_held a j at_a) (datapath_held b k at_b) same)
 
-  -- a name that no switch has, has no key
-  pub no_datapath_key : (a : Name) → at net.switches a ≡ None → at keys.datapaths a ≡ None
-  no_datapath_key a absent = by (at keys.datapaths a) refl
+  -- a name that no switch has and no router, has no key
+  pub no_datapath_key : (a : Name) → at net.switches a ≡ None → at net.routers a ≡ None → at keys.datapaths a ≡ None
+  no_datapath_key a no_switch no_router = by (at keys.datapaths a) refl
     where
       by : (o : Option DatapathKey) → at keys.datapaths a ≡ o → at keys.datapaths a ≡ None
       by None e = e
-      by (Some k) e = let s = some_of (at net.switches a) (have.datapath_of a k e) in absurd (none-some s.0 (sym absent ∙ s.1))
+      by (Some k) e = elim (have.datapath_of a k e) [
+        | inl switch ↦ let s = some_of (at net.switches a) switch in absurd (none-some s.0 (sym no_switch ∙ s.1))
+        | inr router ↦ let r = some_of (at net.routers a) router in absurd (none-some r.0 (sym no_router ∙ r.1))
+      ]
 
   -- ---- ports
 
@@ -73,9 +77,12 @@ module _ (net : Network) (keys : Keys) (have : HaveKeys net keys) where
       let on : (on_datapath_key p j d.0).datapath ≡ (on_datapath_key q k e.0).datapath = λ i. record { name = together i; birth = (one i).birth } in
       ap (λ (o : Identity). o.name) (have.hold.ports_apart (on_datapath_key p j d.0) (on_datapath_key q k e.0) (port_held p j d.0 at_p d.1) (port_held q k e.0 at_q e.1) on same)
 
-  pub no_port_key : (q : Name) → at net.switch_ports q ≡ None → at keys.ports q ≡ None
-  no_port_key q absent = by (at keys.ports q) refl
+  pub no_port_key : (q : Name) → at net.switch_ports q ≡ None → at net.router_ports q ≡ None → at keys.ports q ≡ None
+  no_port_key q no_switch no_router = by (at keys.ports q) refl
     where
       by : (o : Option PortKey) → at keys.ports q ≡ o → at keys.ports q ≡ None
       by None e = e
-      by (Some k) e = let s = some_of (at net.switch_ports q) (have.port_of q k e) in absurd (none-some s.0 (sym absent ∙ s.1))
+      by (Some k) e = elim (have.port_of q k e) [
+        | inl switch ↦ let s = some_of (at net.switch_ports q) switch in absurd (none-some s.0 (sym no_switch ∙ s.1))
+        | inr router ↦ let r = some_of (at net.router_ports q) router in absurd (none-some r.0 (sym no_router ∙ r.1))
+      ]

@@ -5,6 +5,8 @@ pub mod FlowSearch
 pub mod GroupMembers
 pub mod KeyLaws
 pub mod Members
+pub mod PlacedMembers
+pub mod PlacedPorts
 pub mod ProperTables
 pub mod RowFits
 pub mod SwitchLists

@@ -1,8 +1,8 @@
 -- The members of a group, found by the keys of the switch's ports.
-use Rattle.std.specs.Prelude.{◌≡◌, ℕ, Bool, true, false, ◌&&◌, ◌||◌, not, cond, List, [], ◌∷◌, ◌++◌, map, filter, Option, Some, None, IsSome, is_some, unwrap_or, refl}
+use Rattle.std.specs.Prelude.{◌≡◌, ℕ, Bool, true, false, ◌&&◌, ◌||◌, not, cond, List, [], ◌∷◌, ◌++◌, map, filter, Option, Some, None, unwrap_or, refl}
 use Rattle.std.specs.List.{list_any, cons_option}
 use Rattle.std.specs.List.Sorted.{IsStrictlySortedBy}
-use Rattle.std.specs.Map.{keys_of}
+use Rattle.std.specs.Map.{keys_of, values_of}
 use Rattle.std.specs.Ordering.{nat_cmp}
 use Rattle.std.specs.Option.{option_map}
 use Rattle.std.specs.Cmp.Lexicographic.{slice_cmp}
@@ -24,13 +24,17 @@ use Rattle.nb_records.specs.declared.switch.SwitchPort.{SwitchPort}
 use Rattle.tunnel_keys.specs.Keys.{ports_on}
 use Rattle.tunnel_keys.specs.declared.owner.PortKey.{PortKey}
 use Rattle.tunnel_keys.proofs.Lists.{filter_sorted}
+use Rattle.net_model.specs.Config.{Home, nowhere, on, everywhere, home_if, home_of, is_on}
+use Rattle.net_model.specs.Targets.{members}
 use Rattle.net_model.specs.declared.crossing.Group.{Group}
 use Rattle.net_model.specs.declared.crossing.Group.TheVariants.{Flood, Unknown}
-use Rattle.physical_flows.specs.Homes.{is_home, is_at, is_group_member, members}
 use Rattle.physical_flows.specs.Numbers.{port_number}
 use Rattle.physical_flows.specs.RecordKeys.{HaveKeys}
-use Rattle.physical_flows.specs.Stages.{Basis, zone_of, member_of, members_here, homes_of}
-use Rattle.physical_flows.specs.TableList.{group_rows, is_record_in, group_among, here_among, bound_among, others_among, rows_among}
+use Rattle.physical_flows.specs.Homes.{is_reached_at, ArePortsNamed}
+use Rattle.physical_flows.specs.Stages.{Basis, config_of, zone_of, member_of, members_here, homes_of}
+use Rattle.physical_flows.specs.TableList.{group_rows, is_group_member, is_record_in, group_among, home_named, here_among, one_home, bound_among, others_among, rows_among}
+use Rattle.physical_flows.specs.Units.{rows_of_group}
+use Rattle.physical_flows.proofs.GroupMembers.{of_group, entries_in, members_entries, entry_on}
 
 -- ---- names in order
 
@@ -84,7 +88,7 @@ both_true false y e = absurd (false≢true e)
 true_both : (x y : Bool) → x ≡ true → y ≡ true → (x && y) ≡ true
 true_both x y e f = ap (λ b. b && y) e ∙ f
 
-module _ (b : Basis) (sorted : IsByName b.net.switch_ports) (keys : HaveKeys b.net b.keys) (a : Name) where
+module _ (b : Basis) (sorted : IsByName b.net.switch_ports) (named : ArePortsNamed b.net) (keys : HaveKeys b.net b.keys) (a : Name) where
   -- ---- the ports that have keys of the switch
 
   abbrev ports : List (Name × ℕ)
@@ -99,25 +103,19 @@ module _ (b : Basis) (sorted : IsByName b.net.switch_ports) (keys : HaveKeys b.n
       (r.0.1, ap (λ q. at b.keys.ports q) name ∙ among_at r.0.0 r.0.1 b.keys.ports keys.hold.ports_in_order f.0, sym ((bytes_decides a r.0.1.datapath).0 f.1), sym (ap (λ (p : Name × ℕ). p.1) r.2))
 
   on_ports : (q : Name) (k : PortKey) → at b.keys.ports q ≡ Some k → k.datapath ≡ a → Among (q, k.key) ports
-  on_ports q k has on =
+  on_ports q k has under =
       among_map (λ (e : Name × PortKey). (e.0, e.1.key)) (q, k) (filter (λ e. same_name a e.1.datapath) b.keys.ports)
-      (among_filter (λ (e : Name × PortKey). same_name a e.1.datapath) (q, k) b.keys.ports (at_among b.keys.ports q k has) ((bytes_decides a k.datapath).1 (sym on)))
+      (among_filter (λ (e : Name × PortKey). same_name a e.1.datapath) (q, k) b.keys.ports (at_among b.keys.ports q k has) ((bytes_decides a k.datapath).1 (sym under)))
 
-  -- its record is one of the switch
-  record_on : (e : Name × ℕ) → Among e ports → (port : SwitchPort) × (at b.net.switch_ports e.0 ≡ Some port) × (port.switch ≡ a)
-  record_on e m =
+  -- a record of its name is one of the switch
+  switch_is : (e : Name × ℕ) → Among e ports → (port : SwitchPort) → at b.net.switch_ports e.0 ≡ Some port → port.switch ≡ a
+  switch_is e m port is =
       let k = port_on e m in
-      by (at b.net.switch_ports e.0) refl (keys.port_of e.0 k.0 k.1)
-    where
-      by : (o : Option SwitchPort) → at b.net.switch_ports e.0 ≡ o → IsSome (at b.net.switch_ports e.0) → (port : SwitchPort) × (at b.net.switch_ports e.0 ≡ Some port) × (port.switch ≡ a)
-      by None is some = absurd (false≢true (sym (ap (λ p. is_some p) is) ∙ some))
-      by (Some port) is some =
-          let k = port_on e m in
-          let own = keys.port_has e.0 port is in
-          (port, is, sym own.3 ∙ ap (λ (p : PortKey). p.datapath) (same_Some own.0 k.0 (sym own.1 ∙ k.1)) ∙ k.2)
+      let own = keys.port_has e.0 port is in
+      sym own.3 ∙ ap (λ (p : PortKey). p.datapath) (same_Some own.0 k.0 (sym own.1 ∙ k.1)) ∙ k.2
 
-  number_on : (e : Name × ℕ) → Among e ports → port_number b.keys e.0 ≡ Some e.1
-  number_on e m = let k = port_on e m in ap (λ (o : Option PortKey). option_map (λ p. p.key) o) k.1 ∙ ap (λ n. Some n) k.3
+  number_is : (e : Name × ℕ) → Among e ports → port_number b.keys e.0 ≡ Some e.1
+  number_is e m = let k = port_on e m in ap (λ (o : Option PortKey). option_map (λ p. p.key) o) k.1 ∙ ap (λ n. Some n) k.3
 
   names_kept : (es : List (Name × PortKey)) → keys_of (map (λ e. (e.0, e.1.key)) es) ≡ keys_of es
   names_kept [] = refl
@@ -129,76 +127,131 @@ module _ (b : Basis) (sorted : IsByName b.net.switch_ports) (keys : HaveKeys b.n
   -- ---- the members of a group
 
   module _ (group : Group) where
-    abbrev of_group : Name × SwitchPort → Bool
-    of_group e = same_name e.1.switch a && is_group_member group e.1
+    abbrev entries : List (Name × SwitchPort)
+    entries = entries_in b.net a group
 
-    member_found : (q : Name) → Among q (members b.net a group) → Among q (keys_of (group_among b group ports))
+    abbrev found : List (Name × ℕ)
+    found = group_among b group ports
+
+    -- the record of one that was found
+    found_record : (e : Name × ℕ) → is_record_in group (at b.net.switch_ports e.0) ≡ true → (port : SwitchPort) × (at b.net.switch_ports e.0 ≡ Some port) × (is_group_member group port ≡ true)
+    found_record e passes = by (at b.net.switch_ports e.0) refl passes
+      where
+        by : (o : Option SwitchPort) → at b.net.switch_ports e.0 ≡ o → is_record_in group o ≡ true → (port : SwitchPort) × (at b.net.switch_ports e.0 ≡ Some port) × (is_group_member group port ≡ true)
+        by None is passes = absurd (false≢true passes)
+        by (Some port) is passes = (port, is, passes)
+
+    member_found : (q : Name) → Among q (keys_of entries) → Among q (keys_of found)
     member_found q m =
-        let r = map_among (λ (e : Name × SwitchPort). e.0) q (filter of_group b.net.switch_ports) m in
-        let f = filter_among of_group r.0 b.net.switch_ports r.1 in
-        let found : at b.net.switch_ports r.0.0 ≡ Some r.0.1 = among_at r.0.0 r.0.1 b.net.switch_ports sorted f.0 in
+        let r = map_among (λ (e : Name × SwitchPort). e.0) q entries m in
+        let f = filter_among (of_group a group) r.0 b.net.switch_ports r.1 in
+        let there_is : at b.net.switch_ports r.0.0 ≡ Some r.0.1 = among_at r.0.0 r.0.1 b.net.switch_ports sorted f.0 in
         let both = both_true (same_name r.0.1.switch a) (is_group_member group r.0.1) f.1 in
-        let own = keys.port_has r.0.0 r.0.1 found in
-        let on = on_ports r.0.0 own.0 own.1 (own.3 ∙ (bytes_decides r.0.1.switch a).0 both.0) in
-        let kept = among_filter (λ (e : Name × ℕ). is_record_in group (at b.net.switch_ports e.0)) (r.0.0, own.0.key) ports on (ap (λ o. is_record_in group o) found ∙ both.1) in
-        subst (λ n. Among n (keys_of (group_among b group ports))) (sym r.2) (among_map (λ (e : Name × ℕ). e.0) (r.0.0, own.0.key) (group_among b group ports) kept)
+        let own = keys.port_has r.0.0 r.0.1 there_is in
+        let listed = on_ports r.0.0 own.0 own.1 (own.3 ∙ (bytes_decides r.0.1.switch a).0 both.0) in
+        let kept = among_filter (λ (e : Name × ℕ). is_record_in group (at b.net.switch_ports e.0)) (r.0.0, own.0.key) ports listed (ap (λ o. is_record_in group o) there_is ∙ both.1) in
+        subst (λ n. Among n (keys_of found)) (sym r.2) (among_map (λ (e : Name × ℕ). e.0) (r.0.0, own.0.key) found kept)
 
-    found_member : (q : Name) → Among q (keys_of (group_among b group ports)) → Among q (members b.net a group)
+    found_member : (q : Name) → Among q (keys_of found) → Among q (keys_of entries)
     found_member q m =
-        let r = map_among (λ (e : Name × ℕ). e.0) q (group_among b group ports) m in
+        let r = map_among (λ (e : Name × ℕ). e.0) q found m in
         let f = filter_among (λ (e : Name × ℕ). is_record_in group (at b.net.switch_ports e.0)) r.0 ports r.1 in
-        let port = record_on r.0 f.0 in
-        let both = true_both (same_name port.0.switch a) (is_group_member group port.0) ((bytes_decides port.0.switch a).1 port.2) (ap (λ o. is_record_in group o) (sym port.1) ∙ f.1) in
-        let kept = among_filter of_group (r.0.0, port.0) b.net.switch_ports (at_among b.net.switch_ports r.0.0 port.0 port.1) both in
-        subst (λ n. Among n (members b.net a group)) (sym r.2) (among_map (λ (e : Name × SwitchPort). e.0) (r.0.0, port.0) (filter of_group b.net.switch_ports) kept)
+        let port = found_record r.0 f.1 in
+        let both = true_both (same_name port.0.switch a) (is_group_member group port.0) ((bytes_decides port.0.switch a).1 (switch_is r.0 f.0 port.0 port.1)) port.2 in
+        let kept = among_filter (of_group a group) (r.0.0, port.0) b.net.switch_ports (at_among b.net.switch_ports r.0.0 port.0 port.1) both in
+        subst (λ n. Among n (keys_of entries)) (sym r.2) (among_map (λ (e : Name × SwitchPort). e.0) (r.0.0, port.0) entries kept)
 
-    pub members_are : members b.net a group ≡ keys_of (group_among b group ports)
-    members_are =
-        one_order (members b.net a group) (keys_of (group_among b group ports)) (filter_sorted of_group b.net.switch_ports sorted)
+    -- the names of the members are those that are found
+    names_are : keys_of entries ≡ keys_of found
+    names_are =
+        one_order (keys_of entries) (keys_of found) (filter_sorted (of_group a group) b.net.switch_ports sorted)
         (filter_sorted (λ e. is_record_in group (at b.net.switch_ports e.0)) ports ports_sorted) member_found found_member
 
-    -- as the flows of a chassis know them
-    here_same : (es : List (Name × ℕ)) → ((e : Name × ℕ) → Among e es → port_number b.keys e.0 ≡ Some e.1)
-        → map (λ q. member_of b q) (filter (λ q. is_at b.bindings q b.chassis) (keys_of es)) ≡ here_among b es
-    here_same [] numbers = refl
-    here_same (e ∷ es) numbers = by (is_at b.bindings e.0 b.chassis) (here_same es (λ f m. numbers f (there m)))
-      where
-        number : member_of b e.0 ≡ record { key = e.1; zone = unwrap_or (zone_of b e.0) 0 }
-        number = ap (λ o. record { key = unwrap_or o 0; zone = unwrap_or (zone_of b e.0) 0 }) (numbers e here)
+    -- the home of a member, by its name
+    home_is : (e : Name × SwitchPort) → Among e entries → home_of (config_of b) e.1 ≡ home_named b e.0
+    home_is e m = ap (λ o. home_if (home_of (config_of b)) o) (sym (entry_on b.net sorted named a group e m).0)
 
-        by : (at_home : Bool) → map (λ q. member_of b q) (filter (λ q. is_at b.bindings q b.chassis) (keys_of es)) ≡ here_among b es
-            → map (λ q. member_of b q) (cond at_home (e.0 ∷ filter (λ q. is_at b.bindings q b.chassis) (keys_of es)) (filter (λ q. is_at b.bindings q b.chassis) (keys_of es)))
-            ≡ map (λ f. record { key = f.1; zone = unwrap_or (zone_of b f.0) 0 }) (cond at_home (e ∷ filter (λ f. is_at b.bindings f.0 b.chassis) es) (filter (λ f. is_at b.bindings f.0 b.chassis) es))
-        by true rest = λ i. number i ∷ rest i
-        by false rest = rest
+    -- ---- those that are reached here
 
-    pub here_are : members_here b a group ≡ here_among b (group_among b group ports)
-    here_are =
-        ap (λ ms. map (λ q. member_of b q) (filter (λ q. is_at b.bindings q b.chassis) ms)) members_are
-        ∙ here_same (group_among b group ports) (λ e m. number_on e (filter_among (λ (f : Name × ℕ). is_record_in group (at b.net.switch_ports f.0)) e ports m).0)
+    module _ (arrived : Bool) where
+      abbrev reached_port : SwitchPort → Bool
+      reached_port q = is_reached_at arrived b.chassis (home_of (config_of b) q)
 
-    -- and their homes
-    bound_same : (c : Name) (es : List (Name × ℕ)) → list_any (λ q. is_at b.bindings q c) (keys_of es) ≡ list_any (λ home. same_name home c) (bound_among b es)
+      abbrev reached_name : Name → Bool
+      reached_name q = is_reached_at arrived b.chassis (home_named b q)
+
+      -- by their records, and by their names
+      by_names : (es : List (Name × SwitchPort)) → ((e : Name × SwitchPort) → Among e es → Among e entries)
+          → map (λ (q : SwitchPort). member_of b q.name) (filter reached_port (values_of es)) ≡ map (λ q. member_of b q) (filter reached_name (keys_of es))
+      by_names [] each = refl
+      by_names (e ∷ es) each =
+          ap (λ t. map (λ (q : SwitchPort). member_of b q.name) (cond t (e.1 ∷ filter reached_port (values_of es)) (filter reached_port (values_of es)))) (ap (λ h. is_reached_at arrived b.chassis h) (home_is e (each e here)))
+          ∙ by (reached_name e.0) (by_names es (λ f m. each f (there m)))
+        where
+          name_is : e.1.name ≡ e.0
+          name_is = (entry_on b.net sorted named a group e (each e here)).1
+
+          by : (t : Bool) → map (λ (q : SwitchPort). member_of b q.name) (filter reached_port (values_of es)) ≡ map (λ q. member_of b q) (filter reached_name (keys_of es))
+              → map (λ (q : SwitchPort). member_of b q.name) (cond t (e.1 ∷ filter reached_port (values_of es)) (filter reached_port (values_of es)))
+              ≡ map (λ q. member_of b q) (cond t (e.0 ∷ filter reached_name (keys_of es)) (filter reached_name (keys_of es)))
+          by true rest = λ i. member_of b (name_is i) ∷ rest i
+          by false rest = rest
+
+      -- as the flows of a chassis know them
+      here_same : (es : List (Name × ℕ)) → ((e : Name × ℕ) → Among e es → port_number b.keys e.0 ≡ Some e.1) → map (λ q. member_of b q) (filter reached_name (keys_of es)) ≡ here_among b arrived es
+      here_same [] numbers = refl
+      here_same (e ∷ es) numbers = by (reached_name e.0) (here_same es (λ f m. numbers f (there m)))
+        where
+          number : member_of b e.0 ≡ record { key = e.1; zone = unwrap_or (zone_of b e.0) 0 }
+          number = ap (λ o. record { key = unwrap_or o 0; zone = unwrap_or (zone_of b e.0) 0 }) (numbers e here)
+
+          by : (t : Bool) → map (λ q. member_of b q) (filter reached_name (keys_of es)) ≡ here_among b arrived es
+              → map (λ q. member_of b q) (cond t (e.0 ∷ filter reached_name (keys_of es)) (filter reached_name (keys_of es)))
+              ≡ map (λ f. record { key = f.1; zone = unwrap_or (zone_of b f.0) 0 }) (cond t (e ∷ filter (λ f. reached_name f.0) es) (filter (λ f. reached_name f.0) es))
+          by true rest = λ i. number i ∷ rest i
+          by false rest = rest
+
+      here_are : members_here b a group arrived ≡ here_among b arrived found
+      here_are =
+          ap (λ (ms : List SwitchPort). map (λ q. member_of b q.name) (filter reached_port ms)) (members_entries b.net a group)
+          ∙ by_names entries (λ e m. m)
+          ∙ ap (λ ns. map (λ q. member_of b q) (filter reached_name ns)) names_are
+          ∙ here_same found (λ e m. number_is e (filter_among (λ (f : Name × ℕ). is_record_in group (at b.net.switch_ports f.0)) e ports m).0)
+
+    -- ---- and their homes
+
+    any_named : (c : Name) (es : List (Name × SwitchPort)) → ((e : Name × SwitchPort) → Among e es → Among e entries)
+        → list_any (λ q. is_on c (home_of (config_of b) q)) (values_of es) ≡ list_any (λ q. is_on c (home_named b q)) (keys_of es)
+    any_named c [] each = refl
+    any_named c (e ∷ es) each =
+        let first = home_is e (each e here) in
+        let rest = any_named c es (λ f m. each f (there m)) in
+        λ i. is_on c (first i) || rest i
+
+    bound_same : (c : Name) (es : List (Name × ℕ)) → list_any (λ q. is_on c (home_named b q)) (keys_of es) ≡ list_any (λ home. same_name home c) (bound_among b es)
     bound_same c [] = refl
-    bound_same c (e ∷ es) = by (at b.bindings e.0) (bound_same c es)
+    bound_same c (e ∷ es) = by (home_named b e.0) (bound_same c es)
       where
-        by : (o : Option Name) → list_any (λ q. is_at b.bindings q c) (keys_of es) ≡ list_any (λ home. same_name home c) (bound_among b es)
-            → (is_home o c || list_any (λ q. is_at b.bindings q c) (keys_of es)) ≡ list_any (λ home. same_name home c) (cons_option o (bound_among b es))
-        by None rest = rest
-        by (Some home) rest = ap (λ t. same_name home c || t) rest
+        by : (h : Home) → list_any (λ q. is_on c (home_named b q)) (keys_of es) ≡ list_any (λ home. same_name home c) (bound_among b es)
+            → (is_on c h || list_any (λ q. is_on c (home_named b q)) (keys_of es)) ≡ list_any (λ home. same_name home c) (cons_option (one_home h) (bound_among b es))
+        by nowhere rest = rest
+        by (on home) rest = ap (λ t. same_name home c || t) rest
+        by everywhere rest = rest
 
-    pub homes_are : homes_of b a group ≡ others_among b (bound_among b (group_among b group ports))
-    homes_are =
-        ap (λ ms. filter (λ c. not (same_name c b.chassis) && list_any (λ q. is_at b.bindings q c) ms) b.all) members_are
-        ∙ (λ i. filter (λ c. not (same_name c b.chassis) && bound_same c (group_among b group ports) i) b.all)
+    bound_are : (c : Name) → list_any (λ q. is_on c (home_of (config_of b) q)) (members b.net a group) ≡ list_any (λ home. same_name home c) (bound_among b found)
+    bound_are c =
+        ap (λ ms. list_any (λ q. is_on c (home_of (config_of b) q)) ms) (members_entries b.net a group)
+        ∙ any_named c entries (λ e m. m)
+        ∙ ap (λ ns. list_any (λ q. is_on c (home_named b q)) ns) names_are
+        ∙ bound_same c found
+
+    homes_are : homes_of b a group ≡ others_among b (bound_among b found)
+    homes_are = λ i. filter (λ c. not (same_name c b.chassis) && bound_are c i) b.all
 
   module _ (dp : ℕ) (all : List (Name × ℕ)) (flows : List Flow) (is_all : all ≡ ports) where
     -- the rows that the compiler adds for the switch's groups
-    group_is : (group : Group) → rows_among b dp group (group_among b group all) ≡ group_rows dp group (homes_of b a group) (members_here b a group)
-    group_is group = ap (λ es. rows_among b dp group (group_among b group es)) is_all ∙ (λ i. group_rows dp group (sym (homes_are group) i) (sym (here_are group) i))
+    group_is : (group : Group) → rows_among b dp group (group_among b group all) ≡ rows_of_group b a dp group
+    group_is group = ap (λ es. rows_among b dp group (group_among b group es)) is_all ∙ (λ i. group_rows dp group (sym (homes_are group) i) (sym (here_are group false) i) (sym (here_are group true) i))
 
-    pub groups_are : (flows ++ rows_among b dp Flood (group_among b Flood all)) ++ rows_among b dp Unknown (group_among b Unknown all)
-        ≡ flows ++ (group_rows dp Flood (homes_of b a Flood) (members_here b a Flood) ++ group_rows dp Unknown (homes_of b a Unknown) (members_here b a Unknown))
-    groups_are =
-        (λ i. (flows ++ group_is Flood i) ++ group_is Unknown i)
-        ∙ append_assoc flows (group_rows dp Flood (homes_of b a Flood) (members_here b a Flood)) (group_rows dp Unknown (homes_of b a Unknown) (members_here b a Unknown))
+    pub groups_are : (flows ++ rows_among b dp Flood (group_among b Flood all)) ++ rows_among b dp Unknown (group_among b Unknown all) ≡ flows ++ (rows_of_group b a dp Flood ++ rows_of_group b a dp Unknown)
+    groups_are = (λ i. (flows ++ group_is Flood i) ++ group_is Unknown i) ∙ append_assoc flows (rows_of_group b a dp Flood) (rows_of_group b a dp Unknown)

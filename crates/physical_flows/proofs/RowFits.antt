@@ -1,5 +1,5 @@
 -- When the cube of a row holds a packet, and what follows where it does.
-use Rattle.std.specs.Prelude.{◌≡◌, ◌<◌, ◌-◌, ◌^◌, ℕ, Bool, cond, Some, None, Option, bit_and}
+use Rattle.std.specs.Prelude.{◌≡◌, ◌<◌, ◌-◌, ◌^◌, ℕ, Bool, false, cond, Some, None, Option, bit_and}
 use Rattle.std.specs.Int.Bits.{and_zero_r}
 use Rattle.std.proofs.Common.{sym, ap, ◌∙◌}
 use Rattle.ovn_base.specs.declared.name.Name.{Name}
@@ -14,7 +14,7 @@ use Rattle.inet_packet.specs.Fits.{BitsFit, EntryFits, CubeFits}
 use Rattle.physical_flows.specs.GroupKeys.{group_key}
 use Rattle.net_model.specs.declared.crossing.Group.{Group}
 use Rattle.inet_packet.specs.Cubes.{any, exactly, everything}
-use Rattle.physical_flows.specs.Rows.{arrived_is, on_entry, on_tunnel, on_exit, on_return, on_group}
+use Rattle.physical_flows.specs.Rows.{arrived_is, on_entry, on_tunnel, on_exit, on_return, on_way, on_group}
 
 -- ---- one field
 
@@ -79,6 +79,10 @@ module _ (regs : Regs) (packet : Packet) where
       pub exit_fits : CubeFits (on_exit dp key) regs packet
       exit_fits = asking_fits None (exactly 24 dp) any (exactly 16 key) any tt on_fits any_from to_fits any_word
 
+      -- the flag `arrived` is off
+      pub way_fits : bit_and regs.flags.0 16 ≡ 0 → CubeFits (on_way dp key) regs packet
+      way_fits off = asking_fits None (exactly 24 dp) any (exactly 16 key) (arrived_is false) tt on_fits any_from to_fits off
+
       -- the flag `loopback` is off
       pub return_fits : regs.in_port ≡ key → bit_and regs.flags.0 1 ≡ 0 → CubeFits (on_return dp key) regs packet
       return_fits entered off = asking_fits None (exactly 24 dp) (exactly 16 key) (exactly 16 key) (exactly 1 0) tt on_fits (exactly_fits 16 key regs.in_port short entered) to_fits off
@@ -96,6 +100,13 @@ module _ (regs : Regs) (packet : Packet) where
 
   pub fits_exit : (dp key : ℕ) → regs.dp < 2 ^ 24 → regs.out_port < 2 ^ 16 → CubeFits (on_exit dp key) regs packet → (regs.dp ≡ dp) × (regs.out_port ≡ key)
   fits_exit dp key small short fits = (exactly_is 24 dp regs.dp small fits.place.dp_fits, exactly_is 16 key regs.out_port short fits.place.out_port_fits)
+
+  pub fits_way : (dp key : ℕ) → regs.dp < 2 ^ 24 → regs.out_port < 2 ^ 16 → CubeFits (on_way dp key) regs packet → (regs.dp ≡ dp) × (regs.out_port ≡ key) × (bit_and regs.flags.0 16 ≡ 0)
+  fits_way dp key small short fits = (
+    exactly_is 24 dp regs.dp small fits.place.dp_fits,
+    exactly_is 16 key regs.out_port short fits.place.out_port_fits,
+    fits.state.flags_fits,
+  )
 
   pub fits_group : (dp : ℕ) (group : Group) (arrived : Bool) → regs.dp < 2 ^ 24 → regs.out_port < 2 ^ 16 → CubeFits (on_group dp group arrived) regs packet
       → (regs.dp ≡ dp) × (regs.out_port ≡ group_key group) × (bit_and regs.flags.0 16 ≡ cond arrived 16 0)

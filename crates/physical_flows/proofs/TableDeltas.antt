@@ -33,7 +33,7 @@ module _ (exact : (f g : Flow) → (same_flow f g ≡ true) ↔ (f ≡ g)) where
   ]
 
   pub around_or_not : AroundDecidedLaw
-  around_or_not b have f = elim (row_or_not b (around_rows b) (around_there b) f) [
-    | inl row ↦ inl ((around_set b have f).0 row)
-    | inr none ↦ inr (λ r. none ((around_set b have f).1 r))
+  around_or_not b keyed f = elim (row_or_not b (around_rows b) (around_there b) f) [
+    | inl row ↦ inl ((around_set b keyed f).0 row)
+    | inr none ↦ inr (λ r. none ((around_set b keyed f).1 r))
   ]

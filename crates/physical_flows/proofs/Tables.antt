@@ -17,19 +17,25 @@ module _ (b : Basis) (f : Flow) where
 
   table_of_remote : RemoteRow b f → f.table ≡ 32
   table_of_remote (RemoteRow.remote q port dp key home on bound apart e) = table_is _ e
+  table_of_remote (RemoteRow.away x home is at_home apart e) = table_is _ e
   table_of_remote (RemoteRow.spread a dp group on e) = table_is _ e
   table_of_remote (RemoteRow.stay e) = table_is _ e
 
   table_of_home : HomeRow b f → f.table ≡ 33
   table_of_home (HomeRow.home q port dp key zone on home e) = table_is _ e
+  table_of_home (HomeRow.passes x is at_home e) = table_is _ e
+  table_of_home (HomeRow.enters x is at_home e) = table_is _ e
   table_of_home (HomeRow.copies a dp group arrived on e) = table_is _ e
 
   table_of_return : ReturnRow b f → f.table ≡ 34
   table_of_return (ReturnRow.back q port dp key on e) = table_is _ e
+  table_of_return (ReturnRow.back_in q port dp key on e) = table_is _ e
   table_of_return (ReturnRow.leave e) = table_is _ e
 
   table_of_output : OutputRow b f → f.table ≡ 64
-  table_of_output (OutputRow.output q port dp key on e) = table_is _ e
+  table_of_output (OutputRow.output q port dp key on virtual e) = table_is _ e
+  table_of_output (OutputRow.patch x partner is leads e) = table_is _ e
+  table_of_output (OutputRow.no_peer x is leads e) = table_is _ e
 
   -- so each is of one of these
   around_at : (table : ℕ) → is_around table ≡ true → f.table ≡ table → is_around f.table ≡ true

@@ -1,45 +1,52 @@
 -- Which units' rows an event changes.
-use Rattle.std.specs.Prelude.{◌≡◌, ◌≢◌, ◌⊎◌, Bool, true, false, ◌&&◌, ◌||◌, not, cond, List, [], ◌∷◌, filter, Option, Some, None, is_some, refl}
+use Rattle.std.specs.Prelude.{◌≡◌, ◌≢◌, ◌⊎◌, ◌++◌, ℕ, Bool, true, false, ◌&&◌, ◌||◌, not, cond, List, [], ◌∷◌, filter, Option, Some, None, is_some, option_map, unwrap_or, refl}
 use Rattle.std.specs.BTreeSet.{insert_key}
 use Rattle.std.specs.Cmp.Lexicographic.{slice_cmp}
 use Rattle.std.specs.List.{list_any}
-use Rattle.std.specs.Map.{keys_of}
+use Rattle.std.specs.Map.{values_of}
 use Rattle.std.specs.Ordering.{nat_cmp, match_ordering}
 use Rattle.std.specs.declared.cmp.Ordering.{Ordering}
 use Rattle.std.specs.declared.cmp.Ordering.TheVariants.{Less, Equal, Greater}
 use mathlib.Core.Path.{sym, ap, subst, ◌∙◌}
 use mathlib.Core.Logic.{inl, inr}
 use Rattle.std.proofs.lemmas.Bool.{cases_Bool, false≢true}
-use Rattle.std.proofs.lemmas.Option.{same_Some}
+use Rattle.std.proofs.lemmas.Option.{none-some, same_Some}
 use Rattle.ovn_base.specs.lists.Among.{Among, there}
 use Rattle.ovn_base.specs.names.ByName.{at, put, IsByName}
 use Rattle.ovn_base.specs.names.SameName.{bytes_decides, same_name}
 use Rattle.ovn_base.specs.declared.name.Name.{Name}
-use Rattle.ovn_base.proofs.AmongLaws.{among_same, map_among, filter_among}
-use Rattle.ovn_base.proofs.ByNameLaws.{among_at, put_other}
+use Rattle.ovn_base.proofs.AmongLaws.{among_same}
+use Rattle.ovn_base.proofs.ByNameLaws.{put_other}
 use Rattle.ovn_base.proofs.SameEntries.{same_found}
 use Rattle.conn_zones.specs.Zoning.{GivenNumbers}
-use Rattle.flow_table.specs.declared.flow.Flow.{Flow}
+use Rattle.conn_zones.specs.declared.numbers.ZoneUse.{ZoneUse}
+use Rattle.conn_zones.specs.declared.numbers.ZoneUse.TheVariants as zone_use
 use Rattle.nb_records.specs.Network.{Network}
+use Rattle.nb_records.specs.Routers.{Partner, switch_side, router_side, partner_of_router_port, partner_of_switch_port}
+use Rattle.nb_records.specs.Switches.{is_named, is_virtual, is_virtual_kind, router_port_behind}
+use Rattle.nb_records.specs.declared.router.Router.{Router}
+use Rattle.nb_records.specs.declared.router.RouterPort.{RouterPort}
+use Rattle.nb_records.specs.declared.switch.PortKind.{PortKind}
+use Rattle.nb_records.specs.declared.switch.PortKind.TheVariants as port_kind
 use Rattle.nb_records.specs.declared.switch.SwitchPort.{SwitchPort}
+use Rattle.net_model.specs.Config.{Home, nowhere, on, home_if, chassis_home, home_of_router, home_of_router_port, home_by_kind, home_of, is_on}
+use Rattle.net_model.specs.Targets.{members}
 use Rattle.tunnel_keys.specs.Keys.{Keys}
 use Rattle.tunnel_keys.proofs.Lists.{at_filter, filter_at, filter_sorted}
 use Rattle.net_model.specs.declared.crossing.Group.{Group}
 use Rattle.physical_flows.specs.declared.unit.FlowUnit.{FlowUnit}
 use Rattle.physical_flows.specs.declared.unit.FlowUnit.TheVariants as unit
 use Rattle.physical_flows.specs.Around.{around_rows}
-use Rattle.physical_flows.specs.Homes.{is_home, is_at, is_group_member, members}
-use Rattle.physical_flows.specs.Stages.{Basis, zone_of}
+use Rattle.physical_flows.specs.Homes.{ArePortsNamed}
+use Rattle.physical_flows.specs.Stages.{Basis, config_of, number_here, beyond}
+use Rattle.physical_flows.specs.TableList.{homed_rows, is_group_member, way_row}
 use Rattle.physical_flows.specs.Touching as touching
 use Rattle.physical_flows.specs.Touching.{BindTouches, ChassisTouches, EditTouches}
-use Rattle.physical_flows.specs.Units.{ChangeOnly}
-use Rattle.physical_flows.proofs.UnitReads.{AreReadSo, IsSameMember, around_read_so, only_these}
+use Rattle.physical_flows.specs.Units.{ChangeOnly, patch_rows}
+use Rattle.physical_flows.proofs.GroupMembers.{and_first, of_group, entries_in, members_entries, member_on}
+use Rattle.physical_flows.proofs.UnitReads.{IsSameMember, has_member_at, only_these}
 
 -- ---- tests
-
-and_first : (x y : Bool) → (x && y) ≡ true → x ≡ true
-and_first true y e = refl
-and_first false y e = absurd (false≢true e)
 
 and_false : (x : Bool) → (x && false) ≡ false
 and_false true = refl
@@ -55,18 +62,6 @@ other_names a b apart = elim (cases_Bool (same_name a b)) [
   | inr other ↦ other
 ]
 
--- ---- members
-
--- the record of a member is one of the switch
-member_on : (net : Network) → IsByName net.switch_ports → (a : Name) (group : Group) (q : Name) → Among q (members net a group) → (port : SwitchPort) × (at net.switch_ports q ≡ Some port) × (port.switch ≡ a)
-member_on net sorted a group q m =
-    let of_group = λ (e : Name × SwitchPort). same_name e.1.switch a && is_group_member group e.1 in
-    let r = map_among (λ (e : Name × SwitchPort). e.0) q (filter of_group net.switch_ports) m in
-    let f = filter_among of_group r.0 net.switch_ports r.1 in
-    let found = among_at r.0.0 r.0.1 net.switch_ports sorted f.0 in
-    let on = and_first (same_name r.0.1.switch a) (is_group_member group r.0.1) f.1 in
-    (r.0.1, ap (λ n. at net.switch_ports n) r.2 ∙ found, (bytes_decides r.0.1.switch a).0 on)
-
 -- ---- the units of a port and its switch
 
 not_switch : (s q a : Name) → (¬ Among (unit.Switch a) (unit.Switch s ∷ unit.Port q ∷ [])) → a ≢ s
@@ -75,25 +70,77 @@ not_switch s q a out e = out (among_same (unit.Switch a) (unit.Switch s) (unit.P
 not_port_of : (s q p : Name) → (¬ Among (unit.Port p) (unit.Switch s ∷ unit.Port q ∷ [])) → p ≢ q
 not_port_of s q p out e = out (there (among_same (unit.Port p) (unit.Port q) [] (ap (λ n. unit.Port n) e)))
 
+-- ---- a port that leads into another datapath, where its home and where it leads stay
+
+patch_same : (before after : Basis) (dp key : ℕ) (home home_after : Home) (partner : Option Partner) → after.chassis ≡ before.chassis → home_after ≡ home → option_map (beyond after) partner ≡ option_map (beyond before) partner
+    → patch_rows after (record { dp = dp; key = key; home = home_after; partner = partner }) ≡ patch_rows before (record { dp = dp; key = key; home = home; partner = partner })
+patch_same before after dp key home home_after partner chassis homes ways = λ i. homed_rows (chassis i) (homes i) dp key ++ way_row dp key (ways i) ∷ []
+
 -- ---- a port is bound
 
-module _ (rows : Basis → FlowUnit → List Flow) (read : AreReadSo rows) (before : Basis) (q home : Name) (port : SwitchPort) (zones : GivenNumbers) where
+module _ (before : Basis) (q home : Name) (port : SwitchPort) (zones : GivenNumbers) where
   abbrev bound : Basis
   bound = record before { bindings = put before.bindings q home; zones = zones }
 
-  module _ (found : at before.net.switch_ports q ≡ Some port) (sorted : IsByName before.net.switch_ports) (others : (p : Name) → p ≢ q → zone_of bound p ≡ zone_of before p) where
-    bound_member : (p : Name) → p ≢ q → IsSameMember before bound p
-    bound_member p apart = record { number = refl; home = put_other before.bindings q home p apart; zone = others p apart }
+  bound_home : (p : SwitchPort) → p.name ≢ q → home_of (config_of bound) p ≡ home_of (config_of before) p
+  bound_home p apart = by p.kind
+    where
+      by : (k : PortKind) → home_by_kind (config_of bound) p k ≡ home_by_kind (config_of before) p k
+      by port_kind.Virtual = ap (λ o. home_if on o) (put_other before.bindings q home p.name apart)
+      by port_kind.Router = refl
 
-    bound_apart : (a : Name) → a ≢ port.switch → (group : Group) (p : Name) → Among p (members before.net a group) → p ≢ q
+  -- the home of a port that leads to a router doesn't follow from bindings
+  leading_home : (p : SwitchPort) → is_virtual p ≡ false → home_of (config_of bound) p ≡ home_of (config_of before) p
+  leading_home p leads = by p.kind leads
+    where
+      by : (k : PortKind) → is_virtual_kind k ≡ false → home_by_kind (config_of bound) p k ≡ home_by_kind (config_of before) p k
+      by port_kind.Virtual leads = absurd (false≢true (sym leads))
+      by port_kind.Router leads = refl
+
+  module _ (found : at before.net.switch_ports q ≡ Some port) (sorted : IsByName before.net.switch_ports) (named : ArePortsNamed before.net)
+      (others : (z : ZoneUse) → z ≢ zone_use.Port q → number_here bound z ≡ number_here before z) where
+    port_zone : (p : Name) → p ≢ q → number_here bound (zone_use.Port p) ≡ number_here before (zone_use.Port p)
+    port_zone p apart = others (zone_use.Port p) (λ same. apart (name_of same))
+      where
+        name_in : ZoneUse → Name
+        name_in (zone_use.Port n) = n
+        name_in (zone_use.Dnat n) = n
+        name_in (zone_use.Snat n) = n
+
+        name_of : zone_use.Port p ≡ zone_use.Port q → p ≡ q
+        name_of same = ap name_in same
+
+    bound_member : (p : SwitchPort) → p.name ≢ q → IsSameMember before bound p
+    bound_member p apart = record { number = refl; home = bound_home p apart; zone = port_zone p.name apart }
+
+    bound_apart : (a : Name) → a ≢ port.switch → (group : Group) (p : SwitchPort) → Among p (members before.net a group) → p.name ≢ q
     bound_apart a apart group p m same =
-        let on = member_on before.net sorted a group p m in
-        let one = same_Some on.0 port (sym on.1 ∙ ap (λ n. at before.net.switch_ports n) same ∙ found) in
-        apart (sym on.2 ∙ ap (λ (r : SwitchPort). r.switch) one)
+        let of = member_on before.net sorted named a group p m in
+        let one = same_Some p port (sym of.0 ∙ ap (λ n. at before.net.switch_ports n) same ∙ found) in
+        apart (sym of.1 ∙ ap (λ (r : SwitchPort). r.switch) one)
 
-    bound_touches : ChangeOnly (unit.Switch port.switch ∷ unit.Port q ∷ []) (rows before) (rows bound)
+    bound_way : (partner : Option Partner) → option_map (beyond bound) partner ≡ option_map (beyond before) partner
+    bound_way None = refl
+    bound_way (Some (switch_side p)) = refl
+    bound_way (Some (router_side r)) =
+        let dnat = others (zone_use.Dnat r.router) (λ same. dnat_apart r.router q same) in
+        let snat = others (zone_use.Snat r.router) (λ same. snat_apart r.router q same) in
+        λ i. Some (record { dp = (beyond before (router_side r)).dp; in_port = (beyond before (router_side r)).in_port; z_dnat = unwrap_or (dnat i) 0; z_snat = unwrap_or (snat i) 0 })
+      where
+        is_port : ZoneUse → Bool
+        is_port (zone_use.Port n) = true
+        is_port (zone_use.Dnat n) = false
+        is_port (zone_use.Snat n) = false
+
+        dnat_apart : (a p : Name) → zone_use.Dnat a ≢ zone_use.Port p
+        dnat_apart a p same = false≢true (ap is_port same)
+
+        snat_apart : (a p : Name) → zone_use.Snat a ≢ zone_use.Port p
+        snat_apart a p same = false≢true (ap is_port same)
+
+    bound_touches : ChangeOnly (unit.Switch port.switch ∷ unit.Port q ∷ []) (around_rows before) (around_rows bound)
     bound_touches =
-        only_these rows read before bound (unit.Switch port.switch ∷ unit.Port q ∷ [])
+        only_these before bound (unit.Switch port.switch ∷ unit.Port q ∷ [])
         (λ a out. record {
           chassis = refl;
           entry = refl;
@@ -102,16 +149,29 @@ module _ (rows : Basis → FlowUnit → List Flow) (read : AreReadSo rows) (befo
           each = λ group p m. bound_member p (bound_apart a (not_switch port.switch q a out) group p m);
           homes = λ group. refl;
         })
-        (λ p out. record { chassis = refl; entry = refl; beneath = λ r is. refl; own = bound_member p (not_port_of port.switch q p out) })
+        (λ p out. record {
+          chassis = refl;
+          entry = refl;
+          beneath = λ r is. refl;
+          number = refl;
+          home = put_other before.bindings q home p (not_port_of port.switch q p out);
+          zone = port_zone p (not_port_of port.switch q p out);
+          leads = λ r is leads dp key.
+              patch_same before bound dp key (home_of (config_of before) r) (home_of (config_of bound) r) (partner_of_switch_port before.net r) refl (leading_home r leads) (bound_way (partner_of_switch_port before.net r));
+        })
+        (λ p out. record {
+          entry = refl;
+          beneath = λ r is. refl;
+          number = λ r is. refl;
+          leads = λ r is dp key.
+              patch_same before bound dp key (home_of_router_port (config_of before) r) (home_of_router_port (config_of bound) r) (partner_of_router_port before.net r) refl refl (bound_way (partner_of_router_port before.net r));
+        })
 
 -- a port that is bound changes its own rows and those of its switch, on each chassis
-binds : (rows : Basis → FlowUnit → List Flow) → AreReadSo rows → BindTouches rows
-binds rows read before after q home port zones is found sorted others =
-    subst (λ b. ((p : Name) → p ≢ q → zone_of b p ≡ zone_of before p) → ChangeOnly (unit.Switch port.switch ∷ unit.Port q ∷ []) (rows before) (rows b)) (sym is)
-    (λ kept. bound_touches rows read before q home port zones found sorted kept) others
-
 pub around_bind : BindTouches around_rows
-around_bind = binds around_rows around_read_so
+around_bind before after q home port zones is found sorted named others =
+    subst (λ b. ((z : ZoneUse) → z ≢ zone_use.Port q → number_here b z ≡ number_here before z) → ChangeOnly (unit.Switch port.switch ∷ unit.Port q ∷ []) (around_rows before) (around_rows b)) (sym is)
+    (λ kept. bound_touches before q home port zones found sorted named kept) others
 
 -- ---- a chassis is added
 
@@ -125,49 +185,119 @@ kept_by_test test (d ∷ names) c e = by (slice_cmp nat_cmp c d) (kept_by_test t
     by Equal rest = refl
     by Greater rest = ap (λ ns. cond (test d) (d ∷ ns) ns) rest
 
--- nobody is bound to a chassis that isn't there
-none_bound : (bindings : List (Name × Name)) (all : List Name) (c : Name) → ((q home : Name) → at bindings q ≡ Some home → Among home all) → (¬ Among c all) → (q : Name) → is_at bindings q c ≡ false
-none_bound bindings all c homes new q = by (at bindings q) refl
+any_by_test : (test : Name → Bool) (names : List Name) (c : Name) → test c ≡ false → list_any test (insert_key (slice_cmp nat_cmp) names c) ≡ list_any test names
+any_by_test test [] c e = ap (λ b. b || false) e
+any_by_test test (d ∷ names) c e = by (slice_cmp nat_cmp c d) (any_by_test test names c e)
   where
-    by : (o : Option Name) → at bindings q ≡ o → is_home o c ≡ false
-    by None is = refl
-    by (Some home) is = other_names home c (λ same. new (subst (λ n. Among n all) same (homes q home is)))
+    by : (o : Ordering) → list_any test (insert_key (slice_cmp nat_cmp) names c) ≡ list_any test names
+        → list_any test (match_ordering o (c ∷ d ∷ names) (d ∷ names) (d ∷ insert_key (slice_cmp nat_cmp) names c)) ≡ list_any test (d ∷ names)
+    by Less rest = ap (λ b. b || list_any test (d ∷ names)) e
+    by Equal rest = refl
+    by Greater rest = ap (λ b. test d || b) rest
 
-module _ (rows : Basis → FlowUnit → List Flow) (read : AreReadSo rows) (before : Basis) (c : Name) where
+module _ (before : Basis) (c : Name) where
   abbrev with_chassis : Basis
   with_chassis = record before { all = insert_key (slice_cmp nat_cmp) before.all c }
 
-  module _ (new : ¬ Among c before.all) (homes : (q home : Name) → at before.bindings q ≡ Some home → Among home before.all) where
-    abbrev is_other : Name → Group → Name → Bool
-    is_other a group d = not (same_name d before.chassis) && list_any (λ q. is_at before.bindings q d) (members before.net a group)
+  module _ (new : ¬ Among c before.all) (homes : (q home : Name) → at before.bindings q ≡ Some home → Among home before.all)
+      (waits : (a : Name) (router : Router) → at before.net.routers a ≡ Some router → router.chassis ≢ Some c) where
+    -- homes stay
+    chassis_kept : (o : Option Name) → o ≢ Some c → chassis_home (config_of with_chassis) o ≡ chassis_home (config_of before) o
+    chassis_kept None apart = refl
+    chassis_kept (Some d) apart = ap (λ t. cond t (on d) nowhere) (any_by_test (λ n. same_name n d) before.all c (other_names c d (λ same. apart (ap (λ n. Some n) (sym same)))))
 
-    untaken : (a : Name) (group : Group) → is_other a group c ≡ false
+    router_home_kept : (p : RouterPort) → home_of_router_port (config_of with_chassis) p ≡ home_of_router_port (config_of before) p
+    router_home_kept p = by (at before.net.routers p.router) refl
+      where
+        by : (o : Option Router) → at before.net.routers p.router ≡ o → home_if (home_of_router (config_of with_chassis)) o ≡ home_if (home_of_router (config_of before)) o
+        by None is = refl
+        by (Some router) is = chassis_kept router.chassis (waits p.router router is)
+
+    behind_kept : (o : Option RouterPort) → home_if (home_of_router_port (config_of with_chassis)) o ≡ home_if (home_of_router_port (config_of before)) o
+    behind_kept None = refl
+    behind_kept (Some p) = router_home_kept p
+
+    home_kept : (q : SwitchPort) → home_of (config_of with_chassis) q ≡ home_of (config_of before) q
+    home_kept q = by q.kind
+      where
+        by : (k : PortKind) → home_by_kind (config_of with_chassis) q k ≡ home_by_kind (config_of before) q k
+        by port_kind.Virtual = refl
+        by port_kind.Router = behind_kept (router_port_behind before.net q)
+
+    -- and nobody is at home on the new chassis
+    not_bound : (q : Name) → is_on c (home_if on (at before.bindings q)) ≡ false
+    not_bound q = by (at before.bindings q) refl
+      where
+        by : (o : Option Name) → at before.bindings q ≡ o → is_on c (home_if on o) ≡ false
+        by None is = refl
+        by (Some home) is = other_names home c (λ same. new (subst (λ n. Among n before.all) same (homes q home is)))
+
+    not_waiting : (o : Option Name) → o ≢ Some c → is_on c (chassis_home (config_of before) o) ≡ false
+    not_waiting None apart = refl
+    not_waiting (Some d) apart = by (is_named d before.all)
+      where
+        by : (t : Bool) → is_on c (cond t (on d) nowhere) ≡ false
+        by true = other_names d c (λ same. apart (ap (λ n. Some n) same))
+        by false = refl
+
+    not_behind : (o : Option RouterPort) → is_on c (home_if (home_of_router_port (config_of before)) o) ≡ false
+    not_behind None = refl
+    not_behind (Some p) = by (at before.net.routers p.router) refl
+      where
+        by : (o : Option Router) → at before.net.routers p.router ≡ o → is_on c (home_if (home_of_router (config_of before)) o) ≡ false
+        by None is = refl
+        by (Some router) is = not_waiting router.chassis (waits p.router router is)
+
+    not_there : (q : SwitchPort) → is_on c (home_of (config_of before) q) ≡ false
+    not_there q = by q.kind
+      where
+        by : (k : PortKind) → is_on c (home_by_kind (config_of before) q k) ≡ false
+        by port_kind.Virtual = not_bound q.name
+        by port_kind.Router = not_behind (router_port_behind before.net q)
+
+    untaken : (a : Name) (group : Group) → has_member_at before a group c ≡ false
     untaken a group =
-        ap (λ b. not (same_name c before.chassis) && b) (none_found (λ q. is_at before.bindings q c) (members before.net a group) (λ q. none_bound before.bindings before.all c homes new q))
+        ap (λ b. not (same_name c before.chassis) && b) (none_found (λ q. is_on c (home_of (config_of before) q)) (members before.net a group) (λ q. not_there q))
         ∙ and_false (not (same_name c before.chassis))
 
-    chassis_member : (q : Name) → IsSameMember before with_chassis q
-    chassis_member q = record { number = refl; home = refl; zone = refl }
+    chassis_way : (partner : Option Partner) → option_map (beyond with_chassis) partner ≡ option_map (beyond before) partner
+    chassis_way None = refl
+    chassis_way (Some (switch_side p)) = refl
+    chassis_way (Some (router_side r)) = refl
 
-    with_chassis_touches : ChangeOnly [] (rows before) (rows with_chassis)
+    with_chassis_touches : ChangeOnly [] (around_rows before) (around_rows with_chassis)
     with_chassis_touches =
-        only_these rows read before with_chassis []
+        only_these before with_chassis []
         (λ a out. record {
           chassis = refl;
           entry = refl;
           number = refl;
           in_group = λ group. refl;
-          each = λ group q m. chassis_member q;
-          homes = λ group. kept_by_test (is_other a group) before.all c (untaken a group);
+          each = λ group q m. record { number = refl; home = home_kept q; zone = refl };
+          homes = λ group. kept_by_test (has_member_at before a group) before.all c (untaken a group);
         })
-        (λ q out. record { chassis = refl; entry = refl; beneath = λ r is. refl; own = chassis_member q })
+        (λ q out. record {
+          chassis = refl;
+          entry = refl;
+          beneath = λ r is. refl;
+          number = refl;
+          home = refl;
+          zone = refl;
+          leads = λ r is leads dp key.
+              patch_same before with_chassis dp key (home_of (config_of before) r) (home_of (config_of with_chassis) r) (partner_of_switch_port before.net r) refl (home_kept r) (chassis_way (partner_of_switch_port before.net r));
+        })
+        (λ q out. record {
+          entry = refl;
+          beneath = λ r is. refl;
+          number = λ r is. refl;
+          leads = λ r is dp key.
+              patch_same before with_chassis dp key (home_of_router_port (config_of before) r) (home_of_router_port (config_of with_chassis) r) (partner_of_router_port before.net r) refl (router_home_kept r)
+              (chassis_way (partner_of_router_port before.net r));
+        })
 
 -- a chassis that is added changes no rows on the others: nobody is at home there yet
-comes : (rows : Basis → FlowUnit → List Flow) → AreReadSo rows → ChassisTouches rows
-comes rows read before after c is new homes = subst (λ b. ChangeOnly [] (rows before) (rows b)) (sym is) (with_chassis_touches rows read before c new homes)
-
 pub around_chassis : ChassisTouches around_rows
-around_chassis = comes around_rows around_read_so
+around_chassis before after c is new homes waits = subst (λ b. ChangeOnly [] (around_rows before) (around_rows b)) (sym is) (with_chassis_touches before c new homes waits)
 
 -- ---- records are edited
 
@@ -175,49 +305,73 @@ around_chassis = comes around_rows around_read_so
 abbrev pub IsSameBeside : List FlowUnit → Network → Network → Keys → Keys → Type 0
 IsSameBeside units net next keys keys_after = touching.IsSameBeside units net next keys keys_after
 
-module _ (rows : Basis → FlowUnit → List Flow) (read : AreReadSo rows) (before : Basis) (units : List FlowUnit) (next : Network) (keys : Keys) where
+module _ (before : Basis) (units : List FlowUnit) (next : Network) (keys : Keys) where
   abbrev edited : Basis
   edited = record before { net = next; keys = keys }
 
-  module _ (sorted : IsByName before.net.switch_ports) (sorted_after : IsByName next.switch_ports) (same : IsSameBeside units before.net next before.keys keys) where
-    port_kept : (q : Name) → (¬ Among (unit.Port q) units) → IsSameMember before edited q
-    port_kept q out = record { number = same.numbers q out; home = refl; zone = refl }
+  module _ (sorted : IsByName before.net.switch_ports) (sorted_after : IsByName next.switch_ports) (named : ArePortsNamed before.net) (same : IsSameBeside units before.net next before.keys keys) where
+    -- a port that isn't among the units is virtual
+    is_bound_kind : (q : Name) (port : SwitchPort) → at before.net.switch_ports q ≡ Some port → (¬ Among (unit.Port q) units) → is_virtual port ≡ true
+    is_bound_kind q port found out = elim (cases_Bool (is_virtual port)) [ inl virtual ↦ virtual | inr leads ↦ absurd (out (same.to_routers q port (inl found) leads)) ]
+
+    virtual_home : (port : SwitchPort) → is_virtual port ≡ true → home_of (config_of edited) port ≡ home_of (config_of before) port
+    virtual_home port virtual = by port.kind virtual
+      where
+        by : (k : PortKind) → is_virtual_kind k ≡ true → home_by_kind (config_of edited) port k ≡ home_by_kind (config_of before) port k
+        by port_kind.Virtual virtual = refl
+        by port_kind.Router virtual = absurd (false≢true virtual)
 
     module _ (a : Name) (out : ¬ Among (unit.Switch a) units) where
       -- a port that is or was on another switch than those of the units isn't among them
       untouched : (q : Name) (port : SwitchPort) → (at before.net.switch_ports q ≡ Some port) ⊎ (at next.switch_ports q ≡ Some port) → port.switch ≡ a → ¬ Among (unit.Port q) units
-      untouched q port is on m = out (subst (λ n. Among (unit.Switch n) units) on (same.on q port m is))
+      untouched q port is of m = out (subst (λ n. Among (unit.Switch n) units) of (same.on q port m is))
 
       module _ (group : Group) where
-        abbrev of_group : Name × SwitchPort → Bool
-        of_group e = same_name e.1.switch a && is_group_member group e.1
-
         passes_on : (port : SwitchPort) → (same_name port.switch a && is_group_member group port) ≡ true → port.switch ≡ a
         passes_on port passes = (bytes_decides port.switch a).0 (and_first (same_name port.switch a) (is_group_member group port) passes)
 
-        was_in : (q : Name) (port : SwitchPort) → at (filter of_group next.switch_ports) q ≡ Some port → at (filter of_group before.net.switch_ports) q ≡ Some port
+        was_in : (q : Name) (port : SwitchPort) → at (entries_in next a group) q ≡ Some port → at (entries_in before.net a group) q ≡ Some port
         was_in q port is =
-            let f = filter_at of_group next.switch_ports sorted_after q port is in
+            let f = filter_at (of_group a group) next.switch_ports sorted_after q port is in
             let kept = same.ports q (untouched q port (inr f.0) (passes_on port f.1)) in
-            at_filter of_group before.net.switch_ports sorted q port (sym kept ∙ f.0) f.1
+            at_filter (of_group a group) before.net.switch_ports sorted q port (sym kept ∙ f.0) f.1
 
-        stays_in : (q : Name) (port : SwitchPort) → at (filter of_group before.net.switch_ports) q ≡ Some port → at (filter of_group next.switch_ports) q ≡ Some port
+        stays_in : (q : Name) (port : SwitchPort) → at (entries_in before.net a group) q ≡ Some port → at (entries_in next a group) q ≡ Some port
         stays_in q port is =
-            let f = filter_at of_group before.net.switch_ports sorted q port is in
+            let f = filter_at (of_group a group) before.net.switch_ports sorted q port is in
             let kept = same.ports q (untouched q port (inl f.0) (passes_on port f.1)) in
-            at_filter of_group next.switch_ports sorted_after q port (kept ∙ f.0) f.1
+            at_filter (of_group a group) next.switch_ports sorted_after q port (kept ∙ f.0) f.1
 
         members_kept : members next a group ≡ members before.net a group
         members_kept =
-            ap (λ (es : List (Name × SwitchPort)). keys_of es)
-            (same_found (filter of_group next.switch_ports) (filter of_group before.net.switch_ports) (filter_sorted of_group next.switch_ports sorted_after) (filter_sorted of_group before.net.switch_ports sorted) was_in stays_in)
+            members_entries next a group
+            ∙ ap (λ (es : List (Name × SwitchPort)). values_of es)
+            (same_found (entries_in next a group) (entries_in before.net a group) (filter_sorted (of_group a group) next.switch_ports sorted_after) (filter_sorted (of_group a group) before.net.switch_ports sorted) was_in stays_in)
+            ∙ sym (members_entries before.net a group)
 
-        each_kept : (q : Name) → Among q (members before.net a group) → IsSameMember before edited q
-        each_kept q m = let on = member_on before.net sorted a group q m in port_kept q (untouched q on.0 (inl on.1) on.2)
+        each_kept : (q : SwitchPort) → Among q (members before.net a group) → IsSameMember before edited q
+        each_kept q m =
+            let of = member_on before.net sorted named a group q m in
+            let apart = untouched q.name q (inl of.0) of.1 in
+            record { number = same.numbers q.name apart; home = virtual_home q (is_bound_kind q.name q of.0 apart); zone = refl }
 
-    edited_touches : ChangeOnly units (rows before) (rows edited)
+    module _ (q : Name) (out : ¬ Among (unit.RouterPort q) units) where
+      no_router_port : (ports : List (Name × RouterPort)) → ((port : RouterPort) → at ports q ≡ Some port → Among (unit.RouterPort q) units) → at ports q ≡ None
+      no_router_port ports among = by (at ports q) refl
+        where
+          by : (o : Option RouterPort) → at ports q ≡ o → at ports q ≡ None
+          by None is = is
+          by (Some port) is = absurd (out (among port is))
+
+      was_none : at before.net.router_ports q ≡ None
+      was_none = no_router_port before.net.router_ports (λ port is. same.router_ports q port (inl is))
+
+      is_none : at next.router_ports q ≡ None
+      is_none = no_router_port next.router_ports (λ port is. same.router_ports q port (inr is))
+
+    edited_touches : ChangeOnly units (around_rows before) (around_rows edited)
     edited_touches =
-        only_these rows read before edited units
+        only_these before edited units
         (λ a out. record {
           chassis = refl;
           entry = ap (λ o. is_some o) (same.switches a out);
@@ -226,12 +380,23 @@ module _ (rows : Basis → FlowUnit → List Flow) (read : AreReadSo rows) (befo
           each = each_kept a out;
           homes = λ group. refl;
         })
-        (λ q out. record { chassis = refl; entry = same.ports q out; beneath = λ port is. same.beneath q port out is; own = port_kept q out })
+        (λ q out. record {
+          chassis = refl;
+          entry = same.ports q out;
+          beneath = λ port is. same.beneath q port out is;
+          number = same.numbers q out;
+          home = refl;
+          zone = refl;
+          leads = λ port is leads dp key. absurd (false≢true (sym leads ∙ is_bound_kind q port is out));
+        })
+        (λ q out. record {
+          entry = is_none q out ∙ sym (was_none q out);
+          beneath = λ port is. absurd (none-some port (sym (was_none q out) ∙ is));
+          number = λ port is. absurd (none-some port (sym (was_none q out) ∙ is));
+          leads = λ port is dp key. absurd (none-some port (sym (was_none q out) ∙ is));
+        })
 
 -- an edit of any records changes the rows of those units alone beside which all stays
-edits : (rows : Basis → FlowUnit → List Flow) → AreReadSo rows → EditTouches rows
-edits rows read before after units next keys is sorted sorted_after same =
-    subst (λ b. ChangeOnly units (rows before) (rows b)) (sym is) (edited_touches rows read before units next keys sorted sorted_after same)
-
 pub around_edit : EditTouches around_rows
-around_edit = edits around_rows around_read_so
+around_edit before after units next keys is sorted sorted_after named same =
+    subst (λ b. ChangeOnly units (around_rows before) (around_rows b)) (sym is) (edited_touches before units next keys sorted sorted_after named same)

@@ -11,7 +11,7 @@ use Rattle.physical_flows.specs.Bindings.{AreBound}
 use Rattle.physical_flows.specs.ChassisFlows.{basis_at}
 use Rattle.physical_flows.specs.RecordKeys.{HaveKeys}
 use Rattle.physical_flows.specs.Stages.{Basis}
-use Rattle.physical_flows.specs.Switched.{IsSwitched}
+use Rattle.physical_flows.specs.Switched.{IsKeyed}
 use Rattle.physical_flows.specs.Units.{HasRow, ChangeOnly, all_units, no_rows}
 use Rattle.physical_flows.specs.declared.unit.FlowUnit.{FlowUnit}
 use Rattle.switch_engine.specs.Proper.{IsProperFlow}
@@ -19,11 +19,11 @@ use Rattle.tunnel_keys.specs.Keys.{Keys}
 
 -- The rows of all units are exactly the flows of the tables around the pipelines.
 abbrev pub AroundSetLaw : Type 0
-AroundSetLaw = (b : Basis) → HaveKeys b.net b.keys → (f : Flow) → HasRow (around_rows b) f ↔ AroundFlow b f
+AroundSetLaw = (b : Basis) → IsKeyed b.net b.keys → (f : Flow) → HasRow (around_rows b) f ↔ AroundFlow b f
 
 -- Each flow is one of them or isn't, and those that are have one of the tables.
 abbrev pub AroundDecidedLaw : Type 0
-AroundDecidedLaw = (b : Basis) → HaveKeys b.net b.keys → (f : Flow) → AroundFlow b f ⊎ (¬ AroundFlow b f)
+AroundDecidedLaw = (b : Basis) → IsKeyed b.net b.keys → (f : Flow) → AroundFlow b f ⊎ (¬ AroundFlow b f)
 
 abbrev pub AroundTablesLaw : Type 0
 AroundTablesLaw = (b : Basis) (f : Flow) → AroundFlow b f → is_around f.table ≡ true
@@ -44,4 +44,4 @@ AroundUnitsLaw = (b : Basis) → ChangeOnly (all_units b.net) no_rows (around_ro
 
 -- and each of these stands once.
 abbrev pub UnitsOnceLaw : Type 0
-UnitsOnceLaw = (net : Network) (keys : Keys) → IsSwitched net keys → EachOnce (all_units net)
+UnitsOnceLaw = (net : Network) (keys : Keys) → IsKeyed net keys → EachOnce (all_units net)

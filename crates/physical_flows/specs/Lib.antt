@@ -7,6 +7,8 @@ pub mod Compiling
 pub mod GroupKeys
 pub mod Homes
 pub mod Numbers
+pub mod PlacedList
+pub mod Places
 pub mod RecordKeys
 pub mod Rows
 pub mod Stages

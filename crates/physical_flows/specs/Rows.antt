@@ -7,12 +7,13 @@ use Rattle.inet_packet.specs.declared.cube.Bits.{Bits}
 use Rattle.inet_packet.specs.declared.cube.Cube.{Cube}
 use Rattle.inet_packet.specs.declared.regs.At.TheVariants.{Local, Tunnel}
 use Rattle.inet_packet.specs.declared.regs.Reg.TheVariants.{Dp, InPort, ZIn, ZOut, Tracked, State, Blocked, Verdict, Arrived}
-use Rattle.flow_table.specs.declared.flow.Cause.TheVariants.{Loopback}
+use Rattle.flow_table.specs.declared.flow.Cause.TheVariants.{Loopback, NoPeer}
 use Rattle.flow_table.specs.declared.flow.Flow.{Flow}
 use Rattle.flow_table.specs.declared.flow.FlowOp.{FlowOp}
-use Rattle.flow_table.specs.declared.flow.FlowOp.TheVariants.{Set, Go, Drop, Header, Frame, Copies, Output}
+use Rattle.flow_table.specs.declared.flow.FlowOp.TheVariants.{Set, Go, Drop, Header, Frame, Copies, Output, Patch}
 use Rattle.flow_table.specs.declared.flow.Member.{Member}
 use Rattle.physical_flows.specs.declared.priorities.TheConstants.{BASE_PRIORITY, PHYSICAL_PRIORITY}
+use Rattle.physical_flows.specs.declared.beyond.Beyond.{Beyond}
 use Rattle.physical_flows.specs.GroupKeys.{group_key}
 use Rattle.net_model.specs.declared.crossing.Group.{Group}
 
@@ -37,6 +38,10 @@ on_return dp key = record (on_exit dp key) { in_port = exactly 16 key; flags = e
 -- the flag `arrived` is the word's bit of 16
 abbrev pub arrived_is : Bool → Bits
 arrived_is arrived = record { value = cond arrived 16 0; mask = 16 }
+
+-- packets to a port that did not come out of a tunnel
+abbrev pub on_way : ℕ → ℕ → Cube
+on_way dp key = record (on_exit dp key) { flags = arrived_is false }
 
 -- packets to a group, that came out of a tunnel or not
 abbrev pub on_group : ℕ → Group → Bool → Cube
@@ -68,6 +73,14 @@ stay_row = flow_of REMOTE_TABLE BASE_PRIORITY everything (Go LOCAL_TABLE ∷ [])
 abbrev pub home_row : ℕ → ℕ → ℕ → Flow
 home_row dp key zone = flow_of LOCAL_TABLE PHYSICAL_PRIORITY (on_exit dp key) (Set ZOut zone ∷ Go LOOPBACK_TABLE ∷ [])
 
+-- a port of a gateway router that is here, or one that leads to it, has no zone
+abbrev pub pass_row : ℕ → ℕ → Flow
+pass_row dp key = flow_of LOCAL_TABLE PHYSICAL_PRIORITY (on_exit dp key) (Go LOOPBACK_TABLE ∷ [])
+
+-- a distributed router is entered, and goes on, where the packet was sent
+abbrev pub enter_row : ℕ → ℕ → Flow
+enter_row dp key = flow_of LOCAL_TABLE PHYSICAL_PRIORITY (on_way dp key) (Go LOOPBACK_TABLE ∷ [])
+
 abbrev pub copies_row : ℕ → Group → Bool → List Member → Flow
 copies_row dp group arrived members = flow_of LOCAL_TABLE PHYSICAL_PRIORITY (on_group dp group arrived) (Copies members ∷ [])
 
@@ -78,6 +91,13 @@ return_row dp key = flow_of LOOPBACK_TABLE PHYSICAL_PRIORITY (on_return dp key) 
 abbrev pub leave_row : Flow
 leave_row = flow_of LOOPBACK_TABLE BASE_PRIORITY everything (Set Tracked 0 ∷ Set State 0 ∷ Set Blocked 0 ∷ Set Verdict 0 ∷ Go EGRESS_TRACK_TABLE ∷ [])
 
--- table 64: the packet goes out
+-- table 64: the packet goes out at a virtual port
 abbrev pub output_row : ℕ → Name → ℕ → Flow
 output_row dp name key = flow_of OUTPUT_TABLE PHYSICAL_PRIORITY (on_exit dp key) (Output name ∷ [])
+
+-- or it passes into another datapath, where the port has a partner there
+abbrev pub patch_row : ℕ → ℕ → Beyond → Flow
+patch_row dp key to = flow_of OUTPUT_TABLE PHYSICAL_PRIORITY (on_exit dp key) (Patch to.dp to.in_port to.z_dnat to.z_snat ∷ [])
+
+abbrev pub no_peer_row : ℕ → ℕ → Flow
+no_peer_row dp key = flow_of OUTPUT_TABLE PHYSICAL_PRIORITY (on_exit dp key) (Drop NoPeer ∷ [])

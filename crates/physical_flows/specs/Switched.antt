@@ -9,6 +9,11 @@ use Rattle.ovn_base.specs.names.ByName.{at}
 use Rattle.physical_flows.specs.RecordKeys.{HaveKeys}
 use Rattle.tunnel_keys.specs.Keys.{Keys}
 
+-- The records are valid, and who has a key by them has a live one.
+pub record IsKeyed (net : Network) (keys : Keys) : Type 0 where
+  pub valid : IsValid net
+  pub keyed : HaveKeys net keys
+
 -- The network is a switched one: its records are valid, there is no router and no router port, and each switch and each port has its key.
 -- Ports may be disabled or have port security, and there may be rules, sets and groups.
 pub record IsSwitched (net : Network) (keys : Keys) : Type 0 where

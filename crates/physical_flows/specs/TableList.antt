@@ -6,17 +6,21 @@ use Rattle.flow_table.specs.declared.flow.Flow.{Flow}
 use Rattle.flow_table.specs.declared.flow.Member.{Member}
 use Rattle.ovn_base.specs.names.ByName.{at}
 use Rattle.ovn_base.specs.names.SameName.{same_name}
+use Rattle.nb_records.specs.Switches.{takes_unknown}
 use Rattle.nb_records.specs.declared.switch.SwitchPort.{SwitchPort}
+use Rattle.net_model.specs.Config.{Home, nowhere, on, everywhere, home_if, home_of}
 use Rattle.net_model.specs.declared.crossing.Group.{Group}
-use Rattle.physical_flows.specs.Homes.{is_at, is_group_member}
-use Rattle.physical_flows.specs.Rows.{entry_row, arrival_row, remote_row, spread_row, stay_row, home_row, copies_row, leave_row}
-use Rattle.physical_flows.specs.Stages.{Basis, zone_of}
+use Rattle.net_model.specs.declared.crossing.Group.TheVariants.{Flood, Unknown}
+use Rattle.physical_flows.specs.Homes.{is_reached_at}
+use Rattle.physical_flows.specs.declared.beyond.Beyond.{Beyond}
+use Rattle.physical_flows.specs.Rows.{entry_row, arrival_row, remote_row, spread_row, stay_row, home_row, pass_row, enter_row, copies_row, leave_row, patch_row, no_peer_row}
+use Rattle.physical_flows.specs.Stages.{Basis, config_of, zone_of}
 
 -- ---- switches
 
--- the rows of a group
-abbrev pub group_rows : ℕ → Group → List Name → List Member → List Flow
-group_rows dp group homes members = spread_row dp group homes ∷ copies_row dp group false members ∷ copies_row dp group true members ∷ []
+-- the rows of a group, with the members that are here and those of them that are reached out of a tunnel
+abbrev pub group_rows : ℕ → Group → List Name → List Member → List Member → List Flow
+group_rows dp group homes members reached = spread_row dp group homes ∷ copies_row dp group false members ∷ copies_row dp group true reached ∷ []
 
 -- ---- ports
 
@@ -33,6 +37,20 @@ abbrev pub bound_rows : Name → Option Name → Option ℕ → ℕ → Name →
 bound_rows chassis None number dp q key = []
 bound_rows chassis (Some home) number dp q key = cond (same_name home chassis) (local_part number dp q key) (remote_row dp key home ∷ [])
 
+-- ---- ports that lead into another datapath
+
+-- the rows of such a port by its home: here it is passed, and elsewhere than there reached through a tunnel; a distributed one is here everywhere, but
+-- for what came out of a tunnel
+abbrev pub homed_rows : Name → Home → ℕ → ℕ → List Flow
+homed_rows chassis nowhere dp key = []
+homed_rows chassis (on home) dp key = cond (same_name home chassis) (pass_row dp key ∷ []) (remote_row dp key home ∷ [])
+homed_rows chassis everywhere dp key = enter_row dp key ∷ []
+
+-- and the one by which packets pass there, where there is a way
+abbrev pub way_row : ℕ → ℕ → Option Beyond → Flow
+way_row dp key (Some to) = patch_row dp key to
+way_row dp key None = no_peer_row dp key
+
 -- ---- every chassis
 
 -- the rows that every chassis has
@@ -40,6 +58,11 @@ abbrev pub common_rows : List Flow
 common_rows = arrival_row ∷ stay_row ∷ leave_row ∷ []
 
 -- ---- groups, among ports of a switch with their keys
+
+-- the port is in the group of its switch: none is that is disabled
+abbrev pub is_group_member : Group → SwitchPort → Bool
+is_group_member Flood port = port.enabled
+is_group_member Unknown port = port.enabled && takes_unknown port.addresses
 
 -- the record is one of the group
 abbrev pub is_record_in : Group → Option SwitchPort → Bool
@@ -49,13 +72,22 @@ is_record_in group (Some port) = is_group_member group port
 abbrev pub group_among : Basis → Group → List (Name × ℕ) → List (Name × ℕ)
 group_among b group ports = filter (λ e. is_record_in group (at b.net.switch_ports e.0)) ports
 
--- those that are at home on this chassis, as its flows know them
-abbrev pub here_among : Basis → List (Name × ℕ) → List Member
-here_among b ports = map (λ e. record { key = e.1; zone = unwrap_or (zone_of b e.0) 0 }) (filter (λ e. is_at b.bindings e.0 b.chassis) ports)
+-- the home of the port of that name
+abbrev pub home_named : Basis → Name → Home
+home_named b q = home_if (home_of (config_of b)) (at b.net.switch_ports q)
 
--- where they are at home
+-- those that are reached on this chassis, as its flows know them
+abbrev pub here_among : Basis → Bool → List (Name × ℕ) → List Member
+here_among b arrived ports = map (λ e. record { key = e.1; zone = unwrap_or (zone_of b e.0) 0 }) (filter (λ e. is_reached_at arrived b.chassis (home_named b e.0)) ports)
+
+-- the chassis on which they are at home
+abbrev pub one_home : Home → Option Name
+one_home nowhere = None
+one_home (on home) = Some home
+one_home everywhere = None
+
 abbrev pub bound_among : Basis → List (Name × ℕ) → List Name
-bound_among b ports = filter_map (λ e. at b.bindings e.0) ports
+bound_among b ports = filter_map (λ e. one_home (home_named b e.0)) ports
 
 -- the other chassis among these
 abbrev pub is_other_among : Basis → List Name → Name → Bool
@@ -66,4 +98,4 @@ others_among b homes = filter (λ c. is_other_among b homes c) b.all
 
 -- the rows of a group that has these members
 abbrev pub rows_among : Basis → ℕ → Group → List (Name × ℕ) → List Flow
-rows_among b dp group members = group_rows dp group (others_among b (bound_among b members)) (here_among b members)
+rows_among b dp group members = group_rows dp group (others_among b (bound_among b members)) (here_among b false members) (here_among b true members)

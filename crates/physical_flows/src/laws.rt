@@ -1,22 +1,10 @@
 //! Laws of the definitions, each on a function that does nothing: call it, and its clauses are facts of the call.
-ghost use Rattle.std.specs.Prelude.{◌≡◌, map};
-ghost use Rattle.nb_records.specs.Network.{Network};
-ghost use Rattle.net_model.specs.Targets as targets;
 ghost use Rattle.physical_flows.specs.Around.{around_rows};
 ghost use Rattle.physical_flows.specs.AroundLaws.{AroundAlikeLaw, AroundDecidedLaw, AroundProperLaw, AroundSetLaw, AroundTablesLaw, AroundUnitsLaw, UnitsOnceLaw};
-ghost use Rattle.physical_flows.specs.Homes.{ArePortsNamed, members};
 ghost use Rattle.physical_flows.specs.Switched.{VirtualPortsLaw};
 ghost use Rattle.physical_flows.specs.Touching.{BindTouches, ChassisTouches, EditTouches};
 
 use flow_table::exact::exact_flow;
-use nb_records::switch::SwitchPort;
-use net_model::crossing::Group;
-use ovn_base::name::Name;
-
-/// A group of a switch has the ports that it has in the network.
-pub fn groups_agree()
-    ensures { (net : Network) (switch : Name) (group : Group) → ArePortsNamed net → members net switch group ≡ map (λ (q : SwitchPort). q.name) (targets.members net switch group) }
-{}
 
 /// All ports of switches are virtual where no router port is there for one to lead to.
 pub fn ports_are_virtual()

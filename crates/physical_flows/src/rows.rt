@@ -4,9 +4,10 @@ ghost use Rattle.flow_table.specs.declared.flow.FlowOp.TheVariants.{Set, Go, Fra
 ghost use Rattle.physical_flows.specs.Around.{exit_rows};
 ghost use Rattle.physical_flows.specs.GroupKeys.{group_key};
 ghost use Rattle.inet_packet.specs.Cubes.{any, exactly, everything};
-ghost use Rattle.physical_flows.specs.Rows.{on_entry, on_tunnel, on_exit, on_return, on_group, arrived_is, flow_of, remote_row, spread_row, copies_row};
+ghost use Rattle.physical_flows.specs.Rows.{on_entry, on_tunnel, on_exit, on_return, on_way, on_group, arrived_is, flow_of, remote_row, spread_row, copies_row, return_row, output_row, pass_row, enter_row, patch_row, no_peer_row};
 ghost use Rattle.physical_flows.specs.TableList.{group_rows, local_rows, common_rows};
 
+use crate::beyond::Beyond;
 use crate::priorities::{BASE_PRIORITY, PHYSICAL_PRIORITY};
 use flow_table::flow::{Cause, Flow, FlowOp, Member};
 use inet_packet::cube::{Bits, Cube};
@@ -68,6 +69,17 @@ fn return_cube(dp: u32, key: u16) -> Cube
         in_port: Bits::exactly(16, u64::from(key)),
         out_port: Bits::exactly(16, u64::from(key)),
         flags: Bits { value: 0, mask: 1 },
+        ..Cube::EVERYTHING
+    }
+}
+
+fn way_cube(dp: u32, key: u16) -> Cube
+    ensures { result ≡ on_way dp key }
+{
+    Cube {
+        dp: Bits::exactly(24, u64::from(dp)),
+        out_port: Bits::exactly(16, u64::from(key)),
+        flags: Bits { value: 0, mask: 16 },
         ..Cube::EVERYTHING
     }
 }
@@ -180,31 +192,45 @@ fn push_copies(
     )
 }
 
-/// Adds the rows of a group of a switch: `homes` are the other chassis that have a member, and `members` those that are here.
+/// Adds the rows of a group of a switch: `homes` are the other chassis that have a member, `members` those that are here, and
+/// `reached` those of them that a packet out of a tunnel reaches.
 pub fn push_group(
     alloc: Global,
     dp: u32,
     group: Group,
     homes: &[Name],
     members: &[Member],
+    reached: &[Member],
     flows: &mut List<Flow>,
 ) -> Result<(), NoMemory>
-    ensures { OnOk result (flows.new ≡ flows.old ++ group_rows dp group homes.now members.now) }
+    ensures { OnOk result (flows.new ≡ flows.old ++ group_rows dp group homes.now members.now reached.now) }
 {
     push_spread(alloc, dp, group, homes, flows)?;
     push_copies(alloc, dp, group, false, members, flows)?;
-    push_copies(alloc, dp, group, true, members, flows)
+    push_copies(alloc, dp, group, true, reached, flows)
 }
 
-/// Adds the rows by which packets leave at a port: none goes back to where it came from.
+/// Adds the rows by which packets leave at a port: none goes back to where it came from, and at a virtual port it goes out.
 pub fn push_exits(
     alloc: Global,
+    virtual_port: bool,
     dp: u32,
     name: Name,
     key: u16,
     flows: &mut List<Flow>,
 ) -> Result<(), NoMemory>
-    ensures { OnOk result (flows.new ≡ flows.old ++ exit_rows dp name key) }
+    ensures { OnOk result (flows.new ≡ flows.old ++ exit_rows virtual_port dp name key) }
+{
+    push_return(alloc, dp, key, flows)?;
+    if virtual_port {
+        push_output(alloc, dp, name, key, flows)?;
+    }
+    Ok(())
+}
+
+// Adds the row by which no packet goes back to where it came from.
+fn push_return(alloc: Global, dp: u32, key: u16, flows: &mut List<Flow>) -> Result<(), NoMemory>
+    ensures { OnOk result (flows.new ≡ flows.old ++ return_row dp key ∷ []) }
 {
     let drop = FlowOp::Drop(Cause::Loopback);
     push_one(
@@ -214,13 +240,98 @@ pub fn push_exits(
         return_cube(dp, key),
         drop,
         flows,
-    )?;
+    )
+}
+
+// Adds the row by which packets go out at a virtual port.
+fn push_output(
+    alloc: Global,
+    dp: u32,
+    name: Name,
+    key: u16,
+    flows: &mut List<Flow>,
+) -> Result<(), NoMemory>
+    ensures { OnOk result (flows.new ≡ flows.old ++ output_row dp name key ∷ []) }
+{
     push_one(
         alloc,
         OUTPUT_TABLE,
         PHYSICAL_PRIORITY,
         exit_cube(dp, key),
         FlowOp::Output(name),
+        flows,
+    )
+}
+
+/// Adds the row of a port by which packets pass into another datapath.
+pub fn push_patch(
+    alloc: Global,
+    dp: u32,
+    key: u16,
+    to: Beyond,
+    flows: &mut List<Flow>,
+) -> Result<(), NoMemory>
+    ensures { OnOk result (flows.new ≡ flows.old ++ patch_row dp key to ∷ []) }
+{
+    let patch = FlowOp::Patch {
+        dp: to.dp,
+        in_port: to.in_port,
+        z_dnat: to.z_dnat,
+        z_snat: to.z_snat,
+    };
+    push_one(
+        alloc,
+        OUTPUT_TABLE,
+        PHYSICAL_PRIORITY,
+        exit_cube(dp, key),
+        patch,
+        flows,
+    )
+}
+
+/// Adds the row of a port that leads nowhere.
+pub fn push_no_peer(
+    alloc: Global,
+    dp: u32,
+    key: u16,
+    flows: &mut List<Flow>,
+) -> Result<(), NoMemory>
+    ensures { OnOk result (flows.new ≡ flows.old ++ no_peer_row dp key ∷ []) }
+{
+    push_one(
+        alloc,
+        OUTPUT_TABLE,
+        PHYSICAL_PRIORITY,
+        exit_cube(dp, key),
+        FlowOp::Drop(Cause::NoPeer),
+        flows,
+    )
+}
+
+/// Adds the row of a port that leads into another datapath, where it is at home on this chassis alone.
+pub fn push_pass(alloc: Global, dp: u32, key: u16, flows: &mut List<Flow>) -> Result<(), NoMemory>
+    ensures { OnOk result (flows.new ≡ flows.old ++ pass_row dp key ∷ []) }
+{
+    push_one(
+        alloc,
+        LOCAL_TABLE,
+        PHYSICAL_PRIORITY,
+        exit_cube(dp, key),
+        FlowOp::Go(LOOPBACK_TABLE),
+        flows,
+    )
+}
+
+/// Adds the row of a port that leads into another datapath, where it is at home on every chassis.
+pub fn push_enter(alloc: Global, dp: u32, key: u16, flows: &mut List<Flow>) -> Result<(), NoMemory>
+    ensures { OnOk result (flows.new ≡ flows.old ++ enter_row dp key ∷ []) }
+{
+    push_one(
+        alloc,
+        LOCAL_TABLE,
+        PHYSICAL_PRIORITY,
+        way_cube(dp, key),
+        FlowOp::Go(LOOPBACK_TABLE),
         flows,
     )
 }

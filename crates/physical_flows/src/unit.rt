@@ -13,6 +13,8 @@ pub enum FlowUnit {
     Switch(Name),
     /// The switch port of that name.
     Port(Name),
+    /// The router port of that name.
+    RouterPort(Name),
 }
 
 /// Units that are equal by their order are the same, and a clone of a unit is that unit. It does nothing: call it, and its

@@ -8,9 +8,10 @@ ghost use Rattle.physical_flows.specs.declared.unit.FlowUnit.{FlowUnit};
 ghost use Rattle.ovn_base.specs.names.ByName.{IsByName};
 ghost use Rattle.physical_flows.specs.Around.{around_everywhere, around_rows};
 ghost use Rattle.physical_flows.specs.Compiling.{basis_of};
+ghost use Rattle.physical_flows.specs.Homes.{ArePortsNamed};
 ghost use Rattle.physical_flows.specs.RecordKeys.{HaveKeys};
 ghost use Rattle.flow_refs.specs.Store.{IsPreparedFor};
-ghost use Rattle.physical_flows.specs.Switched.{IsSwitched};
+ghost use Rattle.physical_flows.specs.Switched.{IsKeyed};
 ghost use Rattle.physical_flows.specs.UnitFlows.{AreGiven, HaveRows, IsTablePatch, StayPrepared, rows_held, same_flow, unit_order};
 ghost use Rattle.physical_flows.specs.Units.{ChangeOnly, no_rows};
 
@@ -84,6 +85,7 @@ impl UnitFlows {
         given: &[(FlowUnit, List<Flow>)],
     ) -> Result<TablePatch, NoMemory>
         requires sorted { IsByName (basis_of maps.now).net.switch_ports }
+        requires named { ArePortsNamed (basis_of maps.now).net }
         requires keys { HaveKeys (basis_of maps.now).net (basis_of maps.now).keys }
         requires once { EachOnce (keys_of given.now) }
         ensures kept { rows_held self.new ≡ rows_held self.old }
@@ -112,7 +114,7 @@ impl UnitFlows {
         maps: &Maps<'_>,
         around: &[(FlowUnit, List<Flow>)],
     ) -> Result<TablePatch, NoMemory>
-        requires switched { IsSwitched (basis_of maps.now).net (basis_of maps.now).keys }
+        requires keyed { IsKeyed (basis_of maps.now).net (basis_of maps.now).keys }
         requires once { EachOnce (keys_of around.now) }
         requires around { AllByRecursion (λ e. e.1 ≡ around_everywhere (basis_of maps.now) e.0) around.now }
         ensures kept { rows_held self.new ≡ rows_held self.old }

@@ -15,7 +15,7 @@ use Rattle.ovn_base.specs.lists.Among.{Among}
 use Rattle.physical_flows.proofs.AroundSets.{around_set}
 use Rattle.physical_flows.proofs.UnitLaws.{around_there}
 use Rattle.physical_flows.specs.Around.{AroundFlow, around_rows}
-use Rattle.physical_flows.specs.RecordKeys.{HaveKeys}
+use Rattle.physical_flows.specs.Switched.{IsKeyed}
 use Rattle.physical_flows.specs.Stages.{Basis}
 use Rattle.physical_flows.specs.UnitFlows.{same_flow}
 use Rattle.physical_flows.specs.Units.{HasRow, all_units}
@@ -67,7 +67,7 @@ module _ (l : Lowering) where
 
 -- ---- rows around the pipelines
 
-module _ (b : Basis) (keys : HaveKeys b.net b.keys) where
+module _ (b : Basis) (keys : IsKeyed b.net b.keys) where
   around_list : List Flow
   around_list = flat_map (around_rows b) (all_units b.net)
 

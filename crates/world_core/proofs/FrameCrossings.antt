@@ -28,9 +28,11 @@ use Rattle.sim_laws.specs.Sound.{HasAimKey, IsAimOnLive, has_birth, is_switch}
 use Rattle.net_model.specs.State.{State}
 use Rattle.physical_flows.proofs.FlowSearch.{some_of}
 use Rattle.sim_laws.proofs.KeyLookups.{port_key_is}
+use Rattle.sim_laws.proofs.journey_laws.Premises.{on_switch_port}
+use Rattle.sim_laws.specs.journeys.UnderWay.{HasNoRouter}
 use Rattle.world_core.proofs.OneCrossing.{are_small}
 
-module _ (m : State) (have : HaveKeys m.config.net m.keys) where
+module _ (m : State) (have : HaveKeys m.config.net m.keys) (plain : HasNoRouter m.config.net) where
   -- a key of a port is a live one, since none is retired
   live_port : (h : HeldPort) → Among h (held_ports m.keys) → Among h (filter_map (held_port m.keys.datapaths) m.keys.ports)
   live_port h among = elim (among_append h (filter_map (held_port m.keys.datapaths) m.keys.ports) m.keys.retired_ports among) [
@@ -45,7 +47,7 @@ module _ (m : State) (have : HaveKeys m.config.net m.keys) where
       let e = filter_map_among (held_port m.keys.datapaths) h m.keys.ports (live_port h key.1) in
       let is = held_port_is m.keys.datapaths e.0 h e.2 in
       let has = among_at e.0.0 e.0.1 m.keys.ports have.hold.ports_in_order e.1 in
-      let port = some_of (at m.config.net.switch_ports e.0.0) (have.port_of e.0.0 e.0.1 has) in
+      let port = some_of (at m.config.net.switch_ports e.0.0) (on_switch_port m.config.net m.keys have plain e.0.0 e.0.1 has) in
       let own = have.port_has e.0.0 port.0 port.1 in
       let same : own.0 ≡ e.0.1 = same_Some own.0 e.0.1 (sym own.1 ∙ has) in
       let owner : h.owner ≡ id = key.2 in

@@ -27,6 +27,7 @@ use Rattle.ovn_base.specs.declared.name.Name.{Name}
 use Rattle.ovn_base.specs.lists.Among.{Among}
 use Rattle.ovn_base.specs.lists.Once.{EachOnce}
 use Rattle.physical_flows.specs.RecordKeys.{HaveKeys}
+use Rattle.physical_flows.specs.Switched.{IsKeyed}
 use Rattle.row_laws.proofs.suited.RisingRows.{lowered_rows_proper}
 use Rattle.sim_laws.proofs.journey_laws.Finishing.{begins}
 use Rattle.sim_laws.proofs.journey_laws.Premises.{owners_live}
@@ -60,7 +61,7 @@ difference_of Before After delta decided change = record {
   go_once = change.go_once;
 }
 
-module _ (m : State) (zones later : Zoned) (turn : net.Turn) (keys : Keys) (change : SimChange TupleSpace) (now : IsConsistent m zones) (have : HaveKeys turn.next.net keys) (exact : IsExactFlow)
+module _ (m : State) (zones later : Zoned) (turn : net.Turn) (keys : Keys) (change : SimChange TupleSpace) (now : IsConsistent m zones) (have : IsKeyed turn.next.net keys) (exact : IsExactFlow)
     (tables : IsTurnOfTables (ground_of m zones) (ground_of (turned_with turn keys m) later) change) where
   abbrev turned_state : State
   turned_state = turned_with turn keys m
@@ -145,7 +146,7 @@ module _ (m : State) (zones : Zoned) (event : Event) (effects : List NetEffect) 
     names = turned.names;
     frames = turned.frames;
     members = sets_are turned.turn.next.net;
-    tables = tables_turn m zones after.zones turned.turn turned.keys change now have_then exact tables_then;
+    tables = tables_turn m zones after.zones turned.turn turned.keys change now (record { valid = turned.consistent.at_rest.valid; keyed = have_then }) exact tables_then;
     zones = turned.lists;
   }
 

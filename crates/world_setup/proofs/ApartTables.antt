@@ -14,7 +14,7 @@ use Rattle.physical_flows.proofs.AroundSets.{around_set}
 use Rattle.physical_flows.proofs.Tables.{around_tables}
 use Rattle.physical_flows.specs.Around.{AroundFlow, around_rows, is_around}
 use Rattle.physical_flows.specs.ChassisFlows.{AreExactly}
-use Rattle.physical_flows.specs.RecordKeys.{HaveKeys}
+use Rattle.physical_flows.specs.Switched.{IsKeyed}
 use Rattle.physical_flows.specs.Stages.{Basis}
 use Rattle.physical_flows.specs.UnitFlows.{IsRowChange}
 use Rattle.physical_flows.specs.Units.{no_rows}
@@ -37,7 +37,7 @@ abbrev lowering_by : Basis → Lowering
 lowering_by b = record { net = b.net; keys = b.keys }
 
 -- the lowered rows and those that come around the pipelines are all flows of the chassis
-pub flows_of_both : (b : Basis) → HaveKeys b.net b.keys → (listed : List Flow) → AreListed (IsLoweredIn (record { net = b.net; keys = b.keys })) listed → (delta : Delta Flow) → IsRowChange no_rows (around_rows b) delta
+pub flows_of_both : (b : Basis) → IsKeyed b.net b.keys → (listed : List Flow) → AreListed (IsLoweredIn (record { net = b.net; keys = b.keys })) listed → (delta : Delta Flow) → IsRowChange no_rows (around_rows b) delta
     → AreExactly (IsFlowBy b) (listed ++ delta.added)
 flows_of_both b keys listed lists delta change = record {
   same = λ f. (
@@ -51,7 +51,7 @@ flows_of_both b keys listed lists delta change = record {
 }
 
 -- where both change, the flows of the chassis change by one delta and then the other
-module _ (b a : Basis) (had : HaveKeys b.net b.keys) (have : HaveKeys a.net a.keys) (every own : Delta Flow) (lowered : IsChange (IsLoweredIn (record { net = b.net; keys = b.keys })) (IsLoweredIn (record { net = a.net; keys = a.keys })) every)
+module _ (b a : Basis) (had : IsKeyed b.net b.keys) (have : IsKeyed a.net a.keys) (every own : Delta Flow) (lowered : IsChange (IsLoweredIn (record { net = b.net; keys = b.keys })) (IsLoweredIn (record { net = a.net; keys = a.keys })) every)
     (around : IsRowChange (around_rows b) (around_rows a) own) where
   comes : (f : Flow) → Among f (every.added ++ own.added) → (¬ IsFlowBy b f) × IsFlowBy a f
   comes f m = elim (among_append f every.added own.added m) [

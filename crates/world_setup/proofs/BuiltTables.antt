@@ -1,4 +1,4 @@
--- Records that are built are those of a switched network, and their rows can be lowered.
+-- Who has a key by records that are built has a live one, and their rows can be lowered.
 use Rattle.std.specs.Prelude.{◌≡◌, ◌≤◌, length, true, [], Option, Some, None, IsSome, is_some, option_map}
 use Rattle.std.proofs.Common.{ap, arith}
 use Rattle.nb_records.specs.Network.{Network, records_of}
@@ -16,7 +16,7 @@ use Rattle.ovn_base.specs.declared.name.Name.{Name}
 use Rattle.ovn_base.specs.names.ByName.{at}
 use Rattle.northd_core.specs.Lowering.{CanCompile}
 use Rattle.physical_flows.specs.RecordKeys.{HaveKeys}
-use Rattle.physical_flows.specs.Switched.{IsSwitched}
+use Rattle.physical_flows.specs.Switched.{IsKeyed}
 use Rattle.sim_laws.specs.journeys.UnderWay.{HasNoRouter}
 use Rattle.sim_laws.proofs.journey_laws.Premises.{owners_live}
 use Rattle.tunnel_keys.specs.Keys.{Keys}
@@ -27,8 +27,8 @@ module _ (net : Network) (built : IsBuilt net) where
   no_router = record { routers = ap (λ (w : Network). w.routers) built.others; router_ports = ap (λ (w : Network). w.router_ports) built.others }
 
   module _ (keys : Keys) (valid : IsValid net) (have : HaveKeys net keys) where
-    pub switched : IsSwitched net keys
-    switched = record { valid = valid; no_routers = no_router.routers; no_router_ports = no_router.router_ports; keyed = have }
+    pub keyed : IsKeyed net keys
+    keyed = record { valid = valid; keyed = have }
 
     pub can_compile : CanCompile (record { net = net; keys = keys })
     can_compile = record {

@@ -1,5 +1,5 @@
 -- The keys after an edit that removes no owner: each record has its key, no owner is younger than the edit, and who was there keeps its number.
-use Rattle.std.specs.Prelude.{◌≡◌, ◌<◌, ℕ, [], Option, Some, None, option_map, refl}
+use Rattle.std.specs.Prelude.{◌≡◌, ◌<◌, ℕ, [], Option, Some, None, option_map, refl, IsSome}
 use Rattle.std.proofs.Common.{arith, sym, ap, ◌∙◌, inl, inr}
 use Rattle.std.proofs.lemmas.Option.{none-some, same_Some}
 use Rattle.ovn_base.specs.declared.address.Birth.{Birth}
@@ -44,15 +44,28 @@ own_place p = (p.birth, p.switch)
 -- ---- the keys of records
 
 module _ (net : Network) (keys : Keys) (have : HaveKeys net keys) (plain : HasNoRouters net) where
+  -- a datapath that has a key is a switch, and a port one of a switch
+  pub switch_there : (a : Name) (k : DatapathKey) → at keys.datapaths a ≡ Some k → IsSome (at net.switches a)
+  switch_there a k has = elim (have.datapath_of a k has) [
+    | inl switch ↦ switch
+    | inr router ↦ let r = some_of (at net.routers a) router in absurd (none-some r.0 (ap (λ l. at l a) (sym plain.routers) ∙ r.1))
+  ]
+
+  pub port_there : (q : Name) (k : PortKey) → at keys.ports q ≡ Some k → IsSome (at net.switch_ports q)
+  port_there q k has = elim (have.port_of q k has) [
+    | inl port ↦ port
+    | inr port ↦ let r = some_of (at net.router_ports q) port in absurd (none-some r.0 (ap (λ l. at l q) (sym plain.router_ports) ∙ r.1))
+  ]
+
   -- who has a live key owns
   live_owner : (o : KeyOwner) → IsLive keys o → Among o (owners_of net)
   live_owner (Datapath a birth) live =
-      let s = some_of (at net.switches a) (have.datapath_of a (record { birth = birth; key = live.0 }) live.1) in
+      let s = some_of (at net.switches a) (switch_there a (record { birth = birth; key = live.0 }) live.1) in
       let own = have.datapath_has a s.0 s.1 in
       let same = same_Some (record { birth = birth; key = live.0 }) own.0 (sym live.1 ∙ own.1) in
       datapath_among net a birth (inl (s.0, s.1, sym own.2 ∙ sym (ap (λ (k : DatapathKey). k.birth) same)))
   live_owner (Port d q birth) live =
-      let p = some_of (at net.switch_ports q) (have.port_of q (record { birth = birth; datapath = d; key = live.0 }) live.1) in
+      let p = some_of (at net.switch_ports q) (port_there q (record { birth = birth; datapath = d; key = live.0 }) live.1) in
       let own = have.port_has q p.0 p.1 in
       let same = same_Some (record { birth = birth; datapath = d; key = live.0 }) own.0 (sym live.1 ∙ own.1) in
       port_among net d q birth (inr (p.0, p.1, sym own.3 ∙ sym (ap (λ (k : PortKey). k.datapath) same), sym own.2 ∙ sym (ap (λ (k : PortKey). k.birth) same)))
@@ -117,14 +130,16 @@ module _ (net next : Network) (keys after : Keys) (have : HaveKeys net keys) (ho
   edited_have = record {
     hold = hold;
     datapath_has = switch_key;
+    router_has = λ a r is. absurd (none-some r (ap (λ l. at l a) (sym from.after.routers) ∙ is));
     datapath_of = λ a k has. elim (given.datapath_cases a k has) [
-      | inl old ↦ let was = some_of (at net.switches a) (have.datapath_of a k old) in is_some_of (at next.switches a) was.0 (from.switches a was.0 was.1)
-      | inr new ↦ let s = switch_of next from.after a k.birth (only_in next net (Datapath a k.birth) new).0 in is_some_of (at next.switches a) s.0 s.1
+      | inl old ↦ let was = some_of (at net.switches a) (switch_there net keys have from.before a k old) in inl (is_some_of (at next.switches a) was.0 (from.switches a was.0 was.1))
+      | inr new ↦ let s = switch_of next from.after a k.birth (only_in next net (Datapath a k.birth) new).0 in inl (is_some_of (at next.switches a) s.0 s.1)
     ];
     port_has = switch_port_key;
+    router_port_has = λ p r is. absurd (none-some r (ap (λ l. at l p) (sym from.after.router_ports) ∙ is));
     port_of = λ q k has. elim (given.port_cases q k has) [
-      | inl old ↦ let was = some_of (at net.switch_ports q) (have.port_of q k old) in let stays = from.ports q was.0 was.1 in is_some_of (at next.switch_ports q) stays.0 stays.1
-      | inr new ↦ let p = port_of next from.after k.datapath q k.birth (only_in next net (Port k.datapath q k.birth) new).0 in is_some_of (at next.switch_ports q) p.0 p.1
+      | inl old ↦ let was = some_of (at net.switch_ports q) (port_there net keys have from.before q k old) in let stays = from.ports q was.0 was.1 in inl (is_some_of (at next.switch_ports q) stays.0 stays.1)
+      | inr new ↦ let p = port_of next from.after k.datapath q k.birth (only_in next net (Port k.datapath q k.birth) new).0 in inl (is_some_of (at next.switch_ports q) p.0 p.1)
     ];
     datapath_range = given.datapath_range ∙ have.datapath_range;
     port_range = given.port_range ∙ have.port_range;
@@ -140,7 +155,7 @@ module _ (net next : Network) (keys after : Keys) (have : HaveKeys net keys) (ho
 
   -- and a name of no switch has none
   pub no_switch_number : (a : Name) → at net.switches a ≡ None → at next.switches a ≡ None → datapath_number after a ≡ datapath_number keys a
-  no_switch_number a was is = ap (option_map (λ (k : DatapathKey). k.key)) (no_datapath_key next after edited_have a is ∙ sym (no_datapath_key net keys have a was))
+  no_switch_number a was is = ap (option_map (λ (k : DatapathKey). k.key)) (no_datapath_key next after edited_have a is (ap (λ l. at l a) from.after.routers) ∙ sym (no_datapath_key net keys have a was (ap (λ l. at l a) from.before.routers)))
 
   -- so where the same stands at a name, its datapath has the number that it had
   pub switch_number_same : (a : Name) → at next.switches a ≡ at net.switches a → datapath_number after a ≡ datapath_number keys a
@@ -156,7 +171,7 @@ module _ (net next : Network) (keys after : Keys) (have : HaveKeys net keys) (ho
 
   -- and a name of no port has none
   pub no_port_number : (q : Name) → at net.switch_ports q ≡ None → at next.switch_ports q ≡ None → port_number after q ≡ port_number keys q
-  no_port_number q was is = ap (option_map (λ (k : PortKey). k.key)) (no_port_key next after edited_have q is ∙ sym (no_port_key net keys have q was))
+  no_port_number q was is = ap (option_map (λ (k : PortKey). k.key)) (no_port_key next after edited_have q is (ap (λ l. at l q) from.after.router_ports) ∙ sym (no_port_key net keys have q was (ap (λ l. at l q) from.before.router_ports)))
 
   -- so where a port of the same birth and switch stands at a name, or none as before, the port has the number that it had
   pub port_number_same : (q : Name) → option_map own_place (at next.switch_ports q) ≡ option_map own_place (at net.switch_ports q) → port_number after q ≡ port_number keys q

@@ -1,5 +1,5 @@
 -- A planned edit: what it does to the state, and that the state stays consistent.
-use Rattle.std.specs.Prelude.{◌≡◌, ◌<◌, ◌+◌, ◌^◌, ◌↔◌, ℕ, List, [], None, Some, IsSome, map, option_map, true, refl}
+use Rattle.std.specs.Prelude.{◌≡◌, ◌<◌, ◌+◌, ◌^◌, ◌↔◌, ℕ, List, [], None, Some, IsSome, map, option_map, true, refl, false}
 use Rattle.std.proofs.Common.{arith, sym, ap, subst, ◌∙◌, inl, inr}
 use Rattle.chassis_sim.specs.Settings.{set_in_turn}
 use Rattle.chassis_sim.specs.declared.change.SimChange.{SimChange}
@@ -69,6 +69,9 @@ use Rattle.world_setup.proofs.NewKeys.{given_beside}
 use Rattle.world_setup.proofs.RecordChanges.{bound_kept}
 use Rattle.world_setup.proofs.RefusedTurns.{edit_allowed}
 use Rattle.world_setup.proofs.WaitingFrames.{AreKept, frames_same, way_on}
+use Rattle.std.proofs.lemmas.Option.{none-some}
+use Rattle.std.proofs.lemmas.Bool.{false≢true}
+use Rattle.physical_flows.proofs.VirtualPorts.{virtual_ports}
 
 -- where there are only switches and plain ports, there are no routers
 pub no_routers : (net : Network) → rules.IsValid net → IsBuilt net → HasNoRouters net
@@ -254,6 +257,14 @@ module _ (m : State) (zones : Zoned) (old : IsConsistent m zones) (room : event_
           let on = some_of (at net.switches port.switch) (on_switch net old.at_rest.valid q port is) in
           switch_number_stays net next m.keys keys old.at_rest.keys after.hold gives records_from port.switch on.0 on.1;
       on = λ q port in' is. (are (unit.Switch port.switch)).1 (port_with_switch net next ops q port ((are (unit.Port q)).0 in') is);
+      router_ports = λ p port is. elim is [
+        | inl was ↦ absurd (none-some port (ap (λ l. at l p) (sym records_from.before.router_ports) ∙ was))
+        | inr now ↦ absurd (none-some port (ap (λ l. at l p) (sym records_from.after.router_ports) ∙ now))
+      ];
+      to_routers = λ q port is leads. elim is [
+        | inl was ↦ absurd (false≢true (sym leads ∙ virtual_ports net old.at_rest.valid records_from.before.router_ports q port was))
+        | inr now ↦ absurd (false≢true (sym leads ∙ virtual_ports next sound.valid records_from.after.router_ports q port now))
+      ];
     }
 
   -- ---- the turn

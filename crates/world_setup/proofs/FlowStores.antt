@@ -22,11 +22,11 @@ use Rattle.northd_core.specs.Plans.{AreListed}
 use Rattle.physical_flows.specs.Around.{around_everywhere, around_rows}
 use Rattle.physical_flows.specs.RecordKeys.{HaveKeys}
 use Rattle.physical_flows.specs.Stages.{Basis}
-use Rattle.physical_flows.specs.Switched.{IsSwitched}
+use Rattle.physical_flows.specs.Switched.{IsKeyed}
 use Rattle.physical_flows.specs.UnitFlows.{UnitStore, HaveRows, IsRowChange, rows_held}
 use Rattle.physical_flows.specs.Units.{ChangeOnly, all_units, no_rows}
 use Rattle.physical_flows.specs.declared.unit.FlowUnit.{FlowUnit}
-use Rattle.physical_flows.proofs.UnitLaws.{around_units, switched_units_once}
+use Rattle.physical_flows.proofs.UnitLaws.{around_units, keyed_units_once}
 use Rattle.switch_engine.proofs.Lists.{all_append}
 use Rattle.tuple_space.specs.Bunches.{flows_in}
 use Rattle.tuple_space.specs.declared.space.TupleSpace.{TupleSpace}
@@ -207,8 +207,8 @@ module _ (b : Basis) (units : List FlowUnit) (everywhere : List (FlowUnit × Lis
   named : keys_of everywhere ≡ all_units b.net
   named = ap keys_of rows ∙ units_of_rows (around_everywhere b) units ∙ are
 
-  pub each_unit_once : IsSwitched b.net b.keys → EachOnce (keys_of everywhere)
-  each_unit_once switched = subst EachOnce (sym named) (switched_units_once b.net b.keys switched)
+  pub each_unit_once : IsKeyed b.net b.keys → EachOnce (keys_of everywhere)
+  each_unit_once keyed = subst EachOnce (sym named) (keyed_units_once b.net b.keys keyed)
 
   pub each_has_rows : AllByRecursion (λ e. e.1 ≡ around_everywhere b e.0) everywhere
   each_has_rows = subst (λ l. AllByRecursion (λ (e : FlowUnit × List Flow). e.1 ≡ around_everywhere b e.0) l) (sym rows) (all_have (around_everywhere b) (around_everywhere b) (λ u j. around_everywhere b u) units)
@@ -217,7 +217,7 @@ module _ (b : Basis) (units : List FlowUnit) (everywhere : List (FlowUnit × Lis
   units_change = subst (λ us. ChangeOnly us no_rows (around_rows b)) (sym named) (around_units b)
 
 -- with the lowered rows, what comes around the pipelines are all flows of the chassis
-pub flows_joined : (b : Basis) → HaveKeys b.net b.keys → (listed : List Flow) → AreListed (IsLoweredIn (record { net = b.net; keys = b.keys })) listed → (planned delta : Delta Flow) → IsRowChange no_rows (around_rows b) planned → delta ≡ planned
+pub flows_joined : (b : Basis) → IsKeyed b.net b.keys → (listed : List Flow) → AreListed (IsLoweredIn (record { net = b.net; keys = b.keys })) listed → (planned delta : Delta Flow) → IsRowChange no_rows (around_rows b) planned → delta ≡ planned
     → (all : List Flow) → all ≡ listed ++ delta.added → AreExactly (IsFlowBy b) all
 flows_joined b keys listed lists planned delta change same all are =
     subst (AreExactly (IsFlowBy b)) (sym (are ∙ ap (λ (d : Delta Flow). listed ++ d.added) same)) (flows_of_both b keys listed lists planned change)

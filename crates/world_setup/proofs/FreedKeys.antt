@@ -30,8 +30,10 @@ module _ (c : State) (zones : Zoned) (old : IsAtRest c zones) where
     keys = record {
       hold = settled_hold c.keys old.keys.hold;
       datapath_has = old.keys.datapath_has;
+      router_has = old.keys.router_has;
       datapath_of = old.keys.datapath_of;
       port_has = old.keys.port_has;
+      router_port_has = old.keys.router_port_has;
       port_of = old.keys.port_of;
       datapath_range = old.keys.datapath_range;
       port_range = old.keys.port_range;

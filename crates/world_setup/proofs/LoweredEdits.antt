@@ -33,11 +33,13 @@ use Rattle.world_setup.specs.Setup.{lowering_in}
 use Rattle.world_setup.specs.Touched.{row_unit, rules_touched, touched_by}
 use Rattle.world_setup.specs.Turning.{IsPlannedEdit, MayTurn}
 use Rattle.world_setup.specs.Consistent.{IsConsistent}
-use Rattle.world_setup.proofs.EditedStates.{gives, have, next_built, same_beside, sound}
+use Rattle.world_setup.proofs.EditedStates.{gives, have, next_built, same_beside, sound, no_routers}
 use Rattle.world_setup.proofs.BuiltTables.{can_compile}
 use Rattle.world_setup.proofs.NewKeys.{given_beside}
 use Rattle.world_setup.proofs.ReadiedChanges.{edit_leaves, planned_here}
 use Rattle.world_setup.proofs.TouchedRules.{rule_kept, sets_kept}
+use Rattle.world_setup.proofs.ComingOwners.{HasNoRouters}
+use Rattle.world_setup.proofs.EditedKeys.{port_there}
 
 -- ---- units of rows
 
@@ -46,6 +48,7 @@ of_port : (u : FlowUnit) (q : Name) → row_unit u ≡ Some (rows.Port q) → u 
 of_port unit.Common q is = absurd (none-some (rows.Port q) is)
 of_port (unit.Switch a) q is = cc
 of_port (unit.Port p) q is = cc
+of_port (unit.RouterPort p) q is = absurd (none-some (rows.Port q) is)
 
 -- a port is among the units of rows only if it is among the units of flows
 port_listed : (units : List FlowUnit) (q : Name) → Among (rows.Port q) (filter_map row_unit units) → Among (unit.Port q) units
@@ -61,12 +64,12 @@ switch_outside units d out m = out (among_filter_map row_unit (unit.Switch d) (r
 -- ---- the key of a port
 
 -- a port whose record stays keeps its key, or has none before and after
-port_key_same : (net next : Network) (keys after : Keys) → HaveKeys net keys → HaveKeys next after → ((p : Name) (k : PortKey) → at keys.ports p ≡ Some k → at after.ports p ≡ Some k)
+port_key_same : (net next : Network) (keys after : Keys) → HaveKeys net keys → HaveKeys next after → HasNoRouters net → HasNoRouters next → ((p : Name) (k : PortKey) → at keys.ports p ≡ Some k → at after.ports p ≡ Some k)
     → (q : Name) → at next.switch_ports q ≡ at net.switch_ports q → at keys.ports q ≡ at after.ports q
-port_key_same net next keys after have have_then kept q same = by (at net.switch_ports q) refl
+port_key_same net next keys after have have_then plain plain_then kept q same = by (at net.switch_ports q) refl
   where
     by : (o : Option SwitchPort) → at net.switch_ports q ≡ o → at keys.ports q ≡ at after.ports q
-    by None is = no_port_key net keys have q is ∙ sym (no_port_key next after have_then q (same ∙ is))
+    by None is = no_port_key net keys have q is (ap (λ l. at l q) plain.router_ports) ∙ sym (no_port_key next after have_then q (same ∙ is) (ap (λ l. at l q) plain_then.router_ports))
     by (Some p) is = let own = have.port_has q p is in own.1 ∙ sym (kept q own.0 own.1)
 
 -- ---- a planned edit
@@ -96,17 +99,23 @@ module _ (m : State) (zones : Zoned) (old : IsConsistent m zones) (room : event_
     given : GivesKeysAfter m.keys (owners_only_in next net) keys
     given = given_beside m.keys (owners_only_in next net) keys (gives m zones old room ops grammar plan keys planned)
 
+    plain : HasNoRouters net
+    plain = no_routers net old.at_rest.valid old.built
+
+    plain_then : HasNoRouters next
+    plain_then = no_routers next (sound m zones old room ops grammar plan keys planned).valid (next_built m zones old room ops grammar plan keys planned)
+
     -- records and keys of what no operation names stay
     same_but_for : IsSameButFor before later (filter_map row_unit units) (rules_touched net ops)
     same_but_for = record {
       ports = λ q out. sym (same.ports q (port_outside units q out));
-      port_keys = λ q out. port_key_same net next m.keys keys old.at_rest.keys have_then given.port_kept q (same.ports q (port_outside units q out));
+      port_keys = λ q out. port_key_same net next m.keys keys old.at_rest.keys have_then plain plain_then given.port_kept q (same.ports q (port_outside units q out));
       switches = λ d out. sym (same.switches d (switch_outside units d out));
       switch_keys = λ d out. ap (λ (o : Option ℕ). unwrap_or o 0) (sym (same.datapaths d (switch_outside units d out)));
       beneath = λ q port out is. ap (λ (o : Option ℕ). unwrap_or o 0) (sym (same.beneath q port (port_outside units q out) is));
       on = λ q port listed is. among_filter_map row_unit (unit.Switch port.switch) (rows.Switch port.switch) units (same.on q port (port_listed units q listed) is) refl;
-      had = old.at_rest.keys.port_of;
-      have = have_then.port_of;
+      had = λ q k is. port_there net m.keys old.at_rest.keys plain q k is;
+      have = λ q k is. port_there next keys have_then plain_then q k is;
       rules = λ r out. sym (rule_kept net ops (event_count m + 1) old.at_rest.valid grammar.each planned.faultless r out);
       sets = λ r rule out is. sym (sets_kept net ops (event_count m + 1) old.at_rest.valid grammar.each planned.faultless r rule out is);
     }

@@ -42,8 +42,8 @@ use Rattle.world_setup.specs.Consistent.{IsConsistent}
 use Rattle.conn_zones.specs.Zoning.{KnownHomes, Zoned, number_on}
 use Rattle.conn_zones.specs.declared.numbers.ZoneUse.TheVariants.{Port}
 use Rattle.northd_core.specs.Lowering.{CanCompile}
-use Rattle.physical_flows.specs.Switched.{IsSwitched}
-use Rattle.world_setup.proofs.BuiltTables.{can_compile, few_ports, switched}
+use Rattle.physical_flows.specs.Switched.{IsKeyed}
+use Rattle.world_setup.proofs.BuiltTables.{can_compile, few_ports, keyed}
 use Rattle.event_lines.specs.declared.refusal.Refusal.TheVariants as why
 use Rattle.event_lines.specs.declared.refusal.StepFault.{StepFault}
 use Rattle.event_lines.specs.declared.refusal.StepFault.TheVariants.{Refused, Memory}
@@ -69,12 +69,12 @@ use Rattle.world_setup.proofs.TurnedUnits.{binding_units, chassis_units, edited_
 
 -- tables can be made of the records and the keys
 pub record AreTables (g : GroundView) : Type 0 where
-  pub switched : IsSwitched g.config.net g.keys
+  pub keyed : IsKeyed g.config.net g.keys
   pub compiled : CanCompile (lowering_in g)
 
 tables_of_state : (m : State) (zones : Zoned) → IsConsistent m zones → AreTables (ground_of m zones)
 tables_of_state m zones now = record {
-  switched = switched m.config.net now.built m.keys now.at_rest.valid now.at_rest.keys;
+  keyed = keyed m.config.net now.built m.keys now.at_rest.valid now.at_rest.keys;
   compiled = can_compile m.config.net now.built m.keys now.at_rest.valid now.at_rest.keys;
 }
 
@@ -120,7 +120,7 @@ module _ (m : State) (zones : Zoned) (old : IsConsistent m zones) (room : event_
 
   pub edit_tables_then : AreTables (changed (edit_change plan keys) (ground_of m zones))
   edit_tables_then = subst (λ g. AreTables g) (sym edit_ground) (record {
-    switched = switched next (next_built m zones old room ops grammar plan keys planned) keys (sound m zones old room ops grammar plan keys planned).valid (have m zones old room ops grammar plan keys planned);
+    keyed = keyed next (next_built m zones old room ops grammar plan keys planned) keys (sound m zones old room ops grammar plan keys planned).valid (have m zones old room ops grammar plan keys planned);
     compiled = can_compile next (next_built m zones old room ops grammar plan keys planned) keys (sound m zones old room ops grammar plan keys planned).valid (have m zones old room ops grammar plan keys planned);
   })
 
@@ -257,7 +257,7 @@ module _ (g : GroundView) (n : ℕ) (c : Name) (m : State) (may : MayTurn g n (e
     fits = record { keys = tt; zones = tt };
     once = names_once m.config.chassis may.consistent.at_rest.bound.chassis_sorted;
     tables = tables_of_state m g.zones may.consistent;
-    tables_then = record { switched = (tables_of_state m g.zones may.consistent).switched; compiled = (tables_of_state m g.zones may.consistent).compiled };
+    tables_then = record { keyed = (tables_of_state m g.zones may.consistent).keyed; compiled = (tables_of_state m g.zones may.consistent).compiled };
     touched_alone = record {
       once = tt;
       only = λ d among. subst (λ x. ChangeOnly [] (rows_on (ground_of m g.zones) d) (rows_on x d)) (sym chassis_ground)
@@ -303,7 +303,7 @@ module _ (g : GroundView) (n : ℕ) (p c : Name) (m : State) (may : MayTurn g n 
       fits = record { keys = tt; zones = record { change = home_change p c; fits = binding_can_come; rezoned = rezoned } };
       once = names_once m.config.chassis may.consistent.at_rest.bound.chassis_sorted;
       tables = tables_of_state m g.zones may.consistent;
-      tables_then = record { switched = (tables_of_state m g.zones may.consistent).switched; compiled = (tables_of_state m g.zones may.consistent).compiled };
+      tables_then = record { keyed = (tables_of_state m g.zones may.consistent).keyed; compiled = (tables_of_state m g.zones may.consistent).compiled };
       touched_alone = record { once = units_once (at m.config.net.switch_ports p) p; only = λ d among. binding_units m g.zones may.consistent p c allowed after rezoned d };
     }
 

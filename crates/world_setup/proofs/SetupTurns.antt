@@ -1,5 +1,5 @@
 -- What is prepared for the stores of all chassis, with the one that comes, and what stands once it is in force.
-use Rattle.std.specs.Prelude.{◌≡◌, ◌++◌, ◌⊎◌, ℕ, Bool, true, false, cond, List, [], ◌∷◌, map, Option, Some, None, refl}
+use Rattle.std.specs.Prelude.{◌≡◌, ◌++◌, ◌⊎◌, ℕ, Bool, true, false, cond, List, [], ◌∷◌, map, Option, Some, None, refl, option_map}
 use Rattle.std.specs.List.{AllByRecursion}
 use Rattle.std.specs.Map.{keys_of}
 use Rattle.std.proofs.Common.{sym, ap, subst, ◌∙◌, inl, inr}
@@ -25,11 +25,11 @@ use Rattle.nb_records.specs.declared.switch.Switch.{Switch}
 use Rattle.nb_records.specs.declared.switch.SwitchPort.{SwitchPort}
 use Rattle.physical_flows.specs.ChassisFlows.{AreExactly}
 use Rattle.physical_flows.specs.Numbers.{datapath_number, port_number}
-use Rattle.physical_flows.specs.Stages.{Basis}
+use Rattle.physical_flows.specs.Stages.{Basis, PatchPort, zone_of, switch_patch, router_patch, beyond}
 use Rattle.physical_flows.specs.UnitFlows.{UnitStore, HaveRows, rows_held}
-use Rattle.physical_flows.specs.Around.{around_rows, port_around}
-use Rattle.physical_flows.specs.RecordKeys.{HaveKeys}
-use Rattle.physical_flows.specs.Units.{keyed_here, port_here, switch_here}
+use Rattle.physical_flows.specs.Around.{around_rows, port_around, router_port_around}
+use Rattle.physical_flows.specs.Switched.{IsKeyed}
+use Rattle.physical_flows.specs.Units.{keyed_here, port_here, switch_here, keyed_router_port, router_port_here, patch_rows, patch_rows_if}
 use Rattle.physical_flows.specs.declared.unit.FlowUnit.{FlowUnit}
 use Rattle.physical_flows.specs.declared.unit.FlowUnit.TheVariants as unit
 use Rattle.tunnel_keys.specs.Keys.{settled}
@@ -39,6 +39,10 @@ use Rattle.world_setup.specs.Ground.{GroundView, basis_in}
 use Rattle.world_setup.specs.Setup.{ArePatches, ComesOver, HasCome, HasDelta, HasStore, IsFlowOn, IsLoweredOrDone, IsReadyOrDone, IsTurnOfTables, StandsForGround, every_delta, joined, lowering_in, rows_on, units_of}
 use Rattle.world_setup.proofs.FlowStores.{found_so}
 use Rattle.world_setup.proofs.NamesInOrder.{name_cases, name_kept, name_put}
+use Rattle.nb_records.specs.Routers.{Partner, switch_side, router_side}
+use Rattle.nb_records.specs.Switches.{is_virtual}
+use Rattle.nb_records.specs.declared.router.RouterPort.{RouterPort}
+use Rattle.physical_flows.specs.TableList.{bound_rows, homed_rows, way_row}
 
 -- ---- once retired keys are free
 
@@ -51,20 +55,42 @@ module _ (b : Basis) where
   switch_settled a (Some s) None = refl
   switch_settled a (Some s) (Some dp) = refl
 
-  keyed_settled : (q : Name) (dp key : Option ℕ) → keyed_here later q dp key ≡ keyed_here b q dp key
-  keyed_settled q None key = refl
-  keyed_settled q (Some dp) None = refl
-  keyed_settled q (Some dp) (Some key) = refl
+  beyond_settled : (o : Option Partner) → option_map (beyond later) o ≡ option_map (beyond b) o
+  beyond_settled None = refl
+  beyond_settled (Some (switch_side q)) = refl
+  beyond_settled (Some (router_side r)) = refl
+
+  patch_settled : (x : PatchPort) → patch_rows later x ≡ patch_rows b x
+  patch_settled x = ap (λ o. homed_rows b.chassis x.home x.dp x.key ++ way_row x.dp x.key o ∷ []) (beyond_settled x.partner)
+
+  patch_if_settled : (virtual : Bool) (x : PatchPort) → patch_rows_if virtual later x ≡ patch_rows_if virtual b x
+  patch_if_settled true x = refl
+  patch_if_settled false x = patch_settled x
+
+  keyed_settled : (q : Name) (port : SwitchPort) (dp key : Option ℕ) → keyed_here later q port dp key ≡ keyed_here b q port dp key
+  keyed_settled q port None key = refl
+  keyed_settled q port (Some dp) None = refl
+  keyed_settled q port (Some dp) (Some key) = ap (λ l. bound_rows b.chassis (at b.bindings q) (zone_of b q) dp q key ++ l) (patch_if_settled (is_virtual port) (switch_patch b port dp key))
 
   port_settled : (q : Name) (o : Option SwitchPort) → port_around later q o ++ port_here later q o ≡ port_around b q o ++ port_here b q o
   port_settled q None = refl
-  port_settled q (Some port) = ap (λ l. port_around b q (Some port) ++ l) (keyed_settled q (datapath_number b.keys port.switch) (port_number b.keys q))
+  port_settled q (Some port) = ap (λ l. port_around b q (Some port) ++ l) (keyed_settled q port (datapath_number b.keys port.switch) (port_number b.keys q))
+
+  keyed_in_router : (port : RouterPort) (dp key : Option ℕ) → keyed_router_port later port dp key ≡ keyed_router_port b port dp key
+  keyed_in_router port None key = refl
+  keyed_in_router port (Some dp) None = refl
+  keyed_in_router port (Some dp) (Some key) = patch_settled (router_patch b port dp key)
+
+  router_port_settled : (q : Name) (o : Option RouterPort) → router_port_around later q o ++ router_port_here later q o ≡ router_port_around b q o ++ router_port_here b q o
+  router_port_settled q None = refl
+  router_port_settled q (Some port) = ap (λ l. router_port_around b q (Some port) ++ l) (keyed_in_router port (datapath_number b.keys port.router) (port_number b.keys q))
 
   -- all rows stay
   rows_settled : (u : FlowUnit) → around_rows later u ≡ around_rows b u
   rows_settled unit.Common = refl
   rows_settled (unit.Switch a) = switch_settled a (at b.net.switches a) (datapath_number b.keys a)
   rows_settled (unit.Port q) = port_settled q (at b.net.switch_ports q)
+  rows_settled (unit.RouterPort q) = router_port_settled q (at b.net.router_ports q)
 
 pub settled_store : (g : GroundView) (stores : List (Name × UnitStore)) (c : Name) → HasStore g stores c → HasStore (record g { keys = settled g.keys }) stores c
 settled_store g stores c has = record {
@@ -141,8 +167,8 @@ anything (e ∷ es) = (tt, anything es)
 
 -- the tables of a ground and of the next, and what every chassis is told of the change of the lowered rows
 pub record AreTablesTurned (before after : GroundView) (every : Delta Flow) : Type 0 where
-  pub had : HaveKeys before.config.net before.keys
-  pub have : HaveKeys after.config.net after.keys
+  pub had : IsKeyed before.config.net before.keys
+  pub have : IsKeyed after.config.net after.keys
   pub lowered : IsChange (IsLoweredIn (lowering_in before)) (IsLoweredIn (lowering_in after)) every
 
 -- what is planned is that change

@@ -86,6 +86,7 @@ module _ (before after : Network) where
   name_in other unit.Common = other
   name_in other (unit.Switch a) = other
   name_in other (unit.Port q) = q
+  name_in other (unit.RouterPort q) = other
 
   -- a port is none of the switches
   no_port : (q : Name) (port : Option SwitchPort) → ¬ Among (unit.Port q) (switch_of port)

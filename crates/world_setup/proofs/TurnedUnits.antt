@@ -3,7 +3,7 @@ use Rattle.std.specs.Prelude.{◌≡◌, List, [], None, refl}
 use Rattle.std.specs.BTreeSet.{insert_key}
 use Rattle.std.specs.Cmp.Lexicographic.{slice_cmp}
 use Rattle.std.specs.Ordering.{nat_cmp}
-use Rattle.std.proofs.Common.{sym, ap, subst}
+use Rattle.std.proofs.Common.{sym, ap, subst, ◌∙◌}
 use Rattle.conn_zones.specs.Rezoning.{IsRezoned}
 use Rattle.conn_zones.specs.Zoning.{KnownHomes, Zoned}
 use Rattle.edit_reader.specs.declared.event.Event.TheVariants as event_of
@@ -26,6 +26,7 @@ use Rattle.world_setup.specs.Setup.{rows_on, units_of}
 use Rattle.world_setup.specs.Zones.{home_change}
 use Rattle.world_setup.proofs.PortHomes.{homes_after}
 use Rattle.world_setup.proofs.Refusals.{port_there}
+use Rattle.std.proofs.lemmas.Option.{none-some}
 
 module _ (m : State) (zones : Zoned) (old : IsConsistent m zones) where
   abbrev now : GroundView
@@ -39,13 +40,13 @@ module _ (m : State) (zones : Zoned) (old : IsConsistent m zones) where
   pub edited_units : (net : Network) (keys : Keys) (units : List FlowUnit) → IsByName net.switch_ports → IsSameBeside units m.config.net net m.keys keys → (d : Name)
       → ChangeOnly units (rows_on now d) (rows_on (record { config = record m.config { net = net }; keys = keys; zones = zones }) d)
   edited_units net keys units sorted same d =
-      around_edit (basis_in now d) (basis_in (record { config = record m.config { net = net }; keys = keys; zones = zones }) d) units net keys refl old.at_rest.valid.in_order.switch_ports sorted same
+      around_edit (basis_in now d) (basis_in (record { config = record m.config { net = net }; keys = keys; zones = zones }) d) units net keys refl old.at_rest.valid.in_order.switch_ports sorted old.at_rest.valid.named.switch_ports same
 
   -- a chassis comes: none
   pub chassis_units : (c : Name) → ¬ Among c m.config.chassis → (d : Name)
       → ChangeOnly [] (rows_on now d) (rows_on (record { config = record m.config { chassis = insert_key (slice_cmp nat_cmp) m.config.chassis c }; keys = m.keys; zones = zones }) d)
   chassis_units c new d =
-      around_chassis (basis_in now d) (basis_in (record { config = record m.config { chassis = insert_key (slice_cmp nat_cmp) m.config.chassis c }; keys = m.keys; zones = zones }) d) c refl new old.at_rest.bound.chassis_there
+      around_chassis (basis_in now d) (basis_in (record { config = record m.config { chassis = insert_key (slice_cmp nat_cmp) m.config.chassis c }; keys = m.keys; zones = zones }) d) c refl new old.at_rest.bound.chassis_there (λ a r is. absurd (none-some r (ap (λ l. at l a) (sym old.at_rest.no_router.routers) ∙ is)))
 
   -- a port is bound: itself and its switch
   pub binding_units : (p c : Name) → refusal m (event_of.Bind p c) ≡ None → (after : Zoned) → IsRezoned zones (home_change p c) after → (d : Name)
@@ -55,5 +56,5 @@ module _ (m : State) (zones : Zoned) (old : IsConsistent m zones) where
       let ports : after.homes.ports ≡ put m.config.bindings p c = ap (λ (h : KnownHomes). h.ports) (homes_after m.config zones old.at_rest.bound p c after rezoned) in
       let then' : GroundView = record { config = record m.config { bindings = after.homes.ports }; keys = m.keys; zones = after } in
       subst (λ o. ChangeOnly (units_of o p) (rows_on now d) (rows_on then' d)) (sym found.1)
-      (around_bind (basis_in now d) (basis_in then' d) p c found.0 after.numbers (λ i. record (basis_in now d) { bindings = ports i; zones = after.numbers }) found.1 old.at_rest.valid.in_order.switch_ports
-      (λ q apart. number_kept zones after p c old.at_rest.bound.zoned rezoned q apart d))
+      (around_bind (basis_in now d) (basis_in then' d) p c found.0 after.numbers (λ i. record (basis_in now d) { bindings = ports i; zones = after.numbers }) found.1 old.at_rest.valid.in_order.switch_ports old.at_rest.valid.named.switch_ports
+      (λ z apart. number_kept zones after p c old.at_rest.bound.zoned rezoned z apart d))

@@ -49,6 +49,7 @@ abbrev pub row_unit : FlowUnit → Option UnitId
 row_unit unit.Common = None
 row_unit (unit.Switch a) = Some (rows.Switch a)
 row_unit (unit.Port q) = Some (rows.Port q)
+row_unit (unit.RouterPort q) = None
 
 -- ---- rules
 

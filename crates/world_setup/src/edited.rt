@@ -126,7 +126,7 @@ pub(crate) fn row_units(alloc: Global, touched: &[FlowUnit]) -> Result<List<Unit
     let mut units = List::new(alloc);
     'touched: for unit in touched {
         match unit {
-            FlowUnit::Common => {}
+            FlowUnit::Common | FlowUnit::RouterPort(_) => {}
             FlowUnit::Switch(name) => units.push(UnitId::Switch(*name))?,
             FlowUnit::Port(name) => units.push(UnitId::Port(*name))?,
         }

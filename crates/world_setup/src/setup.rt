@@ -19,7 +19,7 @@ ghost use Rattle.ovn_base.specs.names.ByName.{at};
 ghost use Rattle.physical_flows.specs.ChassisFlows.{AreExactly};
 ghost use Rattle.physical_flows.specs.Compiling.{basis_of};
 ghost use Rattle.physical_flows.specs.Around.{around_rows};
-ghost use Rattle.physical_flows.specs.Switched.{IsSwitched};
+ghost use Rattle.physical_flows.specs.Switched.{IsKeyed};
 ghost use Rattle.physical_flows.specs.UnitFlows.{HaveRows, rows_held};
 ghost use Rattle.tunnel_keys.specs.Keys.{settled};
 ghost use Rattle.tunnel_keys.specs.Causes.{HasKeys};
@@ -135,7 +135,7 @@ fn tables_of(
     maps: &Maps<'_>,
     lowered: &LoweredFlows,
 ) -> Result<(UnitFlows, Held), NoMemory>
-    requires switched { IsSwitched (basis_of maps.now).net (basis_of maps.now).keys }
+    requires keyed { IsKeyed (basis_of maps.now).net (basis_of maps.now).keys }
     requires compiled { CanCompile (record { net = (basis_of maps.now).net; keys = (basis_of maps.now).keys }) }
     requires lowered { HaveLowered (record { net = (basis_of maps.now).net; keys = (basis_of maps.now).keys }) lowered.now }
     ensures rows { IfOk result (λ tables. HaveRows (around_rows (basis_of maps.now)) (rows_held tables.0)) }
@@ -357,8 +357,8 @@ impl Setup {
     ) -> Result<Turn, NoMemory>
         requires fits { IsChangeOf self.old.ground change }
         requires once { EachOnce self.old.ground.config.chassis }
-        requires before { IsSwitched self.old.ground.config.net self.old.ground.keys }
-        requires switched { IsSwitched (changed change self.old.ground).config.net (changed change self.old.ground).keys }
+        requires before { IsKeyed self.old.ground.config.net self.old.ground.keys }
+        requires keyed { IsKeyed (changed change self.old.ground).config.net (changed change self.old.ground).keys }
         requires compiled { CanCompile (lowering_in (changed change self.old.ground)) }
         requires planned { IsLoweredOrDone self.old.ground (changed change self.old.ground) self.old.lowered lowered }
         requires alone { IsSome come → lowered ≡ None }

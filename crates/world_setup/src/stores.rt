@@ -14,7 +14,7 @@ ghost use Rattle.physical_flows.specs.UnitFlows.{HaveRows, UnitStore, rows_held}
 ghost use Rattle.physical_flows.specs.Units.{ChangeOnly};
 ghost use Rattle.physical_flows.specs.declared.unit.FlowUnit.{FlowUnit};
 ghost use Rattle.physical_flows.specs.Around.{around_everywhere, around_rows};
-ghost use Rattle.physical_flows.specs.Switched.{IsSwitched};
+ghost use Rattle.physical_flows.specs.Switched.{IsKeyed};
 ghost use Rattle.world_setup.specs.Ground.{GroundView, changed};
 ghost use Rattle.world_setup.specs.Setup.{ArePatches, HaveStores, HasRowsAt, HasStore, IsOnTheWay, IsPatchAt, IsReadyAt, joined, rows_at, rows_on};
 
@@ -41,7 +41,7 @@ fn prepare_one(
     maps: &Maps<'_>,
     everywhere: &[(FlowUnit, List<Flow>)],
 ) -> Result<Option<TablePatch>, NoMemory>
-    requires switched { IsSwitched (basis_of maps.now).net (basis_of maps.now).keys }
+    requires keyed { IsKeyed (basis_of maps.now).net (basis_of maps.now).keys }
     requires once { EachOnce (keys_of everywhere.now) }
     requires everywhere { AllByRecursion (λ e. e.1 ≡ around_everywhere (basis_of maps.now) e.0) everywhere.now }
     ensures kept { (c : Name) → rows_at (at_name stores.new.entries c) ≡ rows_at (at_name stores.old.entries c) }
@@ -67,7 +67,7 @@ pub(crate) fn prepare_each(
     touched: &[FlowUnit],
 ) -> Result<List<(Name, TablePatch)>, NoMemory>
     requires once { EachOnce ground.now.config.chassis }
-    requires switched { IsSwitched (changed change.now ground.now).config.net (changed change.now ground.now).keys }
+    requires keyed { IsKeyed (changed change.now ground.now).config.net (changed change.now ground.now).keys }
     requires units_once { EachOnce touched.now }
     requires touched { (c : Name) → Among c ground.now.config.chassis → ChangeOnly touched.now (rows_on ground.now c) (rows_on (changed change.now ground.now) c) }
     requires stand { HaveStores ground.now stores.old.entries }

@@ -1,8 +1,8 @@
 -- Two flows of a table around the pipelines that may be taken are one.
-use Rattle.std.specs.Prelude.{◌≡◌, ◌<◌, ◌^◌, ℕ, Bool, true, false, cond, List, Some, refl}
+use Rattle.std.specs.Prelude.{◌≡◌, ◌<◌, ◌^◌, ℕ, List, Some, refl}
 use Rattle.std.proofs.Common.{sym, ap, ◌∙◌, subst, arith, inl}
 use Rattle.std.proofs.lemmas.Bool.{false≢true}
-use Rattle.std.proofs.lemmas.Option.{same_Some}
+use Rattle.std.proofs.lemmas.Option.{none-some, same_Some}
 use Rattle.conn_zones.specs.Zoning.{Zoned}
 use Rattle.ovn_base.specs.declared.name.Name.{Name}
 use Rattle.ovn_base.specs.names.ByName.{at}
@@ -11,29 +11,21 @@ use Rattle.inet_packet.specs.declared.packet.Packet.{Packet}
 use Rattle.inet_packet.specs.declared.regs.Regs.{Regs}
 use Rattle.flow_table.specs.Matching.{IsBest}
 use Rattle.flow_table.specs.declared.flow.Flow.{Flow}
+use Rattle.nb_records.specs.declared.router.RouterPort.{RouterPort}
 use Rattle.nb_records.specs.declared.switch.SwitchPort.{SwitchPort}
 use Rattle.net_model.specs.State.{State}
 use Rattle.physical_flows.proofs.KeyLaws as laws
+use Rattle.physical_flows.proofs.VirtualPorts.{virtual_ports}
 use Rattle.physical_flows.specs.ChassisFlows.{basis_at}
 use Rattle.physical_flows.specs.GroupKeys.{group_key}
 use Rattle.physical_flows.specs.RecordKeys.{HaveKeys}
 use Rattle.physical_flows.specs.Rows.{entry_row, arrival_row, remote_row, spread_row, stay_row, home_row, copies_row, return_row, leave_row, output_row}
-use Rattle.physical_flows.specs.Stages.{Basis, zone_of, IsDatapath, IsPort, IsHere, EntryRow, RemoteRow, HomeRow, ReturnRow, OutputRow, homes_of, members_here}
+use Rattle.physical_flows.specs.Stages.{Basis, zone_of, IsDatapath, IsPort, IsHere, PatchPort, IsPatchPort, to_router, of_router, EntryRow, RemoteRow, HomeRow, ReturnRow, OutputRow, homes_of, members_here}
 use Rattle.tunnel_keys.specs.declared.owner.DatapathKey.{DatapathKey}
 use Rattle.tunnel_keys.specs.declared.owner.PortKey.{PortKey}
 use Rattle.sim_laws.proofs.Places.{name_at, is_local}
-use Rattle.sim_laws.proofs.GroupNumbers.{no_group, one_group}
+use Rattle.sim_laws.proofs.GroupNumbers.{no_group, one_group, one_flag}
 use Rattle.sim_laws.specs.journeys.UnderWay.{IsUnderWay}
-
--- the flag of one row that holds a packet is that of another
-abbrev word : Bool → ℕ
-word arrived = cond arrived 16 0
-
-one_flag : (v w : Bool) → word v ≡ word w → v ≡ w
-one_flag true true e = refl
-one_flag true false e = absurd (omega (arith, e))
-one_flag false true e = absurd (omega (arith, e))
-one_flag false false e = refl
 
 module _ (m : State) (zones : Zoned) (more : ℕ) (u : IsUnderWay m zones more) (chassis : Name) where
   abbrev b : Basis
@@ -41,6 +33,15 @@ module _ (m : State) (zones : Zoned) (more : ℕ) (u : IsUnderWay m zones more) 
 
   keys : HaveKeys m.config.net m.keys
   keys = u.keys
+
+  -- ---- no port leads into another datapath
+
+  no_router_port : (q : Name) (port : RouterPort) → at m.config.net.router_ports q ≡ Some port → ⊥
+  no_router_port q port there = none-some port (sym (ap (λ (ps : List (Name × RouterPort)). at ps q) u.no_router.router_ports) ∙ there)
+
+  no_patch : (x : PatchPort) → IsPatchPort b x → ⊥
+  no_patch x (to_router q port dp key of leads is) = false≢true (sym leads ∙ virtual_ports m.config.net u.valid u.no_router.router_ports q port of.there)
+  no_patch x (of_router q port dp key of is) = no_router_port q port of.there
 
   -- ---- each number is of one, and each has one number
 
@@ -117,13 +118,16 @@ module _ (m : State) (zones : Zoned) (more : ℕ) (u : IsUnderWay m zones more) 
         let number : key ≡ k = sym h.place.out_port_fits ∙ i.place.out_port_fits in
         let at_home = one_home q r home there is also (one_port q r port other dp d key k of their on number) in
         e ∙ (λ j. remote_row (on j) (number j) (at_home j)) ∙ sym x
+    spreads (RemoteRow.remote q port dp key home of is apart e) (RemoteRow.away y other leads at_home far x) = absurd (no_patch y leads)
     spreads (RemoteRow.remote q port dp key home of is apart e) (RemoteRow.spread o d group their x) =
         let number : key ≡ group_key group = sym (left (remote_row dp key home) e).place.out_port_fits ∙ (right (spread_row d group (homes_of b o group)) x).place.out_port_fits in
         absurd (no_group group key key (key_small q port dp key of) refl number)
     spreads (RemoteRow.remote q port dp key home of is apart e) (RemoteRow.stay x) = below (remote_row dp key home) stay_row e x (omega arith)
+    spreads (RemoteRow.away y home leads is apart e) row = absurd (no_patch y leads)
     spreads (RemoteRow.spread a dp group on e) (RemoteRow.remote r other d k there their also far x) =
         let number : k ≡ group_key group = sym (right (remote_row d k there) x).place.out_port_fits ∙ (left (spread_row dp group (homes_of b a group)) e).place.out_port_fits in
         absurd (no_group group k k (key_small r other d k their) refl number)
+    spreads (RemoteRow.spread a dp group on e) (RemoteRow.away y other leads at_home far x) = absurd (no_patch y leads)
     spreads (RemoteRow.spread a dp group on e) (RemoteRow.spread o d too their x) =
         let h = left (spread_row dp group (homes_of b a group)) e in
         let i = right (spread_row d too (homes_of b o too)) x in
@@ -133,6 +137,7 @@ module _ (m : State) (zones : Zoned) (more : ℕ) (u : IsUnderWay m zones more) 
         e ∙ (λ j. spread_row (same j) (groups j) (homes_of b (switch j) (groups j))) ∙ sym x
     spreads (RemoteRow.spread a dp group on e) (RemoteRow.stay x) = below (spread_row dp group (homes_of b a group)) stay_row e x (omega arith)
     spreads (RemoteRow.stay e) (RemoteRow.remote r other d k there their also far x) = above stay_row (remote_row d k there) e x (omega arith)
+    spreads (RemoteRow.stay e) (RemoteRow.away y other leads at_home far x) = absurd (no_patch y leads)
     spreads (RemoteRow.stay e) (RemoteRow.spread o d group their x) = above stay_row (spread_row d group (homes_of b o group)) e x (omega arith)
     spreads (RemoteRow.stay e) (RemoteRow.stay x) = e ∙ sym x
 
@@ -144,20 +149,26 @@ module _ (m : State) (zones : Zoned) (more : ℕ) (u : IsUnderWay m zones more) 
         let number : key ≡ k = sym h.place.out_port_fits ∙ i.place.out_port_fits in
         let zone = one_zone q r z y here there (one_port q r port other dp d key k of their on number) in
         e ∙ (λ j. home_row (on j) (number j) (zone j)) ∙ sym x
+    homes (HomeRow.home q port dp key z of here e) (HomeRow.passes y leads at_home x) = absurd (no_patch y leads)
+    homes (HomeRow.home q port dp key z of here e) (HomeRow.enters y leads at_home x) = absurd (no_patch y leads)
     homes (HomeRow.home q port dp key z of here e) (HomeRow.copies o d group arrived their x) =
-        let number : key ≡ group_key group = sym (left (home_row dp key z) e).place.out_port_fits ∙ (right (copies_row d group arrived (members_here b o group)) x).place.out_port_fits in
+        let number : key ≡ group_key group = sym (left (home_row dp key z) e).place.out_port_fits ∙ (right (copies_row d group arrived (members_here b o group arrived)) x).place.out_port_fits in
         absurd (no_group group key key (key_small q port dp key of) refl number)
+    homes (HomeRow.passes y leads is e) row = absurd (no_patch y leads)
+    homes (HomeRow.enters y leads is e) row = absurd (no_patch y leads)
     homes (HomeRow.copies a dp group arrived on e) (HomeRow.home r other d k y their there x) =
-        let number : k ≡ group_key group = sym (right (home_row d k y) x).place.out_port_fits ∙ (left (copies_row dp group arrived (members_here b a group)) e).place.out_port_fits in
+        let number : k ≡ group_key group = sym (right (home_row d k y) x).place.out_port_fits ∙ (left (copies_row dp group arrived (members_here b a group arrived)) e).place.out_port_fits in
         absurd (no_group group k k (key_small r other d k their) refl number)
+    homes (HomeRow.copies a dp group arrived on e) (HomeRow.passes y leads at_home x) = absurd (no_patch y leads)
+    homes (HomeRow.copies a dp group arrived on e) (HomeRow.enters y leads at_home x) = absurd (no_patch y leads)
     homes (HomeRow.copies a dp group arrived on e) (HomeRow.copies o d too came their x) =
-        let h = left (copies_row dp group arrived (members_here b a group)) e in
-        let i = right (copies_row d too came (members_here b o too)) x in
+        let h = left (copies_row dp group arrived (members_here b a group arrived)) e in
+        let i = right (copies_row d too came (members_here b o too came)) x in
         let same : dp ≡ d = sym h.place.dp_fits ∙ i.place.dp_fits in
         let groups : group ≡ too = one_group group too (sym h.place.out_port_fits ∙ i.place.out_port_fits) in
         let flag : arrived ≡ came = one_flag arrived came (sym h.state.flags_fits ∙ i.state.flags_fits) in
         let switch : a ≡ o = one_datapath a o dp d on their same in
-        e ∙ (λ j. copies_row (same j) (groups j) (flag j) (members_here b (switch j) (groups j))) ∙ sym x
+        e ∙ (λ j. copies_row (same j) (groups j) (flag j) (members_here b (switch j) (groups j) (flag j))) ∙ sym x
 
     pub backs : ReturnRow b f → ReturnRow b g → f ≡ g
     backs (ReturnRow.back q port dp key of e) (ReturnRow.back r other d k their x) =
@@ -166,15 +177,22 @@ module _ (m : State) (zones : Zoned) (more : ℕ) (u : IsUnderWay m zones more) 
         let on : dp ≡ d = sym h.place.dp_fits ∙ i.place.dp_fits in
         let number : key ≡ k = sym h.place.out_port_fits ∙ i.place.out_port_fits in
         e ∙ (λ j. return_row (on j) (number j)) ∙ sym x
+    backs (ReturnRow.back q port dp key of e) (ReturnRow.back_in r other d k their x) = absurd (no_router_port r other their.there)
     backs (ReturnRow.back q port dp key of e) (ReturnRow.leave x) = below (return_row dp key) leave_row e x (omega arith)
+    backs (ReturnRow.back_in q port dp key of e) row = absurd (no_router_port q port of.there)
+    backs (ReturnRow.leave e) (ReturnRow.back_in r other d k their x) = absurd (no_router_port r other their.there)
     backs (ReturnRow.leave e) (ReturnRow.back r other d k their x) = above leave_row (return_row d k) e x (omega arith)
     backs (ReturnRow.leave e) (ReturnRow.leave x) = e ∙ sym x
 
     pub outputs : OutputRow b f → OutputRow b g → f ≡ g
-    outputs (OutputRow.output q port dp key of e) (OutputRow.output r other d k their x) =
+    outputs (OutputRow.output q port dp key of own e) (OutputRow.output r other d k their also x) =
         let h = left (output_row dp q key) e in
         let i = right (output_row d r k) x in
         let on : dp ≡ d = sym h.place.dp_fits ∙ i.place.dp_fits in
         let number : key ≡ k = sym h.place.out_port_fits ∙ i.place.out_port_fits in
         let same = one_port q r port other dp d key k of their on number in
         e ∙ (λ j. output_row (on j) (same j) (number j)) ∙ sym x
+    outputs (OutputRow.output q port dp key of own e) (OutputRow.patch y partner leads is x) = absurd (no_patch y leads)
+    outputs (OutputRow.output q port dp key of own e) (OutputRow.no_peer y leads is x) = absurd (no_patch y leads)
+    outputs (OutputRow.patch y partner leads is e) row = absurd (no_patch y leads)
+    outputs (OutputRow.no_peer y leads is e) row = absurd (no_patch y leads)

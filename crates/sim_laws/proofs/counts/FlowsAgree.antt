@@ -30,6 +30,7 @@ use Rattle.switch_engine.specs.OneWalk.{BestAgree}
 use Rattle.tunnel_keys.proofs.HeldKeys.{found}
 use Rattle.tunnel_keys.specs.declared.owner.PortKey.{PortKey}
 use Rattle.sim_laws.proofs.counts.AroundAgree.{entries, spreads, homes, backs, outputs}
+use Rattle.sim_laws.proofs.journey_laws.Premises.{on_switch_port}
 use Rattle.sim_laws.specs.journeys.Tables.{ChassisFlow, AreTablesOf}
 use Rattle.sim_laws.specs.journeys.UnderWay.{IsUnderWay}
 
@@ -40,7 +41,7 @@ module _ (m : State) (zones : Zoned) (more : ℕ) (u : IsUnderWay m zones more) 
 
   owned : (q : Name) (k : PortKey) → at m.keys.ports q ≡ Some k → (i : SwitchPort) × (at m.config.net.switch_ports q ≡ Some i) × (i.switch ≡ k.datapath)
   owned q k is =
-      let i = found (at m.config.net.switch_ports q) (u.keys.port_of q k is) in
+      let i = found (at m.config.net.switch_ports q) (on_switch_port m.config.net m.keys u.keys u.no_router q k is) in
       let own = u.keys.port_has q i.0 i.1 in
       (i.0, i.1, sym own.3 ∙ ap (λ (x : PortKey). x.datapath) (same_Some own.0 k (sym own.1 ∙ is)))
 
@@ -112,19 +113,25 @@ module _ (m : State) (zones : Zoned) (more : ℕ) (u : IsUnderWay m zones more) 
 
     remote_agrees : (table : ℕ) → f.table ≡ table → RemoteRow b f → Agree table
     remote_agrees table at' (RemoteRow.remote q port dp key home of bound apart e) = in_table table REMOTE_TABLE (sym at' ∙ ap (λ (h : Flow). h.table) e) at_remote
+    remote_agrees table at' (RemoteRow.away x home leads is apart e) = in_table table REMOTE_TABLE (sym at' ∙ ap (λ (h : Flow). h.table) e) at_remote
     remote_agrees table at' (RemoteRow.spread a dp group on e) = in_table table REMOTE_TABLE (sym at' ∙ ap (λ (h : Flow). h.table) e) at_remote
     remote_agrees table at' (RemoteRow.stay e) = in_table table REMOTE_TABLE (sym at' ∙ ap (λ (h : Flow). h.table) e) at_remote
 
     home_agrees : (table : ℕ) → f.table ≡ table → HomeRow b f → Agree table
     home_agrees table at' (HomeRow.home q port dp key zone of is e) = in_table table LOCAL_TABLE (sym at' ∙ ap (λ (h : Flow). h.table) e) at_home
+    home_agrees table at' (HomeRow.passes x leads is e) = in_table table LOCAL_TABLE (sym at' ∙ ap (λ (h : Flow). h.table) e) at_home
+    home_agrees table at' (HomeRow.enters x leads is e) = in_table table LOCAL_TABLE (sym at' ∙ ap (λ (h : Flow). h.table) e) at_home
     home_agrees table at' (HomeRow.copies a dp group arrived on e) = in_table table LOCAL_TABLE (sym at' ∙ ap (λ (h : Flow). h.table) e) at_home
 
     back_agrees : (table : ℕ) → f.table ≡ table → ReturnRow b f → Agree table
     back_agrees table at' (ReturnRow.back q port dp key of e) = in_table table LOOPBACK_TABLE (sym at' ∙ ap (λ (h : Flow). h.table) e) at_back
+    back_agrees table at' (ReturnRow.back_in q port dp key of e) = in_table table LOOPBACK_TABLE (sym at' ∙ ap (λ (h : Flow). h.table) e) at_back
     back_agrees table at' (ReturnRow.leave e) = in_table table LOOPBACK_TABLE (sym at' ∙ ap (λ (h : Flow). h.table) e) at_back
 
     output_agrees : (table : ℕ) → f.table ≡ table → OutputRow b f → Agree table
-    output_agrees table at' (OutputRow.output q port dp key of e) = in_table table OUTPUT_TABLE (sym at' ∙ ap (λ (h : Flow). h.table) e) at_output
+    output_agrees table at' (OutputRow.output q port dp key of own e) = in_table table OUTPUT_TABLE (sym at' ∙ ap (λ (h : Flow). h.table) e) at_output
+    output_agrees table at' (OutputRow.patch x partner leads is e) = in_table table OUTPUT_TABLE (sym at' ∙ ap (λ (h : Flow). h.table) e) at_output
+    output_agrees table at' (OutputRow.no_peer x leads is e) = in_table table OUTPUT_TABLE (sym at' ∙ ap (λ (h : Flow). h.table) e) at_output
 
     agrees : (table : ℕ) → f.table ≡ table → ChassisFlow m zones.numbers sets chassis f → Agree table
     agrees table at' (inl low) = let l = each_is_lowered m.keys sets low.row low.datapath f low.among in in_table table (stage_table low.row.stage) (sym at' ∙ l.in_table) (in_stage low.row.stage)

@@ -178,7 +178,7 @@ module _ (m : State) (zones : Zoned) (sets : Sets) (more : ℕ) (s new : sim.Sim
 
     w : IsWalked k n Such way m.lists effects left
     w =
-        let may = may_arrive m zones.numbers sets by flows (tunnel_entry_of m.keys x) x.home x may_wait in
+        let may = may_arrive m zones.numbers sets by flows (tunnel_entry_of m.keys x) x.home u.no_router x may_wait in
         walked k n Such whole_walk way m.lists lists (start (tunnel_entry_of m.keys x) x.packet ∷ []) (arrives k ready.laid zones.numbers ready.wired ready.owned n x may virtual refl m.lists lists (h.zones x.home lists listed))
         (λ choices legal. record { crossings = []; such = refl; way = arrival_on scene n x (λ is q aimed. aimed_virtual is x.aim may_wait.aim_live q aimed) (trail_with m.lists choices []) }) steps effects left walk
 

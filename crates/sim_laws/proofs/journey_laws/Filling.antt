@@ -1,5 +1,5 @@
 -- Flows that are the lowered rows and those around the pipelines fill the tables of a chassis.
-use Rattle.std.specs.Prelude.{◌≡◌, ◌⊎◌, ℕ, nat_eq, Bool, true, false, List, refl}
+use Rattle.std.specs.Prelude.{◌≡◌, ◌⊎◌, ℕ, nat_eq, true, false, List, refl}
 use Rattle.std.proofs.Common.{sym, ap, ◌∙◌, inl, inr}
 use Rattle.std.proofs.lemmas.Bool.{false≢true, eq-eqb}
 use Rattle.conn_zones.specs.Zoning.{Zoned}
@@ -55,19 +55,25 @@ module _ (b : Basis) (f : Flow) where
 
   remote_table : RemoteRow b f → f.table ≡ REMOTE_TABLE
   remote_table (RemoteRow.remote q port dp key home of bound apart e) = ap (λ (g : Flow). g.table) e
+  remote_table (RemoteRow.away x home leads is apart e) = ap (λ (g : Flow). g.table) e
   remote_table (RemoteRow.spread d dp group on e) = ap (λ (g : Flow). g.table) e
   remote_table (RemoteRow.stay e) = ap (λ (g : Flow). g.table) e
 
   home_table : HomeRow b f → f.table ≡ LOCAL_TABLE
   home_table (HomeRow.home q port dp key zone of is e) = ap (λ (g : Flow). g.table) e
+  home_table (HomeRow.passes x leads is e) = ap (λ (g : Flow). g.table) e
+  home_table (HomeRow.enters x leads is e) = ap (λ (g : Flow). g.table) e
   home_table (HomeRow.copies d dp group arrived on e) = ap (λ (g : Flow). g.table) e
 
   back_table : ReturnRow b f → f.table ≡ LOOPBACK_TABLE
   back_table (ReturnRow.back q port dp key of e) = ap (λ (g : Flow). g.table) e
+  back_table (ReturnRow.back_in q port dp key of e) = ap (λ (g : Flow). g.table) e
   back_table (ReturnRow.leave e) = ap (λ (g : Flow). g.table) e
 
   output_table : OutputRow b f → f.table ≡ OUTPUT_TABLE
-  output_table (OutputRow.output q port dp key of e) = ap (λ (g : Flow). g.table) e
+  output_table (OutputRow.output q port dp key of own e) = ap (λ (g : Flow). g.table) e
+  output_table (OutputRow.patch x partner leads is e) = ap (λ (g : Flow). g.table) e
+  output_table (OutputRow.no_peer x leads is e) = ap (λ (g : Flow). g.table) e
 
   -- its table
   abbrev table_around : AroundFlow b f → ℕ

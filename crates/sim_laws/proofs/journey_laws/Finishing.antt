@@ -105,8 +105,10 @@ module _ (m : State) (zones : Zoned) (sets : Sets) (more : ℕ) (s : SimState) (
   keys_settled = record {
     hold = settled_hold m.keys u.keys.hold;
     datapath_has = u.keys.datapath_has;
+    router_has = u.keys.router_has;
     datapath_of = u.keys.datapath_of;
     port_has = u.keys.port_has;
+    router_port_has = u.keys.router_port_has;
     port_of = u.keys.port_of;
     datapath_range = u.keys.datapath_range;
     port_range = u.keys.port_range;

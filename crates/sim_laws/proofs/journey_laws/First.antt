@@ -44,8 +44,10 @@ no_keys_held : HaveKeys empty.config.net empty.keys
 no_keys_held = record {
   hold = none_hold 16777215 32767 (omega arith, omega arith) (omega arith, omega arith);
   datapath_has = λ a switch e. absurd (none-some switch e);
+  router_has = λ a router e. absurd (none-some router e);
   datapath_of = λ a k e. absurd (none-some k e);
   port_has = λ q port e. absurd (none-some port e);
+  router_port_has = λ q port e. absurd (none-some port e);
   port_of = λ q k e. absurd (none-some k e);
   datapath_range = refl;
   port_range = refl;

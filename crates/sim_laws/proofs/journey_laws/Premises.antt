@@ -1,8 +1,10 @@
 -- What the laws of passes ask of a chassis, soundness gives.
-use Rattle.std.specs.Prelude.{◌≡◌, ◌++◌, ℕ, true, List, map, Option, None, Some, option_map, refl}
+use Rattle.std.specs.Prelude.{◌≡◌, ◌++◌, ℕ, true, List, map, Option, None, Some, IsSome, is_some, option_map, refl}
 use Rattle.std.proofs.Common.{sym, ap, ◌∙◌, subst, inl, inr}
 use Rattle.std.proofs.Math.Dec.{eqb as nat_eq}
+use Rattle.std.proofs.lemmas.Bool.{false≢true}
 use Rattle.std.proofs.lemmas.Bool.Decides.{Decides-eqb}
+use Rattle.std.proofs.lemmas.Option.{none-some}
 use Rattle.conn_zones.specs.Zoning.{Zoned, KnownHomes, GivenNumbers, home_for, number_on}
 use Rattle.conn_zones.specs.declared.numbers.ZoneUse.{ZoneUse}
 use Rattle.conn_zones.specs.declared.numbers.ZoneUse.TheVariants as zone
@@ -36,6 +38,7 @@ use Rattle.tunnel_keys.specs.Keys.{Keys}
 use Rattle.tunnel_keys.specs.Same.{identity_exact}
 use Rattle.tunnel_keys.specs.declared.owner.Identity.{Identity}
 use Rattle.tunnel_keys.specs.declared.owner.KeyOwner.{KeyOwner}
+use Rattle.tunnel_keys.specs.declared.owner.PortKey.{PortKey}
 use Rattle.sim_laws.specs.Sound.{MayWait, IsOnLive, IsAimOnLive, has_birth}
 use Rattle.sim_laws.specs.Sound as old
 use Rattle.sim_laws.specs.journeys.InState.{use_of, zones_on, chassis_at}
@@ -76,6 +79,13 @@ module _ (net : Network) (keys : Keys) (valid : IsValid net) (have : HaveKeys ne
         | inr port ↦ absurd (among_none owner (subst (λ (ps : List (Name × RouterPort)). Among owner (map router_port_owner ps)) none.router_ports port))
       ]
 
+-- on switches none but their ports
+pub on_switch_port : (net : Network) (keys : Keys) → HaveKeys net keys → HasNoRouter net → (q : Name) (k : PortKey) → at keys.ports q ≡ Some k → IsSome (at net.switch_ports q)
+on_switch_port net keys have none q k has = elim (have.port_of q k has) [
+  | inl port ↦ port
+  | inr port ↦ absurd (false≢true (ap (λ (ps : List (Name × RouterPort)). is_some (at ps q)) (sym none.router_ports) ∙ port))
+]
+
 -- ---- zones
 
 -- whose zone it is
@@ -115,14 +125,15 @@ module _ (m : State) (numbers : GivenNumbers) (sets : Sets) (by : Choosing) (flo
   aim_on_switch datapath (ToPort id) live = on_switch datapath id live
   aim_on_switch datapath (ToGroup g) live = tt
 
-  pub may_arrive : (x : Crossing) → MayWait m x → MayArrive s x
-  may_arrive x w = record {
+  pub may_arrive : HasNoRouter m.config.net → (x : Crossing) → MayWait m x → MayArrive s x
+  may_arrive none x w = record {
     whole = w.whole;
     datapath_key = w.datapath_key;
     in_key = w.in_key;
     aim_key = w.aim_key;
     in_on = on_switch x.datapath x.in_port w.in_live;
     aim_on = aim_on_switch x.datapath x.aim w.aim_live;
+    no_router = λ router there. absurd (none-some router (sym (ap (λ (rs : List (Name × Router)). at rs x.datapath.name) none.routers) ∙ there));
     no_return = w.no_return;
   }
 
@@ -131,10 +142,10 @@ module _ (m : State) (numbers : GivenNumbers) (sets : Sets) (by : Choosing) (flo
 pub sound_on : SoundOnLaw
 sound_on m zones more u sets by flows entry chassis = record {
   live = owners_live m.config.net m.keys u.valid u.keys u.no_router;
-  owned = λ q k has on. u.keys.port_of q k has;
+  owned = λ q k has on. on_switch_port m.config.net m.keys u.keys u.no_router q k has;
   apart = zones_apart zones chassis (u.bound.zoned.apart chassis);
   number = λ q. refl;
   zoned = λ q home. (u.bound.zoned.at_home chassis (zone.Port q)).0 (ap (λ (h : KnownHomes). home_for h (zone.Port q)) u.bound.homes ∙ home);
   in_range = λ q z is. (u.bound.zoned.in_range chassis (zone.Port q) z is).1;
-  arrive = λ n x waits. may_arrive m zones.numbers sets by flows entry chassis x (u.crossings.may n x waits);
+  arrive = λ n x waits. may_arrive m zones.numbers sets by flows entry chassis u.no_router x (u.crossings.may n x waits);
 }

@@ -22,11 +22,10 @@ use Rattle.ovn_base.specs.declared.name.Name.{Name}
 use Rattle.ovn_base.specs.lists.Among.{Among, here, there}
 use Rattle.ovn_base.specs.names.ByName.{at}
 use Rattle.ovn_base.specs.names.SameName.{same_name, bytes_decides}
-use Rattle.physical_flows.specs.Homes.{is_home}
-use Rattle.sim_laws.proofs.Homes.{bound_to}
+use Rattle.sim_laws.proofs.Homes.{here_bound}
 use Rattle.sim_laws.proofs.journey_laws.SwitchWays.{leave_on}
 use Rattle.sim_laws.proofs.journey_laws.Ways.{WayOn, stays, both, told}
-use Rattle.sim_laws.proofs.passes.Members.{here_so, virtual_is}
+use Rattle.sim_laws.proofs.passes.Members.{virtual_is}
 use Rattle.tunnel_keys.specs.declared.owner.Identity.{Identity}
 
 -- ---- lists
@@ -50,8 +49,7 @@ module _ (s : Scene) (n : ℕ) where
   -- a virtual port that is at home here is bound here
   pub bound_here : (q : SwitchPort) → is_virtual q ≡ true → is_here s.here (home_of s.config q) ≡ true → at s.config.bindings q.name ≡ Some s.here
   bound_here q virtual h =
-      bound_to s.config.bindings q.name s.here
-      (sym (ap (λ k. is_here s.here (home_by_kind s.config q k)) (virtual_is q.kind virtual) ∙ here_so s.here (at s.config.bindings q.name)) ∙ h)
+      here_bound s.here (at s.config.bindings q.name) (sym (ap (λ k. is_here s.here (home_by_kind s.config q k)) (virtual_is q.kind virtual)) ∙ h)
 
   -- a way on which such crossings are left, and no more than there are chassis or one
   pub record Sends (P : Crossing → Type 0) (t u : Trail) : Type 0 where

@@ -24,13 +24,13 @@ use Rattle.ovn_base.specs.names.ByName.{at}
 use Rattle.physical_flows.specs.RecordKeys.{HaveKeys}
 use Rattle.tunnel_keys.specs.Same.{same_identity}
 use Rattle.tunnel_keys.specs.declared.owner.Identity.{Identity}
-use Rattle.sim_laws.proofs.Homes.{bound_to}
+use Rattle.sim_laws.proofs.Homes.{one_bound}
 use Rattle.sim_laws.proofs.journey_laws.SendingWays.{OnWay, Sends, quiet, copies_on, target_sends}
 use Rattle.sim_laws.proofs.journey_laws.SentCrossings.{from, IsOwn, to_port, to_members, target_suits}
 use Rattle.sim_laws.proofs.journey_laws.SwitchWays.{enter_on, leave_on}
 use Rattle.sim_laws.proofs.journey_laws.Ways.{PointOn, both, told}
 use Rattle.sim_laws.proofs.journey_laws.WholePackets.{PointWhole}
-use Rattle.sim_laws.proofs.passes.Members.{virtual_is, on_so}
+use Rattle.sim_laws.proofs.passes.Members.{virtual_is}
 
 module _ (m : State) (valid : IsValid m.config.net) (have : HaveKeys m.config.net m.keys) (i : SwitchPort) (i_there : at m.config.net.switch_ports i.name ≡ Some i)
     (virtual : (q : SwitchPort) → at m.config.net.switch_ports q.name ≡ Some q → q.switch ≡ i.switch → is_virtual q ≡ true) (chassis : Name) (home : at m.config.bindings i.name ≡ Some chassis) where
@@ -70,8 +70,7 @@ module _ (s : Scene) (n : ℕ) (x : Crossing) where
   -- a virtual port that is reached is bound here
   reached_here : (q : SwitchPort) → is_virtual q ≡ true → is_reached s q ≡ true → at s.config.bindings q.name ≡ Some s.here
   reached_here q virtual h =
-      bound_to s.config.bindings q.name s.here
-      (sym (ap (λ k. is_on s.here (home_by_kind s.config q k)) (virtual_is q.kind virtual) ∙ on_so s.here (at s.config.bindings q.name)) ∙ h)
+      one_bound s.here (at s.config.bindings q.name) (sym (ap (λ k. is_on s.here (home_by_kind s.config q k)) (virtual_is q.kind virtual)) ∙ h)
 
   lost_on : (t : Trail) → OnWay s n [] t (tell (is_lost n) t)
   lost_on t = told s.config s.here n (is_lost n) t refl

@@ -15,9 +15,10 @@ use Rattle.inet_packet.specs.declared.regs.At.TheVariants as at_of
 use Rattle.inet_packet.specs.declared.regs.Reg.{Reg}
 use Rattle.inet_packet.specs.declared.regs.Reg.TheVariants as reg
 use Rattle.inet_packet.specs.declared.regs.Regs.{Regs}
+use Rattle.nb_records.specs.Switches.{is_virtual}
 use Rattle.nb_records.specs.declared.switch.SwitchPort.{SwitchPort}
 use Rattle.net_model.specs.Arrival.{is_switch, is_reached, port_reached, members_reached, reach_port, reach, reach_if, arrival}
-use Rattle.net_model.specs.Config.{is_on, port_identity}
+use Rattle.net_model.specs.Config.{home_if, on as home_on, is_on, port_identity}
 use Rattle.net_model.specs.Exit.{leave}
 use Rattle.net_model.specs.Sights.{roster_of, is_live_one}
 use Rattle.net_model.specs.Spread.{copy_to_each}
@@ -32,14 +33,13 @@ use Rattle.ovn_base.specs.declared.name.Name.{Name}
 use Rattle.ovn_base.specs.declared.stages.TheConstants.{ENTRY_TABLE, LOCAL_TABLE}
 use Rattle.ovn_base.specs.lists.Among.{Among}
 use Rattle.ovn_base.specs.names.ByName.{at}
-use Rattle.physical_flows.proofs.RowFits.{tunnel_fits, fits_entry, fits_exit, fits_group}
+use Rattle.physical_flows.proofs.RowFits.{tunnel_fits, fits_entry, fits_exit, fits_way, fits_group}
 use Rattle.physical_flows.specs.GroupKeys.{group_key}
-use Rattle.physical_flows.specs.Homes.{is_at}
-use Rattle.physical_flows.specs.Rows.{entry_row, arrival_row}
-use Rattle.physical_flows.specs.Stages.{IsDatapath, EntryRow, HomeRow, member_of}
+use Rattle.physical_flows.specs.Rows.{on_way, entry_row, arrival_row}
+use Rattle.physical_flows.specs.Stages.{IsDatapath, IsPort, PatchPort, IsPatchPort, to_router, of_router, EntryRow, HomeRow, member_of}
 use Rattle.row_laws.proofs.records.ValidPorts.{on_switch, port_named}
 use Rattle.row_laws.specs.Numbers.{IsDatapathKey, StandsFor}
-use Rattle.switch_engine.specs.Actions.{set_reg, with_header, gone_on, copies_for}
+use Rattle.switch_engine.specs.Actions.{set_reg, with_header, gone_on}
 use Rattle.switch_engine.specs.Walk.{start, start_regs, unmatched}
 use Rattle.switch_engine.specs.Zones.{ZoneLists}
 use Rattle.switch_engine.specs.declared.carried.Carried.{Carried}
@@ -52,24 +52,26 @@ use Rattle.tunnel_keys.specs.declared.owner.HeldPort.{HeldPort}
 use Rattle.tunnel_keys.specs.declared.owner.Identity.{Identity}
 use Rattle.tunnel_keys.specs.declared.owner.PortKey.{PortKey}
 use Rattle.sim_laws.proofs.Places.{is_local}
-use Rattle.sim_laws.proofs.Homes.{bound_to, is_bound_to}
+use Rattle.sim_laws.proofs.Homes.{reached_on}
 use Rattle.sim_laws.proofs.KeyLookups.{port_key_is}
-use Rattle.sim_laws.proofs.passes.Members.{same_tests, home_is, on_so, member_is}
+use Rattle.sim_laws.proofs.passes.Members.{same_tests, home_is, member_is}
 use Rattle.sim_laws.proofs.GroupNumbers.{no_group, group_short}
 use Rattle.sim_laws.proofs.passes.Ends.{ends_so}
-use Rattle.sim_laws.proofs.passes.GroupCopies.{IsMember, key_is, those_here, copies_go, group_33}
-use Rattle.sim_laws.proofs.passes.Identities.{vni, in_key, vni_held, in_held, its_there, the_switch, vni_on, its_port, came_stands}
+use Rattle.sim_laws.proofs.passes.GroupCopies.{IsMember, key_is, copies_go, group_33}
+use Rattle.sim_laws.proofs.passes.Identities.{vni, in_key, vni_held, in_held, its_there, the_switch, not_router, vni_on, its_port, came_stands}
 use Rattle.sim_laws.proofs.passes.Leaving.{leaves_by, dp_within, to_within}
 use Rattle.sim_laws.proofs.passes.LiveNumbers.{hold, one_datapath, port_among, port_live, switch_live, port_of, same_port_key}
 use Rattle.sim_laws.proofs.passes.OnePort.{IsFor, IsHomed, homes_33}
 use Rattle.sim_laws.proofs.passes.RowSteps.{Does, Taken, row_step, no_row, row_fits, as_row, comes_unmatched}
+use Rattle.sim_laws.proofs.passes.Sending.{none_leads}
 use Rattle.sim_laws.proofs.pipelines.Copies.{goes_so}
 use Rattle.sim_laws.proofs.pipelines.Pieces.{comes_then}
 use Rattle.sim_laws.specs.Effects.{port_key, aim_key}
 use Rattle.sim_laws.specs.Naming.{IsNumbered}
 use Rattle.sim_laws.specs.Sound.{HasAimKey}
-use Rattle.sim_laws.specs.passes.Arriving.{tunnel_entry_of, AreOwned, IsOnSwitch, IsAimOnSwitch, MayArrive, ArrivingLaw}
-use Rattle.sim_laws.specs.passes.Physical.{AreVirtual, basis_of, IsWired}
+use Rattle.sim_laws.specs.passes.Arriving.{tunnel_entry_of, AreOwned, IsOnSwitch, IsAimOnSwitch, MayArrive, ArrivingOnLaw, ArrivingLaw}
+use Rattle.sim_laws.specs.passes.Onward.{LeadsOn}
+use Rattle.sim_laws.specs.passes.Physical.{basis_of, IsWired}
 use Rattle.sim_laws.specs.passes.ToEnd.{Never, EndsAs}
 use Rattle.sim_laws.specs.pipelines.Egress.{EgressLaw}
 use Rattle.sim_laws.specs.pipelines.HeldLists.{HoldLists}
@@ -77,7 +79,8 @@ use Rattle.sim_laws.specs.pipelines.Pieces.{ComesTo}
 use Rattle.sim_laws.specs.pipelines.Standing.{Chassis, net_of, course_of, IsLaidOut}
 use Rattle.sim_laws.specs.pipelines.WalkOn.{Reached, Comes}
 
-module _ (s : Chassis) (laid : IsLaidOut s) (numbers : GivenNumbers) (wired : IsWired s numbers) (owned : AreOwned s) (law : EgressLaw) (n : ℕ) (x : Crossing) (may : MayArrive s x) (virtual : AreVirtual s x.datapath.name) (entry_is : s.entry ≡ tunnel_entry_of s.keys x)
+module _ (s : Chassis) (laid : IsLaidOut s) (numbers : GivenNumbers) (wired : IsWired s numbers) (owned : AreOwned s) (law : EgressLaw) (n : ℕ) (x : Crossing) (may : MayArrive s x)
+    (leads : LeadsOn s (passing_on s.scene) x.datapath.name 0) (entry_is : s.entry ≡ tunnel_entry_of s.keys x)
     (lists : Lists) (zones : ZoneLists) (hold_them : HoldLists s.number zones lists) where
   abbrev out_key : ℕ
   out_key = aim_key s.keys x.aim
@@ -159,11 +162,28 @@ module _ (s : Chassis) (laid : IsLaidOut s) (numbers : GivenNumbers) (wired : Is
       (subst (λ e. Lost (unmatched e arrived) zones []) (sym entry_is)
       (ends_so s (λ t. tell (is_lost n) t) lists lists (effect.Lost ∷ []) (is_lost n ∷ []) zones (IsNumbered.lost, tt) hold_them (λ choices ends. refl)))
 
+  -- it came out of a tunnel
+  not_inside : (d k : ℕ) → CubeFits (on_way d k) regs x.packet → ⊥
+  not_inside d k fitting =
+      let fits = fits_way regs x.packet d k (dp_within regs within) (to_within regs within) fitting in
+      let none : 16 ≡ 0 = fits.2 in
+      absurd (omega (arith, none))
+
   -- a row is of the crossing's switch, which is there
   row_there : (f : Flow) → HomeRow (basis_of s numbers) f → Fitting f → is_switch (net_of s) x.datapath ≡ true
   row_there f (HomeRow.home r other d k zone theirs bound e) fitting =
       let fits = fits_exit regs x.packet d k (dp_within regs within) (to_within regs within) (subst (λ (g : Flow). CubeFits g.cube regs x.packet) e fitting) in
       its_there s laid owned x may other.switch theirs.on.switch theirs.on.there (theirs.on.live, theirs.on.has, theirs.on.number ∙ sym fits.0)
+  row_there f (HomeRow.passes y theirs is e) fitting =
+      let fits = fits_exit regs x.packet y.dp y.key (dp_within regs within) (to_within regs within) (subst (λ (g : Flow). CubeFits g.cube regs x.packet) e fitting) in
+      by y theirs fits.0
+    where
+      by : (y : PatchPort) → IsPatchPort (basis_of s numbers) y → number_of ≡ y.dp → is_switch (net_of s) x.datapath ≡ true
+      by y (to_router r other d k theirs kind is) same =
+          its_there s laid owned x may other.switch theirs.on.switch theirs.on.there (theirs.on.live, theirs.on.has, theirs.on.number ∙ sym (same ∙ ap (λ (z : PatchPort). z.dp) is))
+      by y (of_router r other d k theirs is) same =
+          absurd (not_router s laid owned x may other.router theirs.on.router theirs.on.there (theirs.on.live, theirs.on.has, theirs.on.number ∙ sym (same ∙ ap (λ (z : PatchPort). z.dp) is)))
+  row_there f (HomeRow.enters y theirs is e) fitting = absurd (not_inside y.dp y.key (subst (λ (g : Flow). CubeFits g.cube regs x.packet) e fitting))
   row_there f (HomeRow.copies a d g came_out theirs e) fitting =
       let fits = fits_group regs x.packet d g came_out (dp_within regs within) (to_within regs within) (subst (λ (h : Flow). CubeFits h.cube regs x.packet) e fitting) in
       its_there s laid owned x may a theirs.switch theirs.there (theirs.live, theirs.has, theirs.number ∙ sym fits.0)
@@ -196,25 +216,47 @@ module _ (s : Chassis) (laid : IsLaidOut s) (numbers : GivenNumbers) (wired : Is
       abbrev is_reached_one : SwitchPort → Bool
       is_reached_one q = same_identity (port_identity q) id && is_reached s.scene q
 
-      reached_here : (q : SwitchPort) → at (net_of s).switch_ports q.name ≡ Some q → q.switch ≡ x.datapath.name → is_reached s.scene q ≡ is_at s.scene.config.bindings q.name s.scene.here
-      reached_here q found on = ap (is_on s.scene.here) (home_is s q (virtual q.name q found on)) ∙ on_so s.scene.here (at s.scene.config.bindings q.name)
+      bound_reached : (q : SwitchPort) → at (net_of s).switch_ports q.name ≡ Some q → q.switch ≡ x.datapath.name → at s.scene.config.bindings q.name ≡ Some s.scene.here → is_reached s.scene q ≡ true
+      bound_reached q found on bound = by (is_virtual q) refl
+        where
+          by : (v : Bool) → is_virtual q ≡ v → is_reached s.scene q ≡ true
+          by true virtual = ap (is_on s.scene.here) (home_is s q virtual ∙ ap (home_if home_on) bound) ∙ reached_on true s.scene.here
+          by false kind = absurd (none-some s.scene.here (sym (leads.unbound q found on kind) ∙ bound))
 
-      -- so it is where a row fits
-      row_reached : (f : Flow) → HomeRow (basis_of s numbers) f → Fitting f → (q : SwitchPort) × (at (net_of s).switch_ports id.name ≡ Some q) × (is_reached_one q ≡ true)
-      row_reached f (HomeRow.home r other d k zone theirs bound e) fitting =
-          let fits = fits_exit regs x.packet d k (dp_within regs within) (to_within regs within) (subst (λ (g : Flow). CubeFits g.cube regs x.packet) e fitting) in
+      -- so it is where a row fits: that of a port with its numbers
+      abbrev Reaches : Type 0
+      Reaches = (q : SwitchPort) × (at (net_of s).switch_ports id.name ≡ Some q) × (is_reached_one q ≡ true)
+
+      port_reaches : (r : Name) (other : SwitchPort) (d k : ℕ) → IsPort (basis_of s numbers) r other d k → number_of ≡ d → out_key ≡ k
+          → (at (net_of s).switch_ports other.name ≡ Some other → other.switch ≡ x.datapath.name → other.name ≡ r → is_reached s.scene other ≡ true) → Reaches
+      port_reaches r other d k theirs dp_is key_is reached =
           let same : record { name = r; birth = other.birth } ≡ id =
-          its_port s laid owned x may r other theirs.there (theirs.on.live, theirs.on.has, theirs.on.number ∙ sym fits.0) k (port_of s laid numbers r other d k theirs) aim_held.0 aim_held.1
-          (aim_on is aim_held.0 aim_held.1 aim_held.2) (sym fits.1 ∙ out_held) ∙ aim_held.2 in
+          its_port s laid owned x may r other theirs.there (theirs.on.live, theirs.on.has, theirs.on.number ∙ sym dp_is) k (port_of s laid numbers r other d k theirs) aim_held.0 aim_held.1
+          (aim_on is aim_held.0 aim_held.1 aim_held.2) (sym key_is ∙ out_held) ∙ aim_held.2 in
           let named = port_named (net_of s) laid.valid r other theirs.there in
           let own : port_identity other ≡ id = (λ j. record { name = named j; birth = other.birth }) ∙ same in
           let found = ap (λ a. at (net_of s).switch_ports a) named ∙ theirs.there in
-          let on = one_datapath s laid other.switch x.datapath.name number_of (theirs.on.live, theirs.on.has, theirs.on.number ∙ sym fits.0) on_it in (
+          let on = one_datapath s laid other.switch x.datapath.name number_of (theirs.on.live, theirs.on.has, theirs.on.number ∙ sym dp_is) on_it in (
             other,
             ap (λ (i : Identity). at (net_of s).switch_ports i.name) (sym same) ∙ theirs.there,
-            and_from (same_identity (port_identity other) id) (is_reached s.scene other) (subst (λ (i : Identity). same_identity i id ≡ true) (sym own) (identity_own id))
-                (reached_here other found on ∙ is_bound_to s.scene.config.bindings other.name s.scene.here (ap (λ a. at s.scene.config.bindings a) named ∙ bound.bound)),
+            and_from (same_identity (port_identity other) id) (is_reached s.scene other) (subst (λ (i : Identity). same_identity i id ≡ true) (sym own) (identity_own id)) (reached found on named),
           )
+
+      row_reached : (f : Flow) → HomeRow (basis_of s numbers) f → Fitting f → Reaches
+      row_reached f (HomeRow.home r other d k zone theirs bound e) fitting =
+          let fits = fits_exit regs x.packet d k (dp_within regs within) (to_within regs within) (subst (λ (g : Flow). CubeFits g.cube regs x.packet) e fitting) in
+          port_reaches r other d k theirs fits.0 fits.1 (λ found on named. bound_reached other found on (ap (λ a. at s.scene.config.bindings a) named ∙ bound.bound))
+      row_reached f (HomeRow.passes y theirs at_home e) fitting =
+          let fits = fits_exit regs x.packet y.dp y.key (dp_within regs within) (to_within regs within) (subst (λ (g : Flow). CubeFits g.cube regs x.packet) e fitting) in
+          by y theirs at_home fits.0 fits.1
+        where
+          by : (y : PatchPort) → IsPatchPort (basis_of s numbers) y → y.home ≡ home_on s.scene.here → number_of ≡ y.dp → out_key ≡ y.key → Reaches
+          by y (to_router r other d k theirs kind same) at_home dp_is key_is =
+              port_reaches r other d k theirs (dp_is ∙ ap (λ (z : PatchPort). z.dp) same) (key_is ∙ ap (λ (z : PatchPort). z.key) same)
+              (λ found on named. ap (is_on s.scene.here) (sym (ap (λ (z : PatchPort). z.home) same) ∙ at_home) ∙ reached_on true s.scene.here)
+          by y (of_router r other d k theirs same) at_home dp_is key_is =
+              absurd (not_router s laid owned x may other.router theirs.on.router theirs.on.there (theirs.on.live, theirs.on.has, theirs.on.number ∙ sym (dp_is ∙ ap (λ (z : PatchPort). z.dp) same)))
+      row_reached f (HomeRow.enters y theirs at_home e) fitting = absurd (not_inside y.dp y.key (subst (λ (g : Flow). CubeFits g.cube regs x.packet) e fitting))
       row_reached f (HomeRow.copies a d g came_out theirs e) fitting =
           let fits = fits_group regs x.packet d g came_out (dp_within regs within) (to_within regs within) (subst (λ (h : Flow). CubeFits h.cube regs x.packet) e fitting) in
           let low = key_low aim_held.0 aim_held.1 in
@@ -237,7 +279,7 @@ module _ (s : Chassis) (laid : IsLaidOut s) (numbers : GivenNumbers) (wired : Is
           let together : held.datapath ≡ x.datapath = aim_on is held m own in
           let switch : x.datapath.name ≡ q.switch = ap (λ (i : Identity). i.name) (sym together) in
           let key : out_key ≡ p.0 = out_is ∙ port_key_is s.keys (hold s laid) held id m own in
-          let bound = bound_to s.scene.config.bindings q.name s.scene.here (sym (reached_here q found (sym switch)) ∙ parts.1) in
+          let unbound = leads.unbound q found (sym switch) in
           let goes : IsFor s x.in_port q x.packet LOCAL_TABLE lists zones arrived = record {
             in_table = refl;
             packet = refl;
@@ -252,10 +294,10 @@ module _ (s : Chassis) (laid : IsLaidOut s) (numbers : GivenNumbers) (wired : Is
           λ same.
           let owner = (hold s laid).ports_apart may.in_key.0 held may.in_key.1 m (may.in_on is may.in_key.0 may.in_key.1 may.in_key.2 ∙ sym together) (sym (in_held s laid owned x may) ∙ same ∙ key) in
           may.no_return (aim_is ∙ ap ToPort (sym own ∙ sym owner ∙ may.in_key.2)) in
-          comes_then s (λ rest t. rest t x.packet) (λ p rest t. leave (passing_on s.scene) s.scene x.in_port q t x.packet) lists (IsHomed s laid numbers wired x.in_port q found x.packet arrived) Never zones (arrived ∷ [])
-          (homes_33 s laid numbers wired x.in_port q found x.packet lists zones arrived goes bound)
+          comes_then s (λ rest t. rest t x.packet) (λ p rest t. leave (passing_on s.scene) s.scene x.in_port q t x.packet) lists (IsHomed s laid numbers wired x.in_port q found unbound x.packet arrived) Never zones (arrived ∷ [])
+          (homes_33 s laid numbers wired x.in_port q found unbound x.packet true lists zones arrived goes refl parts.1)
           (λ after p last next homed.
-          leaves_by s laid numbers wired law (passing_on s.scene) x.in_port q found (virtual q.name q found (sym switch)) x.packet after last next homed.at_exit (λ same. absurd (apart (sym homed.from ∙ same ∙ homed.to))))
+          leaves_by s laid numbers wired law (passing_on s.scene) 0 x.in_port q found (leads.goes q found (sym switch)) x.packet after last next homed.at_exit homed.passes (λ same. absurd (apart (sym homed.from ∙ same ∙ homed.to))))
 
       by_test : (q : SwitchPort) → at (net_of s).switch_ports id.name ≡ Some q → (b : Bool) → is_reached_one q ≡ b → Arrives (λ t. reach_port s.scene n x (cond b (Some q) None) t)
       by_test q there true h = reaches q there h
@@ -286,7 +328,7 @@ module _ (s : Chassis) (laid : IsLaidOut s) (numbers : GivenNumbers) (wired : Is
       -- a member has the number of the port of entry where it is that port
       entry_is_it : (q : SwitchPort) → at (net_of s).switch_ports q.name ≡ Some q → q.switch ≡ switch_name → same_identity (port_identity q) x.in_port ≡ nat_eq (key q) entered
       entry_is_it q found on =
-          let own = key_is s laid numbers wired law (passing_on s.scene) switch_name virtual x.in_port x.packet q found in
+          let own = key_is s laid numbers wired law (passing_on s.scene) 0 switch_name leads x.in_port x.packet q found in
           same_tests (same_identity (port_identity q) x.in_port) (nat_eq (key q) entered)
           (λ same.
           let id : port_identity q ≡ x.in_port = identity_exact (port_identity q) x.in_port same in
@@ -299,21 +341,20 @@ module _ (s : Chassis) (laid : IsLaidOut s) (numbers : GivenNumbers) (wired : Is
           (may.in_on is may.in_key.0 may.in_key.1 may.in_key.2) (number ∙ in_held s laid owned x may) ∙ may.in_key.2 in
           subst (λ (i : Identity). same_identity i x.in_port ≡ true) (sym id) (identity_own x.in_port))
 
-      member : (q : SwitchPort) → Among q (members (net_of s) switch_name g) → IsMember s laid numbers wired law (passing_on s.scene) switch_name virtual x.in_port x.packet arrived refl may.whole on_it came_in within keep q
+      member : (q : SwitchPort) → Among q (members (net_of s) switch_name g) → IsMember s laid numbers wired law (passing_on s.scene) 0 switch_name leads x.in_port x.packet true arrived refl refl may.whole on_it came_in within keep q
       member q m =
           let e = member_is s laid switch_name g q m in
           record {
             there_is = e.there;
             on_it = e.on;
-            keeps = λ j. (ap (is_on s.scene.here) (home_is s q (virtual q.name q e.there e.on)) ∙ on_so s.scene.here (at s.scene.config.bindings q.name)) j && not (entry_is_it q e.there e.on j);
+            keeps = λ j. is_reached s.scene q && not (entry_is_it q e.there e.on j);
           }
 
       to_group : Arrives (λ t. copy_to_each (leave (passing_on s.scene) s.scene x.in_port) (members_reached s.scene x.in_port (members (net_of s) switch_name g)) t x.packet)
       to_group =
           let Then : Reached = EndsAs s (λ t. copy_to_each (leave (passing_on s.scene) s.scene x.in_port) (members_reached s.scene x.in_port (members (net_of s) switch_name g)) t x.packet) lists in
-          group_33 s laid numbers wired law (passing_on s.scene) switch_name virtual x.in_port x.packet g arrived is_datapath (ap (aim_key s.keys) aim_is) within true refl zones refl Then
-          (subst (λ ms. Comes (course_of s) zones (copies_for arrived ms) Then) (those_here s laid numbers wired law (passing_on s.scene) switch_name virtual x.in_port x.packet g)
-          (copies_go s laid numbers wired law (passing_on s.scene) switch_name virtual x.in_port x.packet arrived refl may.whole on_it came_in within keep (members (net_of s) switch_name g) member lists zones hold_them))
+          group_33 s laid numbers wired law (passing_on s.scene) 0 switch_name leads x.in_port x.packet g arrived is_datapath (ap (aim_key s.keys) aim_is) within true refl zones refl Then
+          (copies_go s laid numbers wired law (passing_on s.scene) 0 switch_name leads x.in_port x.packet true arrived refl refl may.whole on_it came_in within keep (members (net_of s) switch_name g) member lists zones hold_them)
 
     by_aim : (aim : Aim) → x.aim ≡ aim → Arrives (λ t. reach s.scene n x aim t)
     by_aim (ToPort id) aim_is = to_port id aim_is (at (net_of s).switch_ports id.name) refl
@@ -355,5 +396,10 @@ module _ (s : Chassis) (laid : IsLaidOut s) (numbers : GivenNumbers) (wired : Is
       (subst (λ (z : ZoneLists). Comes (course_of s) z (next ∷ []) (EndsAs s (λ t. arrival s.scene n x t) lists)) (sym is.1)
       (subst (λ (c : Carried). Comes (course_of s) zones (c ∷ []) (EndsAs s (λ t. arrival s.scene n x t) lists)) (sym is.2) (by_switch (is_switch (net_of s) x.datapath) refl))))
 
-pub arrives_so : EgressLaw → ArrivingLaw
-arrives_so law s laid numbers wired owned n x may virtual entry_is lists zones hold_them = arrives s laid numbers wired owned law n x may virtual entry_is lists zones hold_them
+pub arrives_on : EgressLaw → ArrivingOnLaw
+arrives_on law s laid numbers wired owned n x may leads entry_is lists zones hold_them = arrives s laid numbers wired owned law n x may leads entry_is lists zones hold_them
+
+-- where no port leads to a router
+pub arrives_virtual : ArrivingOnLaw → ArrivingLaw
+arrives_virtual law s laid numbers wired owned n x may virtual entry_is lists zones hold_them =
+    law s laid numbers wired owned n x may (none_leads s x.datapath.name virtual (passing_on s.scene) 0) entry_is lists zones hold_them

@@ -1,5 +1,5 @@
 -- A copy for a group: a frame to each other chassis that has a member, and then a copy for each member here, one after another.
-use Rattle.std.specs.Prelude.{◌≡◌, ◌≤◌, ◌<◌, ◌&&◌, ◌++◌, ◌*◌, ◌^◌, ℕ, Bool, true, false, not, cond, List, [], ◌∷◌, map, filter, Option, Some, bit_and, refl}
+use Rattle.std.specs.Prelude.{◌≡◌, ◌≤◌, ◌<◌, ◌&&◌, ◌++◌, ◌*◌, ◌^◌, ℕ, Bool, true, false, not, cond, List, [], ◌∷◌, map, filter, Option, Some, None, bit_and, refl}
 use Rattle.std.specs.List.{AllZip}
 use Rattle.std.specs.Option.{option_map, unwrap_or}
 use Rattle.std.proofs.Common.{sym, ap, ◌∙◌, subst, arith, append_assoc, append-nil}
@@ -18,6 +18,7 @@ use Rattle.inet_packet.specs.declared.packet.Packet.{Packet}
 use Rattle.inet_packet.specs.declared.regs.Reg.{Reg}
 use Rattle.inet_packet.specs.declared.regs.Reg.TheVariants as reg
 use Rattle.inet_packet.specs.declared.regs.Regs.{Regs}
+use Rattle.nb_records.specs.Switches.{is_virtual}
 use Rattle.nb_records.specs.declared.switch.SwitchPort.{SwitchPort}
 use Rattle.net_model.specs.Config.{home_of, is_here, port_identity}
 use Rattle.net_model.specs.Entry.{Onward}
@@ -35,11 +36,11 @@ use Rattle.ovn_base.specs.declared.stages.TheConstants.{REMOTE_TABLE, LOCAL_TABL
 use Rattle.ovn_base.specs.lists.Among.{Among, here, there}
 use Rattle.ovn_base.specs.names.ByName.{at}
 use Rattle.ovn_base.specs.names.SameName.{same_name, bytes_decides}
-use Rattle.physical_flows.proofs.RowFits.{everything_fits, group_fits, fits_exit, fits_group}
+use Rattle.physical_flows.proofs.RowFits.{everything_fits, group_fits, fits_exit, fits_way, fits_group}
 use Rattle.physical_flows.specs.GroupKeys.{group_key}
-use Rattle.physical_flows.specs.Homes.{is_at}
-use Rattle.physical_flows.specs.Rows.{remote_row, spread_row, stay_row, home_row, copies_row}
-use Rattle.physical_flows.specs.Stages.{IsDatapath, IsPort, RemoteRow, HomeRow, member_of, members_here, homes_of}
+use Rattle.physical_flows.specs.Homes.{is_reached_at}
+use Rattle.physical_flows.specs.Rows.{on_exit, on_way, on_group, remote_row, spread_row, stay_row, home_row, pass_row, enter_row, copies_row}
+use Rattle.physical_flows.specs.Stages.{IsDatapath, IsPort, PatchPort, IsPatchPort, RemoteRow, HomeRow, member_of, members_here, homes_of}
 use Rattle.row_laws.proofs.records.StandsFor.{port_stands}
 use Rattle.row_laws.proofs.records.ValidPorts.{on_switch}
 use Rattle.row_laws.specs.Numbers.{IsDatapathKey, IsPortKey, StandsFor}
@@ -52,18 +53,19 @@ use Rattle.switch_engine.specs.declared.effect.Effect.TheVariants as effect
 use Rattle.tunnel_keys.proofs.HeldKeys.{found}
 use Rattle.tunnel_keys.specs.declared.owner.Identity.{Identity}
 use Rattle.tunnel_keys.specs.declared.owner.PortKey.{PortKey}
-use Rattle.sim_laws.proofs.Homes.{bound_to}
-use Rattle.sim_laws.proofs.passes.Members.{same_tests, is_here_where, member_is, members_so, others_so}
-use Rattle.sim_laws.proofs.GroupNumbers.{no_group, one_group, group_short}
+use Rattle.sim_laws.proofs.Homes.{reached_bound}
+use Rattle.sim_laws.proofs.passes.Members.{same_tests, home_is, member_is}
+use Rattle.sim_laws.proofs.GroupNumbers.{no_group, one_group, one_flag, group_short}
 use Rattle.sim_laws.proofs.passes.Ends.{ends_none, ends_then}
 use Rattle.sim_laws.proofs.passes.Leaving.{dp_within, to_within, leaves_by}
-use Rattle.sim_laws.proofs.passes.LiveNumbers.{hold, one_datapath, one_port, same_port_key, port_low, port_live, switch_key, port_number, datapath_of, port_of, is_datapath}
+use Rattle.sim_laws.proofs.passes.LiveNumbers.{hold, one_datapath, one_port, same_port_key, port_low, port_live, switch_key, port_number, datapath_of, port_of, is_datapath, patch_low}
 use Rattle.sim_laws.proofs.passes.RowSteps.{Does, Taken, row_step, row_fits, as_row, spread_does, copies_does}
 use Rattle.sim_laws.proofs.pipelines.Pieces.{comes_then}
 use Rattle.sim_laws.proofs.pipelines.WalkOn.{comes_on}
 use Rattle.sim_laws.specs.Effects.{datapath_key, port_key}
 use Rattle.sim_laws.specs.Naming.{IsNumbered}
-use Rattle.sim_laws.specs.passes.Physical.{AreVirtual, basis_of, IsWired}
+use Rattle.sim_laws.specs.passes.Onward.{LeadsOn}
+use Rattle.sim_laws.specs.passes.Physical.{basis_of, IsWired}
 use Rattle.sim_laws.specs.passes.Sending.{sent_from}
 use Rattle.sim_laws.specs.passes.ToEnd.{Never, EndsAs}
 use Rattle.sim_laws.specs.pipelines.Egress.{EgressLaw}
@@ -94,39 +96,48 @@ aimed_within k z regs h few small = record { within = each }
     each reg.Own = h.within reg.Own
     each reg.Arrived = h.within reg.Arrived
 
-module _ (s : Chassis) (laid : IsLaidOut s) (numbers : GivenNumbers) (wired : IsWired s numbers) (law : EgressLaw) (onward : Onward) (switch : Name) (virtual : AreVirtual s switch) (came : Identity) (p : Packet) where
+module _ (s : Chassis) (laid : IsLaidOut s) (numbers : GivenNumbers) (wired : IsWired s numbers) (law : EgressLaw) (onward : Onward) (passes : ℕ) (switch : Name) (leads : LeadsOn s onward switch passes) (came : Identity) (p : Packet) where
   -- ---- a copy for each member here
 
   -- the key of a port, as rows of groups have it
   abbrev key_in : SwitchPort → ℕ
   key_in q = (member_of (basis_of s numbers) q.name).key
 
-  abbrev bound_here : Name → Bool
-  bound_here n = is_at s.scene.config.bindings n s.scene.here
+  -- the port is reached here, by a packet that came out of a tunnel or not
+  abbrev pub here_by : Bool → SwitchPort → Bool
+  here_by arrived q = is_reached_at arrived s.scene.here (home_of s.scene.config q)
 
   pub key_is : (q : SwitchPort) → at (net_of s).switch_ports q.name ≡ Some q → IsPortKey s.keys q.switch q.name (key_in q)
   key_is q there' =
       let k = port_live s laid q.name q there' in
       (record { birth = q.birth; datapath = q.switch; key = k.0 }, k.1, refl, sym (ap (λ (o : Option PortKey). unwrap_or (option_map (λ (x : PortKey). x.key) o) 0) k.1))
 
-  zone_is : (q : SwitchPort) → bound_here q.name ≡ true → s.number (of_port q.name) ≡ Some (member_of (basis_of s numbers) q.name).zone
-  zone_is q is =
-      let z = found (s.number (of_port q.name)) (wired.zoned q.name (bound_to s.scene.config.bindings q.name s.scene.here is)) in
+  zone_is : (arrived : Bool) (q : SwitchPort) → here_by arrived q ≡ true → is_virtual q ≡ true → s.number (of_port q.name) ≡ Some (member_of (basis_of s numbers) q.name).zone
+  zone_is arrived q is virtual =
+      let bound = reached_bound arrived s.scene.here (at s.scene.config.bindings q.name) (ap (is_reached_at arrived s.scene.here) (sym (home_is s q virtual)) ∙ is) in
+      let z = found (s.number (of_port q.name)) (wired.zoned q.name bound) in
       z.1 ∙ ap (λ (n : ℕ). Some n) (sym (ap (λ (o : Option ℕ). unwrap_or o 0) (sym (wired.number q.name) ∙ z.1)))
 
-  module _ (copy : Carried) (packet : copy.packet ≡ p) (whole : IsWhole p) (on : IsDatapathKey s.keys switch copy.regs.dp) (came_in : StandsFor s.keys (roster_of (net_of s)) switch (Some came) copy.regs.in_port)
-      (within : HasRegistersInRange copy.regs) (keep : SwitchPort → Bool) where
+  zone_small : (q : SwitchPort) → (member_of (basis_of s numbers) q.name).zone ≤ 0xffff
+  zone_small q = subst (λ (o : Option ℕ). unwrap_or o 0 ≤ 0xffff) (wired.number q.name) (by (s.number (of_port q.name)) refl)
+    where
+      by : (o : Option ℕ) → s.number (of_port q.name) ≡ o → unwrap_or o 0 ≤ 0xffff
+      by None is = omega arith
+      by (Some z) is = wired.in_range q.name z is
+
+  module _ (arrived : Bool) (copy : Carried) (passed : copy.passes ≡ passes) (packet : copy.packet ≡ p) (whole : IsWhole p) (on : IsDatapathKey s.keys switch copy.regs.dp)
+      (came_in : StandsFor s.keys (roster_of (net_of s)) switch (Some came) copy.regs.in_port) (within : HasRegistersInRange copy.regs) (keep : SwitchPort → Bool) where
     -- a port of the switch that is kept where it is at home here and another than that of entry
     pub record IsMember (q : SwitchPort) : Type 0 where
       pub there_is : at (net_of s).switch_ports q.name ≡ Some q
       pub on_it : q.switch ≡ switch
-      pub keeps : keep q ≡ (bound_here q.name && not (nat_eq (key_in q) copy.regs.in_port))
+      pub keeps : keep q ≡ (here_by arrived q && not (nat_eq (key_in q) copy.regs.in_port))
 
-    abbrev names : List SwitchPort → List Name
-    names qs = filter bound_here (map (λ (q : SwitchPort). q.name) qs)
+    abbrev those : List SwitchPort → List Member
+    those qs = map (λ (q : SwitchPort). member_of (basis_of s numbers) q.name) qs
 
-    abbrev those : List Name → List Member
-    those ns = map (λ n. member_of (basis_of s numbers) n) ns
+    abbrev here_of : List SwitchPort → List SwitchPort
+    here_of qs = filter (here_by arrived) qs
 
     abbrev leave_by : SwitchPort → Trail → Packet → Trail
     leave_by q t r = leave onward s.scene came q t r
@@ -135,85 +146,94 @@ module _ (s : Chassis) (laid : IsLaidOut s) (numbers : GivenNumbers) (wired : Is
     Copies copies qs lists zones = Comes (course_of s) zones copies (EndsAs s (λ t. copy_to_each leave_by qs t p) lists)
 
     -- the copy for a member leaves by it
-    own_copy : (q : SwitchPort) → IsMember q → bound_here q.name ≡ true → nat_eq (key_in q) copy.regs.in_port ≡ false → (lists : Lists) (zones : ZoneLists) → HoldLists s.number zones lists
+    own_copy : (q : SwitchPort) → IsMember q → here_by arrived q ≡ true → nat_eq (key_in q) copy.regs.in_port ≡ false → (lists : Lists) (zones : ZoneLists) → HoldLists s.number zones lists
         → Comes (course_of s) zones (copy_for copy (member_of (basis_of s numbers) q.name) ∷ []) (EndsAs s (λ t. leave onward s.scene came q t p) lists)
-    own_copy q m bound apart lists zones hold' =
+    own_copy q m at_home apart lists zones hold' =
         let member : Member = member_of (basis_of s numbers) q.name in
         let key = key_is q m.there_is in
-        let zone = zone_is q bound in
         let few : member.key < 2 ^ 15 = port_low s laid q.switch q.name member.key key in
-        leaves_by s laid numbers wired law onward came q m.there_is (virtual q.name q m.there_is m.on_it) p lists zones (copy_for copy member) (record {
+        leaves_by s laid numbers wired law onward passes came q m.there_is (leads.goes q m.there_is m.on_it) p lists zones (copy_for copy member) (record {
           in_table = refl;
           packet = packet;
           whole = whole;
           on = subst (λ (a : Name). IsDatapathKey s.keys a copy.regs.dp) (sym m.on_it) on;
           came_in = subst (λ (a : Name). StandsFor s.keys (roster_of (net_of s)) a (Some came) copy.regs.in_port) (sym m.on_it) came_in;
           to = key;
-          within = aimed_within member.key member.zone copy.regs within (omega (arith, few)) (wired.in_range q.name member.zone zone);
-          zone = zone;
+          within = aimed_within member.key member.zone copy.regs within (omega (arith, few)) (zone_small q);
+          zone = zone_is arrived q at_home;
           hold = hold';
-        }) (λ same. absurd (false≢true (sym apart ∙ (Decides-eqb (key_in q) copy.regs.in_port).1 (sym same))))
+        }) passed (λ same. absurd (false≢true (sym apart ∙ (Decides-eqb (key_in q) copy.regs.in_port).1 (sym same))))
 
-    one_more : (q : SwitchPort) (qs : List SwitchPort) → IsMember q → ((lists : Lists) (zones : ZoneLists) → HoldLists s.number zones lists → Copies (copies_for copy (those (names qs))) (filter keep qs) lists zones)
-        → (w v : Bool) → bound_here q.name ≡ w → nat_eq (key_in q) copy.regs.in_port ≡ v → (lists : Lists) (zones : ZoneLists) → HoldLists s.number zones lists
-        → Copies (copies_for copy (those (cond w (q.name ∷ names qs) (names qs)))) (cond (w && not v) (q ∷ filter keep qs) (filter keep qs)) lists zones
+    one_more : (q : SwitchPort) (qs : List SwitchPort) → IsMember q → ((lists : Lists) (zones : ZoneLists) → HoldLists s.number zones lists → Copies (copies_for copy (those (here_of qs))) (filter keep qs) lists zones)
+        → (w v : Bool) → here_by arrived q ≡ w → nat_eq (key_in q) copy.regs.in_port ≡ v → (lists : Lists) (zones : ZoneLists) → HoldLists s.number zones lists
+        → Copies (copies_for copy (those (cond w (q ∷ here_of qs) (here_of qs)))) (cond (w && not v) (q ∷ filter keep qs) (filter keep qs)) lists zones
     one_more q qs m rest false v at_home entered lists zones hold' = rest lists zones hold'
     one_more q qs m rest true true at_home entered lists zones hold' =
-        let kept : List Member = filter (λ (member : Member). not (nat_eq member.key copy.regs.in_port)) (those (names qs)) in
+        let kept : List Member = filter (λ (member : Member). not (nat_eq member.key copy.regs.in_port)) (those (here_of qs)) in
         subst (λ v. Copies (map (copy_for copy) (cond (not v) (member_of (basis_of s numbers) q.name ∷ kept) kept)) (filter keep qs) lists zones) (sym entered) (rest lists zones hold')
     one_more q qs m rest true false at_home entered lists zones hold' =
-        let kept : List Member = filter (λ (member : Member). not (nat_eq member.key copy.regs.in_port)) (those (names qs)) in
+        let kept : List Member = filter (λ (member : Member). not (nat_eq member.key copy.regs.in_port)) (those (here_of qs)) in
         subst (λ v. Copies (map (copy_for copy) (cond (not v) (member_of (basis_of s numbers) q.name ∷ kept) kept)) (q ∷ filter keep qs) lists zones) (sym entered)
-        (ends_then s (λ t. leave_by q t p) (λ t. copy_to_each leave_by (filter keep qs) t p) lists zones (copy_for copy (member_of (basis_of s numbers) q.name)) (copies_for copy (those (names qs)))
+        (ends_then s (λ t. leave_by q t p) (λ t. copy_to_each leave_by (filter keep qs) t p) lists zones (copy_for copy (member_of (basis_of s numbers) q.name)) (copies_for copy (those (here_of qs)))
         (own_copy q m at_home entered lists zones hold') (λ after last h. rest after last h))
 
     -- each member here has one, but for the port of entry, and goes its whole way before the next
     pub copies_go : (qs : List SwitchPort) → ((q : SwitchPort) → Among q qs → IsMember q) → (lists : Lists) (zones : ZoneLists) → HoldLists s.number zones lists
-        → Copies (copies_for copy (those (names qs))) (filter keep qs) lists zones
+        → Copies (copies_for copy (those (here_of qs))) (filter keep qs) lists zones
     copies_go [] each lists zones hold' = ends_none s lists zones hold'
     copies_go (q ∷ qs) each lists zones hold' =
-        subst (λ k. Copies (copies_for copy (those (cond (bound_here q.name) (q.name ∷ names qs) (names qs)))) (cond k (q ∷ filter keep qs) (filter keep qs)) lists zones) (sym (each q here).keeps)
-        (one_more q qs (each q here) (copies_go qs (λ r m. each r (there m))) (bound_here q.name) (nat_eq (key_in q) copy.regs.in_port) refl refl lists zones hold')
+        subst (λ k. Copies (copies_for copy (those (cond (here_by arrived q) (q ∷ here_of qs) (here_of qs)))) (cond k (q ∷ filter keep qs) (filter keep qs)) lists zones) (sym (each q here).keeps)
+        (one_more q qs (each q here) (copies_go qs (λ r m. each r (there m))) (here_by arrived q) (nat_eq (key_in q) copy.regs.in_port) refl refl lists zones hold')
 
   -- ---- table 33
 
-  -- the members of a group here, by the tables
-  pub those_here : (g : Group) → map (λ n. member_of (basis_of s numbers) n) (filter bound_here (map (λ (q : SwitchPort). q.name) (members (net_of s) switch g))) ≡ members_here (basis_of s numbers) switch g
-  those_here g = ap (λ (ns : List Name). map (λ n. member_of (basis_of s numbers) n) (filter bound_here ns)) (sym (members_so s laid switch g))
-
   module _ (g : Group) (copy : Carried) (on : IsDatapath (basis_of s numbers) switch copy.regs.dp) (to : copy.regs.out_port ≡ group_key g) (within : HasRegistersInRange copy.regs) where
     -- a group's number is not a port's
-    not_port : (r : Name) (other : SwitchPort) (d k : ℕ) → IsPort (basis_of s numbers) r other d k → CubeFits (home_row d k 0).cube copy.regs copy.packet → ⊥
+    not_port : (r : Name) (other : SwitchPort) (d k : ℕ) → IsPort (basis_of s numbers) r other d k → CubeFits (on_exit d k) copy.regs copy.packet → ⊥
     not_port r other d k theirs fits =
         let f = fits_exit copy.regs copy.packet d k (dp_within copy.regs within) (to_within copy.regs within) fits in
         no_group g k copy.regs.out_port (port_low s laid other.switch r k (port_of s laid numbers r other d k theirs)) f.1 to
 
+    not_patch : (x : PatchPort) → IsPatchPort (basis_of s numbers) x → CubeFits (on_exit x.dp x.key) copy.regs copy.packet → ⊥
+    not_patch x theirs fits =
+        let f = fits_exit copy.regs copy.packet x.dp x.key (dp_within copy.regs within) (to_within copy.regs within) fits in
+        no_group g x.key copy.regs.out_port (patch_low s laid numbers x theirs) f.1 to
+
+    not_way : (x : PatchPort) → IsPatchPort (basis_of s numbers) x → CubeFits (on_way x.dp x.key) copy.regs copy.packet → ⊥
+    not_way x theirs fits =
+        let f = fits_way copy.regs copy.packet x.dp x.key (dp_within copy.regs within) (to_within copy.regs within) fits in
+        no_group g x.key copy.regs.out_port (patch_low s laid numbers x theirs) f.1 to
+
     -- a row for a group is that of this one
-    its_group : (a : Name) (d : ℕ) (also : Group) (arrived : Bool) → IsDatapath (basis_of s numbers) a d → CubeFits (copies_row d also arrived []).cube copy.regs copy.packet → (switch ≡ a) × (g ≡ also)
+    its_group : (a : Name) (d : ℕ) (also : Group) (arrived : Bool) → IsDatapath (basis_of s numbers) a d → CubeFits (on_group d also arrived) copy.regs copy.packet
+        → (switch ≡ a) × (g ≡ also) × (bit_and copy.regs.flags.0 16 ≡ cond arrived 16 0)
     its_group a d also arrived theirs fits =
         let f = fits_group copy.regs copy.packet d also arrived (dp_within copy.regs within) (to_within copy.regs within) fits in
-        (one_datapath s laid switch a d (subst (IsDatapathKey s.keys switch) f.0 (datapath_of s laid numbers switch copy.regs.dp on)) (datapath_of s laid numbers a d theirs), one_group g also (sym to ∙ f.1))
+        (one_datapath s laid switch a d (subst (IsDatapathKey s.keys switch) f.0 (datapath_of s laid numbers switch copy.regs.dp on)) (datapath_of s laid numbers a d theirs), one_group g also (sym to ∙ f.1), f.2)
 
     module _ (arrived : Bool) (word : bit_and copy.regs.flags.0 16 ≡ cond arrived 16 0) (zones : ZoneLists) (in_table : copy.table ≡ LOCAL_TABLE) where
       -- the copies that are made
       abbrev Made : Reached
-      Made told after left = (told ≡ []) × (after ≡ zones) × (left ≡ copies_for copy (members_here (basis_of s numbers) switch g))
+      Made told after left = (told ≡ []) × (after ≡ zones) × (left ≡ copies_for copy (members_here (basis_of s numbers) switch g arrived))
 
       made_33 : (f : Flow) → Taken s LOCAL_TABLE (HomeRow (basis_of s numbers)) wired.home copy f → HomeRow (basis_of s numbers) f → Does s f.ops zones copy Made
       made_33 f t (HomeRow.home r other d k zone theirs bound e) =
           absurd (not_port r other d k theirs (row_fits s LOCAL_TABLE (HomeRow (basis_of s numbers)) wired.home copy f (home_row d k zone) t e))
+      made_33 f t (HomeRow.passes x theirs is e) = absurd (not_patch x theirs (row_fits s LOCAL_TABLE (HomeRow (basis_of s numbers)) wired.home copy f (pass_row x.dp x.key) t e))
+      made_33 f t (HomeRow.enters x theirs is e) = absurd (not_way x theirs (row_fits s LOCAL_TABLE (HomeRow (basis_of s numbers)) wired.home copy f (enter_row x.dp x.key) t e))
       made_33 f t (HomeRow.copies a d also came_out theirs e) =
-          let same = its_group a d also came_out theirs (row_fits s LOCAL_TABLE (HomeRow (basis_of s numbers)) wired.home copy f (copies_row d also came_out (members_here (basis_of s numbers) a also)) t e) in
-          let copies : copies_for copy (members_here (basis_of s numbers) a also) ≡ copies_for copy (members_here (basis_of s numbers) switch g) =
-          λ j. copies_for copy (members_here (basis_of s numbers) (sym same.0 j) (sym same.1 j)) in
-          as_row s LOCAL_TABLE (HomeRow (basis_of s numbers)) wired.home zones copy Made f (copies_row d also came_out (members_here (basis_of s numbers) a also)) e
-          (copies_does s zones copy Made (members_here (basis_of s numbers) a also) (refl, refl, copies))
+          let row = copies_row d also came_out (members_here (basis_of s numbers) a also came_out) in
+          let same = its_group a d also came_out theirs (row_fits s LOCAL_TABLE (HomeRow (basis_of s numbers)) wired.home copy f row t e) in
+          let flag : came_out ≡ arrived = one_flag came_out arrived (sym same.2 ∙ word) in
+          let copies : copies_for copy (members_here (basis_of s numbers) a also came_out) ≡ copies_for copy (members_here (basis_of s numbers) switch g arrived) =
+          λ j. copies_for copy (members_here (basis_of s numbers) (sym same.0 j) (sym same.1 j) (flag j)) in
+          as_row s LOCAL_TABLE (HomeRow (basis_of s numbers)) wired.home zones copy Made f row e (copies_does s zones copy Made (members_here (basis_of s numbers) a also came_out) (refl, refl, copies))
 
       -- and then what becomes of them
-      pub group_33 : (Then : Reached) → Comes (course_of s) zones (copies_for copy (members_here (basis_of s numbers) switch g)) Then → Comes (course_of s) zones (copy ∷ []) Then
+      pub group_33 : (Then : Reached) → Comes (course_of s) zones (copies_for copy (members_here (basis_of s numbers) switch g arrived)) Then → Comes (course_of s) zones (copy ∷ []) Then
       group_33 Then rest =
           comes_on (course_of s) zones (copy ∷ []) Made Then
-          (row_step s LOCAL_TABLE (HomeRow (basis_of s numbers)) wired.home zones copy in_table Made (copies_row copy.regs.dp g arrived (members_here (basis_of s numbers) switch g))
+          (row_step s LOCAL_TABLE (HomeRow (basis_of s numbers)) wired.home zones copy in_table Made (copies_row copy.regs.dp g arrived (members_here (basis_of s numbers) switch g arrived))
           (HomeRow.copies switch copy.regs.dp g arrived on refl) refl
           (group_fits copy.regs copy.packet copy.regs.dp (dp_within copy.regs within) refl g arrived (group_short g) to word) (λ f t. made_33 f t t.row))
           (λ told middle left so.
@@ -222,7 +242,8 @@ module _ (s : Chassis) (laid : IsLaidOut s) (numbers : GivenNumbers) (wired : Is
 
 -- ---- table 32
 
-module _ (s : Chassis) (laid : IsLaidOut s) (numbers : GivenNumbers) (wired : IsWired s numbers) (law : EgressLaw) (onward : Onward) (i : SwitchPort) (i_there : at (net_of s).switch_ports i.name ≡ Some i) (virtual : AreVirtual s i.switch) (g : Group) (p : Packet) where
+module _ (s : Chassis) (laid : IsLaidOut s) (numbers : GivenNumbers) (wired : IsWired s numbers) (law : EgressLaw) (onward : Onward) (passes : ℕ) (i : SwitchPort) (i_there : at (net_of s).switch_ports i.name ≡ Some i)
+    (leads : LeadsOn s onward i.switch passes) (g : Group) (p : Packet) where
   abbrev others : List Name
   others = other_homes s.scene.config s.scene.here (members (net_of s) i.switch g)
 
@@ -238,7 +259,7 @@ module _ (s : Chassis) (laid : IsLaidOut s) (numbers : GivenNumbers) (wired : Is
   crossed [] lists choices ends = ap (trail_with lists choices) (sym (append-nil ends))
   crossed (home ∷ homes) lists choices ends = crossed homes lists choices (ends ++ end_of home ∷ []) ∙ ap (trail_with lists choices) (append_assoc ends (end_of home ∷ []) (map end_of homes))
 
-  module _ (lists : Lists) (zones : ZoneLists) (copy : Carried) (in_table : copy.table ≡ REMOTE_TABLE) (packet : copy.packet ≡ p) (whole : IsWhole p) (on : IsDatapathKey s.keys i.switch copy.regs.dp)
+  module _ (lists : Lists) (zones : ZoneLists) (copy : Carried) (passed : copy.passes ≡ passes) (in_table : copy.table ≡ REMOTE_TABLE) (packet : copy.packet ≡ p) (whole : IsWhole p) (on : IsDatapathKey s.keys i.switch copy.regs.dp)
       (entered : IsPortKey s.keys i.switch i.name copy.regs.in_port) (to : copy.regs.out_port ≡ group_key g) (arrived : reg_number reg.Arrived copy.regs ≡ 0) (within : HasRegistersInRange copy.regs) (hold' : HoldLists s.number zones lists) where
     on_it : IsDatapath (basis_of s numbers) i.switch copy.regs.dp
     on_it = is_datapath s laid numbers i.name i i_there copy.regs.dp on
@@ -288,12 +309,15 @@ module _ (s : Chassis) (laid : IsLaidOut s) (numbers : GivenNumbers) (wired : Is
 
     out_32 : (f : Flow) → Taken s REMOTE_TABLE (RemoteRow (basis_of s numbers)) wired.remote copy f → RemoteRow (basis_of s numbers) f → Does s f.ops zones copy Framed
     out_32 f t (RemoteRow.remote r other d k home theirs bound apart e) =
-        absurd (not_port s laid numbers wired law onward i.switch virtual (port_identity i) p g copy on_it to within r other d k theirs
+        absurd (not_port s laid numbers wired law onward passes i.switch leads (port_identity i) p g copy on_it to within r other d k theirs
         (row_fits s REMOTE_TABLE (RemoteRow (basis_of s numbers)) wired.remote copy f (remote_row d k home) t e))
+    out_32 f t (RemoteRow.away x home theirs is apart e) =
+        absurd (not_patch s laid numbers wired law onward passes i.switch leads (port_identity i) p g copy on_it to within x theirs
+        (row_fits s REMOTE_TABLE (RemoteRow (basis_of s numbers)) wired.remote copy f (remote_row x.dp x.key home) t e))
     out_32 f t (RemoteRow.spread a d also theirs e) =
         let row = spread_row d also (homes_of (basis_of s numbers) a also) in
-        let same = its_group s laid numbers wired law onward i.switch virtual (port_identity i) p g copy on_it to within a d also false theirs (row_fits s REMOTE_TABLE (RemoteRow (basis_of s numbers)) wired.remote copy f row t e) in
-        let are : homes_of (basis_of s numbers) a also ≡ others = (λ j. homes_of (basis_of s numbers) (sym same.0 j) (sym same.1 j)) ∙ others_so s laid numbers i.switch virtual g in
+        let same = its_group s laid numbers wired law onward passes i.switch leads (port_identity i) p g copy on_it to within a d also false theirs (row_fits s REMOTE_TABLE (RemoteRow (basis_of s numbers)) wired.remote copy f row t e) in
+        let are : homes_of (basis_of s numbers) a also ≡ others = λ j. homes_of (basis_of s numbers) (sym same.0 j) (sym same.1 j) in
         as_row s REMOTE_TABLE (RemoteRow (basis_of s numbers)) wired.remote zones copy Framed f row e
         (spread_does s zones copy Framed (homes_of (basis_of s numbers) a also) (framed_so (homes_of (basis_of s numbers) a also) are))
     out_32 f t (RemoteRow.stay e) =
@@ -318,7 +342,7 @@ module _ (s : Chassis) (laid : IsLaidOut s) (numbers : GivenNumbers) (wired : Is
     -- a member has the key of the port of entry where it is that port
     entry_is : (q : SwitchPort) → at (net_of s).switch_ports q.name ≡ Some q → q.switch ≡ i.switch → nat_eq (key q) copy.regs.in_port ≡ same_name q.name i.name
     entry_is q there' on_switch' =
-        let own = key_is s laid numbers wired law onward i.switch virtual (port_identity i) p q there' in
+        let own = key_is s laid numbers wired law onward passes i.switch leads (port_identity i) p q there' in
         same_tests (nat_eq (key q) copy.regs.in_port) (same_name q.name i.name)
         (λ equal.
         (bytes_decides q.name i.name).1 (one_port s laid i.switch q.name i.name copy.regs.in_port
@@ -333,21 +357,20 @@ module _ (s : Chassis) (laid : IsLaidOut s) (numbers : GivenNumbers) (wired : Is
     and_turned false true = refl
     and_turned false false = refl
 
-    member : (q : SwitchPort) → Among q (members (net_of s) i.switch g) → IsMember s laid numbers wired law onward i.switch virtual (port_identity i) p next packet whole on came_in within keep q
+    member : (q : SwitchPort) → Among q (members (net_of s) i.switch g) → IsMember s laid numbers wired law onward passes i.switch leads (port_identity i) p false next passed packet whole on came_in within keep q
     member q m =
         let e = member_is s laid i.switch g q m in
         record {
           there_is = e.there;
           on_it = e.on;
-          keeps = (λ j. not (sym (entry_is q e.there e.on) j) && is_here_where s q (virtual q.name q e.there e.on) j) ∙ and_turned (not (nat_eq (key q) copy.regs.in_port)) (is_at s.scene.config.bindings q.name s.scene.here);
+          keeps = (λ j. not (sym (entry_is q e.there e.on) j) && is_here s.scene.here (home_of s.scene.config q)) ∙ and_turned (not (nat_eq (key q) copy.regs.in_port)) (is_here s.scene.here (home_of s.scene.config q));
         }
 
     copies_here : Comes (course_of s) zones (next ∷ []) (EndsAs s (λ t. copy_to_each (leave onward s.scene (port_identity i)) (local_members s.scene i (members (net_of s) i.switch g)) t p) lists)
     copies_here =
         let Then = EndsAs s (λ t. copy_to_each (leave onward s.scene (port_identity i)) (local_members s.scene i (members (net_of s) i.switch g)) t p) lists in
-        group_33 s laid numbers wired law onward i.switch virtual (port_identity i) p g next on_it to within false word zones refl Then
-        (subst (λ ms. Comes (course_of s) zones (copies_for next ms) Then) (those_here s laid numbers wired law onward i.switch virtual (port_identity i) p g)
-        (copies_go s laid numbers wired law onward i.switch virtual (port_identity i) p next packet whole on came_in within keep (members (net_of s) i.switch g) member lists zones hold'))
+        group_33 s laid numbers wired law onward passes i.switch leads (port_identity i) p g next on_it to within false word zones refl Then
+        (copies_go s laid numbers wired law onward passes i.switch leads (port_identity i) p false next passed packet whole on came_in within keep (members (net_of s) i.switch g) member lists zones hold')
 
     -- first the other chassis, and then the members here
     pub spreads : Comes (course_of s) zones (copy ∷ []) (EndsAs s (λ t. spread onward s.scene (sent_from s i) g (members (net_of s) i.switch g) t p) lists)

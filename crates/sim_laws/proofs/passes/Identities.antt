@@ -3,6 +3,7 @@ use Rattle.std.specs.Prelude.{◌≡◌, ℕ, true, Option, Some, None, option_m
 use Rattle.std.proofs.Common.{sym, ap, ◌∙◌, subst}
 use Rattle.std.proofs.lemmas.Bool.{false≢true}
 use Rattle.std.proofs.lemmas.Option.{same_Some}
+use Rattle.nb_records.specs.declared.router.Router.{Router}
 use Rattle.nb_records.specs.declared.switch.Switch.{Switch}
 use Rattle.nb_records.specs.declared.switch.SwitchPort.{SwitchPort}
 use Rattle.net_model.specs.Arrival.{is_that_switch, is_switch}
@@ -24,7 +25,7 @@ use Rattle.tunnel_keys.specs.declared.owner.HeldPort.{HeldPort}
 use Rattle.tunnel_keys.specs.declared.owner.Identity.{Identity}
 use Rattle.tunnel_keys.specs.declared.owner.PortKey.{PortKey}
 use Rattle.sim_laws.proofs.KeyLookups.{datapath_key_is, port_key_is}
-use Rattle.sim_laws.proofs.passes.LiveNumbers.{hold, datapath_among, port_among, switch_live, port_live}
+use Rattle.sim_laws.proofs.passes.LiveNumbers.{hold, datapath_among, port_among, switch_live, router_live, port_live}
 use Rattle.sim_laws.specs.Effects.{datapath_key, port_key}
 use Rattle.sim_laws.specs.passes.Arriving.{AreOwned, MayArrive}
 use Rattle.sim_laws.specs.pipelines.Standing.{Chassis, net_of, IsLaidOut}
@@ -55,6 +56,17 @@ module _ (s : Chassis) (laid : IsLaidOut s) (owned : AreOwned s) (x : Crossing) 
       let live : DatapathKey = record { birth = w.birth; key = k.0 } in
       let same : k.0 ≡ vni = ap (λ (d : DatapathKey). d.key) (same_Some live on.0 (sym k.1 ∙ on.1)) ∙ on.2 in
       (hold s laid).datapaths_apart (held_datapath (a, live)) may.datapath_key.0 (datapath_among s laid a live k.1) may.datapath_key.1 (same ∙ vni_held) ∙ may.datapath_key.2
+
+  -- no router has it
+  pub not_router : (a : Name) (router : Router) → at (net_of s).routers a ≡ Some router → IsDatapathKey s.keys a vni → ⊥
+  not_router a router found on =
+      let k = router_live s laid a router found in
+      let live : DatapathKey = record { birth = router.birth; key = k.0 } in
+      let number : k.0 ≡ vni = ap (λ (d : DatapathKey). d.key) (same_Some live on.0 (sym k.1 ∙ on.1)) ∙ on.2 in
+      let same : record { name = a; birth = router.birth } ≡ x.datapath =
+      (hold s laid).datapaths_apart (held_datapath (a, live)) may.datapath_key.0 (datapath_among s laid a live k.1) may.datapath_key.1 (number ∙ vni_held) ∙ may.datapath_key.2 in
+      let named : router.name ≡ a = among_all (λ (e : Name × Router). e.1.name ≡ e.0) (a, router) (net_of s).routers laid.valid.named.routers (at_among (net_of s).routers a router found) in
+      may.no_router router (ap (λ (id : Identity). at (net_of s).routers id.name) (sym same) ∙ found) ((λ j. record { name = named j; birth = router.birth }) ∙ same)
 
   -- it is there, then
   pub its_there : (a : Name) (w : Switch) → at (net_of s).switches a ≡ Some w → IsDatapathKey s.keys a vni → is_switch (net_of s) x.datapath ≡ true

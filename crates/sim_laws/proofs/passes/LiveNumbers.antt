@@ -1,11 +1,14 @@
 -- Whose live keys the numbers of a copy are, and what the rows of a chassis ask for.
-use Rattle.std.specs.Prelude.{◌≡◌, ◌≤◌, ◌<◌, ◌^◌, ◌++◌, ℕ, Some, map, filter_map, refl}
+use Rattle.std.specs.Prelude.{◌≡◌, ◌≤◌, ◌<◌, ◌^◌, ◌++◌, ℕ, false, Some, None, map, filter_map, refl}
 use Rattle.std.proofs.Common.{sym, ap, ◌∙◌, subst, arith}
-use Rattle.std.proofs.lemmas.Option.{same_Some}
+use Rattle.std.proofs.lemmas.Option.{none-some, same_Some}
 use Rattle.conn_zones.specs.Zoning.{GivenNumbers}
+use Rattle.nb_records.specs.Routers.{partner_of_switch_port}
+use Rattle.nb_records.specs.Switches.{is_virtual}
+use Rattle.nb_records.specs.declared.router.Router.{Router}
 use Rattle.nb_records.specs.declared.switch.Switch.{Switch}
 use Rattle.nb_records.specs.declared.switch.SwitchPort.{SwitchPort}
-use Rattle.net_model.specs.Config.{port_identity}
+use Rattle.net_model.specs.Config.{home_of, port_identity}
 use Rattle.net_model.specs.Owners.{switch_owner, router_owner, router_port_owner, switch_port_owner}
 use Rattle.net_model.specs.Visit.{identity_or, switch_named}
 use Rattle.ovn_base.proofs.AmongLaws.{among_all, among_left, among_right, among_map, among_filter_map}
@@ -13,7 +16,7 @@ use Rattle.ovn_base.proofs.ByNameLaws.{at_among}
 use Rattle.ovn_base.specs.declared.name.Name.{Name}
 use Rattle.ovn_base.specs.lists.Among.{Among}
 use Rattle.ovn_base.specs.names.ByName.{at}
-use Rattle.physical_flows.specs.Stages.{Basis, IsDatapath, IsPort}
+use Rattle.physical_flows.specs.Stages.{Basis, IsDatapath, IsPort, PatchPort, IsPatchPort, to_router, of_router}
 use Rattle.row_laws.proofs.records.ValidPorts.{on_switch}
 use Rattle.row_laws.specs.Numbers.{IsDatapathKey, IsPortKey}
 use Rattle.tunnel_keys.proofs.HeldKeys.{found, on_datapath_key, is_held_port}
@@ -93,6 +96,12 @@ module _ (s : Chassis) (laid : IsLaidOut s) where
       (among_right owner (map switch_owner (net_of s).switches ++ map router_owner (net_of s).routers ++ map router_port_owner (net_of s).router_ports) (map switch_port_owner (net_of s).switch_ports)
       (among_map switch_port_owner (q, port) (net_of s).switch_ports (at_among (net_of s).switch_ports q port there)))
 
+  pub router_live : (a : Name) (router : Router) → at (net_of s).routers a ≡ Some router → (k : ℕ) × (at s.keys.datapaths a ≡ Some (record { birth = router.birth; key = k }))
+  router_live a router there =
+      let owner = router_owner (a, router) in
+      laid.live owner
+      (among_left owner _ _ (among_left owner _ _ (among_right owner (map switch_owner (net_of s).switches) (map router_owner (net_of s).routers) (among_map router_owner (a, router) (net_of s).routers (at_among (net_of s).routers a router there)))))
+
   -- by identity
   pub switch_key : (a : Name) (n : ℕ) (w : Switch) → at (net_of s).switches a ≡ Some w → IsDatapathKey s.keys a n → datapath_key s.keys (switch_named (net_of s) a) ≡ n
   switch_key a n w there on =
@@ -135,9 +144,42 @@ module _ (s : Chassis) (laid : IsLaidOut s) where
     pub is_port : (q : Name) (port : SwitchPort) → at (net_of s).switch_ports q ≡ Some port → (dp key : ℕ) → IsDatapathKey s.keys port.switch dp → IsPortKey s.keys port.switch q key → IsPort b q port dp key
     is_port q port there dp key on of = record { there = there; on = is_datapath q port there dp on; live = of.0; has = of.1; number = of.3 }
 
-    -- a port that has these numbers is the port
+    -- a port of the switch that has these numbers is the port
     pub same_exit : (o : SwitchPort) (dp key : ℕ) → IsDatapathKey s.keys o.switch dp → IsPortKey s.keys o.switch o.name key
         → (r : Name) (other : SwitchPort) (d k : ℕ) → IsPort b r other d k → dp ≡ d → key ≡ k → r ≡ o.name
     same_exit o dp key on to r other d k theirs same equal =
         let switch : other.switch ≡ o.switch = one_datapath other.switch o.switch d (datapath_of other.switch d theirs.on) (subst (IsDatapathKey s.keys o.switch) same on) in
         one_port o.switch r o.name k (subst (λ a. IsPortKey s.keys a r k) switch (port_of r other d k theirs)) (subst (IsPortKey s.keys o.switch o.name) equal to)
+
+    -- no router has a switch's name
+    pub no_router_there : (a : Name) (w : Switch) (router : Router) → at (net_of s).switches a ≡ Some w → at (net_of s).routers a ≡ Some router → ⊥
+    no_router_there a w router there also =
+        let none : at (net_of s).routers a ≡ None = among_all (λ (e : Name × Switch). at (net_of s).routers e.0 ≡ None) (a, w) (net_of s).switches laid.valid.datapaths (at_among (net_of s).switches a w there) in
+        none-some router (sym none ∙ also)
+
+    -- a port that leads into another datapath, and has these numbers, is the port, which leads to a router
+    pub record IsItself (o : SwitchPort) (x : PatchPort) : Type 0 where
+      pub leads : is_virtual o ≡ false
+      pub home : x.home ≡ home_of s.scene.config o
+      pub partner : x.partner ≡ partner_of_switch_port (net_of s) o
+
+    pub same_patch : (o : SwitchPort) → at (net_of s).switch_ports o.name ≡ Some o → (dp key : ℕ) → IsDatapathKey s.keys o.switch dp → IsPortKey s.keys o.switch o.name key
+        → (x : PatchPort) → IsPatchPort b x → dp ≡ x.dp → key ≡ x.key → IsItself o x
+    same_patch o there dp key on to x (to_router q port d k theirs leads is) same equal =
+        let named : q ≡ o.name = same_exit o dp key on to q port d k theirs (same ∙ ap (λ (y : PatchPort). y.dp) is) (equal ∙ ap (λ (y : PatchPort). y.key) is) in
+        let itself : port ≡ o = same_Some port o (sym theirs.there ∙ ap (λ n. at (net_of s).switch_ports n) named ∙ there) in
+        record {
+          leads = ap (λ (p : SwitchPort). is_virtual p) (sym itself) ∙ leads;
+          home = ap (λ (y : PatchPort). y.home) is ∙ ap (λ (p : SwitchPort). home_of s.scene.config p) itself;
+          partner = ap (λ (y : PatchPort). y.partner) is ∙ ap (λ (p : SwitchPort). partner_of_switch_port (net_of s) p) itself;
+        }
+    same_patch o there dp key on to x (of_router q port d k theirs is) same equal =
+        let router = theirs.on in
+        let named : port.router ≡ o.switch = one_datapath port.router o.switch d (router.live, router.has, router.number) (subst (IsDatapathKey s.keys o.switch) (same ∙ ap (λ (y : PatchPort). y.dp) is) on) in
+        let w = on_switch (net_of s) laid.valid o.name o there in
+        absurd (no_router_there o.switch w.0 router.router w.1 (ap (λ a. at (net_of s).routers a) (sym named) ∙ router.there))
+
+    -- its number is none of a group's
+    pub patch_low : (x : PatchPort) → IsPatchPort b x → x.key < 2 ^ 15
+    patch_low x (to_router q port d k theirs leads is) = subst (λ (y : PatchPort). y.key < 2 ^ 15) (sym is) (port_low theirs.live.datapath q k (theirs.live, theirs.has, refl, theirs.number))
+    patch_low x (of_router q port d k theirs is) = subst (λ (y : PatchPort). y.key < 2 ^ 15) (sym is) (port_low theirs.live.datapath q k (theirs.live, theirs.has, refl, theirs.number))

@@ -1,8 +1,8 @@
 -- A copy goes from table 32 to its target, as the network says.
-use Rattle.std.specs.Prelude.{◌≡◌, ◌&&◌, not, Bool, true, false, List, [], ◌∷◌, Option, Some, None, option_map, refl}
+use Rattle.std.specs.Prelude.{◌≡◌, ◌&&◌, ◌*◌, ◌^◌, ℕ, not, Bool, true, false, List, [], ◌∷◌, Option, Some, None, option_map, bit_and, refl}
 use Rattle.std.proofs.Common.{sym, ap, ◌∙◌, subst}
 use Rattle.std.proofs.lemmas.Bool.{false≢true}
-use Rattle.std.proofs.lemmas.Option.{none-some, same_Some}
+use Rattle.std.proofs.lemmas.Nat.Bits.{and_pow}
 use Rattle.conn_zones.specs.Zoning.{GivenNumbers}
 use Rattle.flow_lowering.specs.Registers.{reg_number}
 use Rattle.flow_table.specs.declared.flow.Cause.TheVariants as cause
@@ -13,7 +13,7 @@ use Rattle.inet_packet.specs.declared.regs.Reg.TheVariants as reg
 use Rattle.inet_packet.specs.declared.regs.Regs.{Regs}
 use Rattle.nb_records.specs.Switches.{enabled_ports, is_virtual, mac_of_ip, first_answer}
 use Rattle.nb_records.specs.declared.switch.SwitchPort.{SwitchPort}
-use Rattle.net_model.specs.Config.{home_if, on, home_of, port_identity}
+use Rattle.net_model.specs.Config.{Home, nowhere, on, everywhere, home_if, home_of, is_here, is_on_one, port_identity}
 use Rattle.net_model.specs.Entry.{Onward}
 use Rattle.net_model.specs.Exit.{leave}
 use Rattle.net_model.specs.Headers.{asked_ip}
@@ -36,7 +36,7 @@ use Rattle.row_laws.specs.StageActions.{found_target}
 use Rattle.switch_engine.specs.Zones.{ZoneLists}
 use Rattle.switch_engine.specs.declared.carried.Carried.{Carried}
 use Rattle.std.specs.List.{filter}
-use Rattle.sim_laws.proofs.passes.Ends.{ends_same}
+use Rattle.sim_laws.proofs.Homes.{only_reached, reached_on}
 use Rattle.sim_laws.proofs.passes.GroupCopies.{spreads}
 use Rattle.sim_laws.proofs.passes.Leaving.{leaves_by, turns_back}
 use Rattle.sim_laws.proofs.passes.LiveNumbers.{hold, one_port, same_port_key}
@@ -44,11 +44,11 @@ use Rattle.sim_laws.proofs.passes.Members.{home_is}
 use Rattle.sim_laws.proofs.passes.OnePort.{IsFor, IsHomed, IsStaying, homes_33, unbound_33, stays_32, crosses_32}
 use Rattle.sim_laws.proofs.pipelines.Pieces.{comes_then}
 use Rattle.sim_laws.proofs.pipelines.TargetKeys.{IsFoundTarget, found_so}
+use Rattle.sim_laws.specs.passes.Onward.{LeadsOn}
 use Rattle.sim_laws.specs.passes.Physical.{AreVirtual, IsWired}
-use Rattle.sim_laws.specs.passes.Sending.{sent_from, IsSent, SendingLaw}
+use Rattle.sim_laws.specs.passes.Sending.{sent_from, IsSent, SendingOnLaw, SendingLaw}
 use Rattle.sim_laws.specs.passes.ToEnd.{Never, EndsAs}
 use Rattle.sim_laws.specs.pipelines.Egress.{EgressLaw}
-use Rattle.sim_laws.specs.pipelines.Pieces.{trail_with}
 use Rattle.sim_laws.specs.pipelines.Standing.{Chassis, net_of, course_of, IsLaidOut}
 use Rattle.sim_laws.specs.pipelines.WalkOn.{Comes}
 
@@ -78,63 +78,86 @@ target_one s i p = by (asked_ip p)
     by None = found
     by (Some ip) = by_answer ip (first_answer (mac_of_ip ip) (filter (λ q. is_virtual q && is_other i q) (enabled_ports (net_of s) i.switch)))
 
-module _ (s : Chassis) (laid : IsLaidOut s) (numbers : GivenNumbers) (wired : IsWired s numbers) (law : EgressLaw) (onward : Onward) (i : SwitchPort) (i_there : at (net_of s).switch_ports i.name ≡ Some i) (virtual : AreVirtual s i.switch) where
+module _ (s : Chassis) (laid : IsLaidOut s) (numbers : GivenNumbers) (wired : IsWired s numbers) (law : EgressLaw) (onward : Onward) (passes : ℕ) (i : SwitchPort) (i_there : at (net_of s).switch_ports i.name ≡ Some i)
+    (leads : LeadsOn s onward i.switch passes) where
   abbrev from : SentFrom
   from = sent_from s i
 
   -- ---- to one port of the switch
 
   module _ (o : SwitchPort) (there : at (net_of s).switch_ports o.name ≡ Some o) (on_it : o.switch ≡ i.switch) (p : Packet) (lists : Lists) (zones : ZoneLists) (copy : Carried) (h : IsFor s (port_identity i) o p REMOTE_TABLE lists zones copy)
-      (entered : IsPortKey s.keys i.switch i.name copy.regs.in_port) where
+      (entered : IsPortKey s.keys i.switch i.name copy.regs.in_port) (inside : reg_number reg.Arrived copy.regs ≡ 0) (passed : copy.passes ≡ passes) where
     abbrev Goes : (Trail → Trail) → Type 0
     Goes way = Comes (course_of s) zones (copy ∷ []) (EndsAs s way lists)
 
+    unbound : is_virtual o ≡ false → at s.scene.config.bindings o.name ≡ None
+    unbound = leads.unbound o there on_it
+
+    abbrev home : Home
+    home = home_of s.scene.config o
+
+    abbrev Stays : Lists → Packet → ZoneLists → Carried → Type 0
+    Stays = IsStaying s laid numbers wired (port_identity i) o there unbound p copy
+
+    -- it didn't come out of a tunnel
+    word : (next : Carried) → next.regs ≡ copy.regs → bit_and next.regs.flags.0 16 ≡ 0
+    word next same = ap (λ (x : Regs). bit_and x.flags.0 16) same ∙ and_pow copy.regs.flags.0 4 ∙ ap (λ n. n * 2 ^ 4) inside
+
+    -- it stays here, where it isn't at home elsewhere
+    stays : ((chassis : Name) → home ≡ on chassis → chassis ≡ s.scene.here) → (way : Trail → Trail)
+        → ((after : Lists) (last : ZoneLists) (next : Carried) → Stays after p last next → Comes (course_of s) last (next ∷ []) (EndsAs s way after)) → Goes way
+    stays no_other way rest =
+        comes_then s (λ rest t. rest t p) (λ q rest t. way t) lists Stays Never zones (copy ∷ [])
+        (stays_32 s laid numbers wired (port_identity i) o there unbound p lists zones copy h no_other)
+        (λ after q last next is. rest after last next (record { still = is.still; passes = is.passes; from = is.from; regs = is.regs }))
+
     -- what a port at home here does, once the copy is before table 34
     abbrev Then : (Trail → Trail) → Type 0
-    Then way = (after : Lists) (last : ZoneLists) (next : Carried) → IsHomed s laid numbers wired (port_identity i) o there p copy after p last next → Comes (course_of s) last (next ∷ []) (EndsAs s way after)
+    Then way =
+        (after : Lists) (last : ZoneLists) (next : Carried) → IsHomed s laid numbers wired (port_identity i) o there unbound p copy after p last next
+        → Comes (course_of s) last (next ∷ []) (EndsAs s way after)
 
-    here : at s.scene.config.bindings o.name ≡ Some s.scene.here → (way : Trail → Trail) → Then way → Goes way
-    here bound way rest =
-        comes_then s (λ rest t. rest t p) (λ q rest t. way t) lists (IsStaying s laid numbers wired (port_identity i) o there p copy) Never zones (copy ∷ [])
-        (stays_32 s laid numbers wired (port_identity i) o there p lists zones copy h (λ home e. same_Some home s.scene.here (sym e ∙ bound)))
-        (λ after q last next stays.
-        comes_then s (λ rest t. rest t p) (λ q rest t. way t) after (IsHomed s laid numbers wired (port_identity i) o there p next) Never last (next ∷ [])
-        (homes_33 s laid numbers wired (port_identity i) o there p after last next stays.still bound)
+    here : is_here s.scene.here home ≡ true → (way : Trail → Trail) → Then way → Goes way
+    here is way rest =
+        stays (λ chassis e. only_reached false chassis s.scene.here (ap (is_here s.scene.here) (sym e) ∙ is)) way
+        (λ after last next stays.
+        comes_then s (λ rest t. rest t p) (λ q rest t. way t) after (IsHomed s laid numbers wired (port_identity i) o there unbound p next) Never last (next ∷ [])
+        (homes_33 s laid numbers wired (port_identity i) o there unbound p false after last next stays.still (word next stays.regs) is)
         (λ later r end left homed.
         rest later end left (record {
           at_exit = homed.at_exit;
+          passes = homed.passes ∙ stays.passes;
           from = homed.from ∙ ap (λ (x : Regs). x.in_port) stays.regs;
           to = homed.to ∙ ap (λ (x : Regs). x.out_port) stays.regs;
           loopback = homed.loopback ∙ ap (reg_number reg.Loopback) stays.regs;
         })))
 
     -- it goes out, where it may
-    goes_out : at s.scene.config.bindings o.name ≡ Some s.scene.here → (copy.regs.in_port ≡ copy.regs.out_port → reg_number reg.Loopback copy.regs ≡ 1) → Goes (λ t. leave onward s.scene (port_identity i) o t p)
-    goes_out bound may =
-        here bound (λ t. leave onward s.scene (port_identity i) o t p)
+    goes_out : is_here s.scene.here home ≡ true → (copy.regs.in_port ≡ copy.regs.out_port → reg_number reg.Loopback copy.regs ≡ 1) → Goes (λ t. leave onward s.scene (port_identity i) o t p)
+    goes_out is may =
+        here is (λ t. leave onward s.scene (port_identity i) o t p)
         (λ after last next homed.
-        leaves_by s laid numbers wired law onward (port_identity i) o there (virtual o.name o there on_it) p after last next homed.at_exit (λ same. homed.loopback ∙ may (sym homed.from ∙ same ∙ homed.to)))
+        leaves_by s laid numbers wired law onward passes (port_identity i) o there (leads.goes o there on_it) p after last next homed.at_exit (homed.passes ∙ passed) (λ same. homed.loopback ∙ may (sym homed.from ∙ same ∙ homed.to)))
 
-    turned : at s.scene.config.bindings o.name ≡ Some s.scene.here → copy.regs.in_port ≡ copy.regs.out_port → reg_number reg.Loopback copy.regs ≡ 0 → Goes (λ t. drop_for cause.Loopback (spot_of o) t)
-    turned bound same off =
-        here bound (λ t. drop_for cause.Loopback (spot_of o) t)
+    turned : is_here s.scene.here home ≡ true → copy.regs.in_port ≡ copy.regs.out_port → reg_number reg.Loopback copy.regs ≡ 0 → Goes (λ t. drop_for cause.Loopback (spot_of o) t)
+    turned is same off =
+        here is (λ t. drop_for cause.Loopback (spot_of o) t)
         (λ after last next homed.
-        turns_back s laid numbers wired law onward (port_identity i) o there (virtual o.name o there on_it) p after last next homed.at_exit (homed.from ∙ same ∙ sym homed.to) (homed.loopback ∙ off))
+        turns_back s laid numbers wired law onward passes (port_identity i) o there (leads.goes o there on_it) p after last next homed.at_exit (homed.passes ∙ passed) (homed.from ∙ same ∙ sym homed.to) (homed.loopback ∙ off))
 
-    nowhere_so : at s.scene.config.bindings o.name ≡ None → Goes (λ t. drop_for cause.Unbound (spot_of o) t)
+    nowhere_so : home ≡ nowhere → Goes (λ t. drop_for cause.Unbound (spot_of o) t)
     nowhere_so none =
-        comes_then s (λ rest t. rest t p) (λ q rest t. drop_for cause.Unbound (spot_of o) t) lists (IsStaying s laid numbers wired (port_identity i) o there p copy) Never zones (copy ∷ [])
-        (stays_32 s laid numbers wired (port_identity i) o there p lists zones copy h (λ home e. absurd (none-some home (sym none ∙ e))))
-        (λ after q last next stays.
-        unbound_33 s laid numbers wired (port_identity i) o there p after last next stays.still stays.from (λ e. none-some s.scene.here (sym none ∙ e)))
+        stays (λ chassis e. absurd (false≢true (ap is_on_one (sym none ∙ e)))) (λ t. drop_for cause.Unbound (spot_of o) t)
+        (λ after last next stays.
+        unbound_33 s laid numbers wired (port_identity i) o there unbound p false after last next stays.still (word next stays.regs) stays.from (ap (is_here s.scene.here) none))
 
     -- the port of entry gets no packet back
-    send_here_so : at s.scene.config.bindings o.name ≡ Some s.scene.here → reg_number reg.Loopback copy.regs ≡ 0 → (b : Bool) → is_other i o ≡ b → Goes (λ t. send_here b onward s.scene from o t p)
-    send_here_so bound off true other =
-        goes_out bound (λ same.
+    send_here_so : is_here s.scene.here home ≡ true → reg_number reg.Loopback copy.regs ≡ 0 → (b : Bool) → is_other i o ≡ b → Goes (λ t. send_here b onward s.scene from o t p)
+    send_here_so is off true other =
+        goes_out is (λ same.
         let named : o.name ≡ i.name = one_port s laid i.switch o.name i.name copy.regs.in_port (subst (IsPortKey s.keys i.switch o.name) (sym same) (subst (λ a. IsPortKey s.keys a o.name copy.regs.out_port) on_it h.to)) entered in
         absurd (false≢true (ap not (sym ((bytes_decides o.name i.name).1 named)) ∙ other)))
-    send_here_so bound off false own = turned bound (entered_is (is_own (same_name o.name i.name) refl own)) off
+    send_here_so is off false own = turned is (entered_is (is_own (same_name o.name i.name) refl own)) off
       where
         is_own : (v : Bool) → same_name o.name i.name ≡ v → not v ≡ false → o.name ≡ i.name
         is_own true e k = (bytes_decides o.name i.name).0 e
@@ -143,26 +166,23 @@ module _ (s : Chassis) (laid : IsLaidOut s) (numbers : GivenNumbers) (wired : Is
         entered_is : o.name ≡ i.name → copy.regs.in_port ≡ copy.regs.out_port
         entered_is named = same_port_key s laid i.switch o.switch i.name copy.regs.in_port copy.regs.out_port entered (subst (λ n. IsPortKey s.keys o.switch n copy.regs.out_port) named h.to)
 
-    over_so : (home : Name) → at s.scene.config.bindings o.name ≡ Some home → reg_number reg.Loopback copy.regs ≡ 0 → (b : Bool) → same_name home s.scene.here ≡ b → Goes (λ t. send_over b onward s.scene from o home t p)
-    over_so home bound off true is =
-        send_here_so (bound ∙ ap (λ (n : Name). Some n) ((bytes_decides home s.scene.here).0 is)) off (is_other i o) refl
-    over_so home bound off false is =
-        crosses_32 s laid numbers wired (port_identity i) o there p lists zones copy h i i_there (subst (λ a. IsDatapathKey s.keys a copy.regs.dp) on_it h.on) entered home bound
-        (λ same. false≢true (sym is ∙ (bytes_decides home s.scene.here).1 same))
+    over_so : (chassis : Name) → home ≡ on chassis → reg_number reg.Loopback copy.regs ≡ 0 → (b : Bool) → same_name chassis s.scene.here ≡ b → Goes (λ t. send_over b onward s.scene from o chassis t p)
+    over_so chassis at_home off true is = send_here_so (ap (is_here s.scene.here) at_home ∙ is) off (is_other i o) refl
+    over_so chassis at_home off false is =
+        crosses_32 s laid numbers wired (port_identity i) o there unbound p lists zones copy h i i_there (subst (λ a. IsDatapathKey s.keys a copy.regs.dp) on_it h.on) entered chassis at_home
+        (λ same. false≢true (sym is ∙ (bytes_decides chassis s.scene.here).1 same))
 
-    by_home : (b : Option Name) → at s.scene.config.bindings o.name ≡ b → reg_number reg.Loopback copy.regs ≡ 0 → Goes (λ t. send_home (home_if on b) onward s.scene from o t p)
-    by_home None none off = nowhere_so none
-    by_home (Some home) bound off = over_so home bound off (same_name home s.scene.here) refl
+    by_home : (k : Home) → home ≡ k → reg_number reg.Loopback copy.regs ≡ 0 → Goes (λ t. send_home k onward s.scene from o t p)
+    by_home nowhere is off = nowhere_so is
+    by_home (on chassis) is off = over_so chassis is off (same_name chassis s.scene.here) refl
+    by_home everywhere is off = send_here_so (ap (is_here s.scene.here) is) off (is_other i o) refl
 
-    sends_one : reg_number reg.Loopback copy.regs ≡ 0 → Goes (λ t. send_home (home_of s.scene.config o) onward s.scene from o t p)
-    sends_one off =
-        ends_same s (λ t. send_home (home_if on (at s.scene.config.bindings o.name)) onward s.scene from o t p) (λ t. send_home (home_of s.scene.config o) onward s.scene from o t p) lists
-        (λ choices ends. ap (λ k. send_home k onward s.scene from o (trail_with lists choices ends) p) (sym (home_is s o (virtual o.name o there on_it)))) zones (copy ∷ [])
-        (by_home (at s.scene.config.bindings o.name) refl off)
+    sends_one : reg_number reg.Loopback copy.regs ≡ 0 → Goes (λ t. send_home home onward s.scene from o t p)
+    sends_one off = by_home home refl off
 
   -- ---- to any target
 
-  module _ (home : at s.scene.config.bindings i.name ≡ Some s.scene.here) (p : Packet) (lists : Lists) (zones : ZoneLists) (copy : Carried) where
+  module _ (home : is_here s.scene.here (home_of s.scene.config i) ≡ true) (p : Packet) (lists : Lists) (zones : ZoneLists) (copy : Carried) (passed : copy.passes ≡ passes) where
     abbrev Sends : Target → Type 0
     Sends target = Comes (course_of s) zones (copy ∷ []) (EndsAs s (λ t. send_to target onward s.scene from t p) lists)
 
@@ -177,7 +197,7 @@ module _ (s : Chassis) (laid : IsLaidOut s) (numbers : GivenNumbers) (wired : Is
           to = h.to;
           within = h.within;
           hold = h.hold;
-        }) h.came home (λ same. h.loopback)
+        }) h.came h.arrived passed home (λ same. h.loopback)
     sends (to_one o) one h =
         let e = enabled_is (net_of s) laid.valid i.switch o one in
         sends_one o e.there e.on p lists zones copy (record {
@@ -189,13 +209,29 @@ module _ (s : Chassis) (laid : IsLaidOut s) (numbers : GivenNumbers) (wired : Is
           to = subst (λ a. IsPortKey s.keys a o.name copy.regs.out_port) (sym e.on) h.to;
           within = h.within;
           hold = h.hold;
-        }) h.came h.loopback
+        }) h.came h.arrived passed h.loopback
     sends (to_group Flood) one h =
-        spreads s laid numbers wired law onward i i_there virtual Flood p lists zones copy h.in_table h.packet (subst IsWhole h.packet h.whole) h.on h.came h.to h.arrived h.within h.hold
+        spreads s laid numbers wired law onward passes i i_there leads Flood p lists zones copy passed h.in_table h.packet (subst IsWhole h.packet h.whole) h.on h.came h.to h.arrived h.within h.hold
     sends (to_group Unknown) one h =
-        spreads s laid numbers wired law onward i i_there virtual Unknown p lists zones copy h.in_table h.packet (subst IsWhole h.packet h.whole) h.on h.came h.to h.arrived h.within h.hold
+        spreads s laid numbers wired law onward passes i i_there leads Unknown p lists zones copy passed h.in_table h.packet (subst IsWhole h.packet h.whole) h.on h.came h.to h.arrived h.within h.hold
     sends to_nobody one h = absurd h.to
 
-pub sends_on : EgressLaw → SendingLaw
+pub sends_to : EgressLaw → SendingOnLaw
+sends_to law s laid numbers wired onward passes i i_there home leads target p is lists zones copy h passed =
+    sends s laid numbers wired law onward passes i i_there leads home p lists zones copy passed target (subst (IsOneOf (enabled_ports (net_of s) i.switch)) (sym is) (target_one s i p)) h
+
+-- ---- where no port leads to a router
+
+pub none_leads : (s : Chassis) (switch : Name) → AreVirtual s switch → (onward : Onward) (passes : ℕ) → LeadsOn s onward switch passes
+none_leads s switch virtual onward passes = record {
+  unbound = λ o there on leads. absurd (false≢true (sym leads ∙ virtual o.name o there on));
+  goes = λ o there on leads. absurd (false≢true (sym leads ∙ virtual o.name o there on));
+}
+
+-- a virtual port is at home where it is bound
+pub home_here : (s : Chassis) (i : SwitchPort) → is_virtual i ≡ true → at s.scene.config.bindings i.name ≡ Some s.scene.here → is_here s.scene.here (home_of s.scene.config i) ≡ true
+home_here s i virtual bound = ap (is_here s.scene.here) (home_is s i virtual ∙ ap (home_if on) bound) ∙ reached_on false s.scene.here
+
+pub sends_on : SendingOnLaw → SendingLaw
 sends_on law s laid numbers wired onward i i_there home virtual target p is lists zones copy h =
-    sends s laid numbers wired law onward i i_there virtual home p lists zones copy target (subst (IsOneOf (enabled_ports (net_of s) i.switch)) (sym is) (target_one s i p)) h
+    law s laid numbers wired onward copy.passes i i_there (home_here s i (virtual i.name i i_there refl) home) (none_leads s i.switch virtual onward copy.passes) target p is lists zones copy h refl

@@ -1,5 +1,5 @@
 -- A packet that comes in at a port goes on to its last end, as the network says.
-use Rattle.std.specs.Prelude.{◌≡◌, ◌≤◌, ℕ, [], ◌∷◌, Some, refl}
+use Rattle.std.specs.Prelude.{◌≡◌, ◌≤◌, ℕ, true, [], ◌∷◌, Some, refl}
 use Rattle.std.proofs.Common.{sym, ap, ◌∙◌, subst, arith}
 use Rattle.std.proofs.lemmas.Bool.{false≢true}
 use Rattle.std.proofs.lemmas.Option.{same_Some}
@@ -12,7 +12,9 @@ use Rattle.inet_packet.specs.declared.packet.Packet.{Packet}
 use Rattle.inet_packet.specs.declared.regs.At.TheVariants as at_of
 use Rattle.inet_packet.specs.declared.regs.Reg.{Reg}
 use Rattle.inet_packet.specs.declared.regs.Reg.TheVariants as reg
+use Rattle.nb_records.specs.Switches.{is_virtual}
 use Rattle.nb_records.specs.declared.switch.SwitchPort.{SwitchPort}
+use Rattle.net_model.specs.Config.{home_of, is_here}
 use Rattle.net_model.specs.Entry.{enter, Onward}
 use Rattle.net_model.specs.Spread.{send_to}
 use Rattle.net_model.specs.Targets.{Target, answer_from, to_one, to_group, to_nobody, target_of}
@@ -35,12 +37,14 @@ use Rattle.sim_laws.proofs.Places.{name_at, is_local}
 use Rattle.sim_laws.proofs.passes.Ends.{ends_same}
 use Rattle.sim_laws.proofs.passes.LiveNumbers.{datapath_low, port_low, switch_live, port_live, is_port, datapath_of, port_of}
 use Rattle.sim_laws.proofs.passes.RowSteps.{Does, Taken, row_step, row_fits, as_row}
+use Rattle.sim_laws.proofs.passes.Sending.{none_leads, home_here}
 use Rattle.sim_laws.proofs.pipelines.Copies.{goes_so}
 use Rattle.sim_laws.proofs.pipelines.Pieces.{comes_then}
-use Rattle.sim_laws.specs.passes.Physical.{AreVirtual, basis_of, IsWired}
-use Rattle.sim_laws.specs.passes.Sending.{sent_from, SendingLaw}
+use Rattle.sim_laws.specs.passes.Onward.{LeadsOn}
+use Rattle.sim_laws.specs.passes.Physical.{basis_of, IsWired}
+use Rattle.sim_laws.specs.passes.Sending.{sent_from, SendingOnLaw}
 use Rattle.sim_laws.specs.passes.ToEnd.{Never, EndsAs}
-use Rattle.sim_laws.specs.passes.Visiting.{VisitLaw}
+use Rattle.sim_laws.specs.passes.Visiting.{ThroughSwitchLaw, VisitOnLaw, VisitLaw}
 use Rattle.sim_laws.specs.pipelines.FirstTable.{AreFirst, FirstTableLaw}
 use Rattle.sim_laws.specs.pipelines.HeldLists.{HoldLists}
 use Rattle.sim_laws.specs.pipelines.Ingress.{to_target, way_in, loopback_for, GoesTo, IngressLaw}
@@ -48,8 +52,8 @@ use Rattle.sim_laws.specs.pipelines.Pieces.{trail_with, ComesTo}
 use Rattle.sim_laws.specs.pipelines.Standing.{Chassis, net_of, course_of, IsLaidOut}
 use Rattle.sim_laws.specs.pipelines.WalkOn.{Reached, Comes}
 
-module _ (s : Chassis) (laid : IsLaidOut s) (numbers : GivenNumbers) (wired : IsWired s numbers) (first_law : FirstTableLaw) (in_law : IngressLaw) (sending : SendingLaw) (i : SwitchPort) (i_there : at (net_of s).switch_ports i.name ≡ Some i)
-    (home : at s.scene.config.bindings i.name ≡ Some s.scene.here) (virtual : AreVirtual s i.switch) where
+module _ (s : Chassis) (laid : IsLaidOut s) (numbers : GivenNumbers) (wired : IsWired s numbers) (first_law : FirstTableLaw) (in_law : IngressLaw) (sending : SendingOnLaw) (i : SwitchPort)
+    (i_there : at (net_of s).switch_ports i.name ≡ Some i) where
   -- ---- through the switch
 
   -- a packet without a target is dropped in both
@@ -60,16 +64,17 @@ module _ (s : Chassis) (laid : IsLaidOut s) (numbers : GivenNumbers) (wired : Is
   sent_so onward to_nobody q t = refl
 
   -- from the first table on
-  module _ (onward : Onward) (p : Packet) (whole : IsWhole p) (lists : Lists) (zones : ZoneLists) (hold : HoldLists s.number zones lists) (copy : Carried) (in_table : copy.table ≡ ADMIT_TABLE) (packet : copy.packet ≡ p)
-      (first : AreFirst s i copy.regs) (off : reg_number reg.Loopback copy.regs ≡ 0) (inside : reg_number reg.Arrived copy.regs ≡ 0) where
-    pub passes : Comes (course_of s) zones (copy ∷ []) (EndsAs s (λ t. into_switch onward s.scene i t p) lists)
-    passes =
+  module _ (onward : Onward) (passes : ℕ) (home : is_here s.scene.here (home_of s.scene.config i) ≡ true) (leads : LeadsOn s onward i.switch passes) (p : Packet) (whole : IsWhole p) (lists : Lists) (zones : ZoneLists)
+      (hold : HoldLists s.number zones lists) (copy : Carried) (in_table : copy.table ≡ ADMIT_TABLE) (packet : copy.packet ≡ p) (first : AreFirst s i copy.regs) (off : reg_number reg.Loopback copy.regs ≡ 0)
+      (inside : reg_number reg.Arrived copy.regs ≡ 0) (passed : copy.passes ≡ passes) where
+    pub goes_through : Comes (course_of s) zones (copy ∷ []) (EndsAs s (λ t. into_switch onward s.scene i t p) lists)
+    goes_through =
         ends_same s (λ t. way_in s i p (λ u x. send_to x.0 onward s.scene (sent_from s i) u x.1) t) (λ t. into_switch onward s.scene i t p) lists
         (λ choices ends j. finally (enter s.scene i (trail_with lists choices ends) p) (λ u q. sent_so onward (target_of (net_of s) i q) q u j)) zones (copy ∷ [])
         (comes_then s (way_in s i p) (λ x rest t. send_to x.0 onward s.scene (sent_from s i) t x.1) lists (GoesTo s i copy) Never zones (copy ∷ [])
         (in_law s laid i p lists zones copy (first_law s laid i i_there p whole lists zones hold copy in_table packet first))
         (λ after x last next goes.
-        sending s laid numbers wired onward i i_there home virtual x.0 x.1 goes.target after last next (record {
+        sending s laid numbers wired onward passes i i_there home leads x.0 x.1 goes.target after last next (record {
           in_table = goes.in_table;
           packet = goes.packet;
           whole = goes.whole;
@@ -80,11 +85,11 @@ module _ (s : Chassis) (laid : IsLaidOut s) (numbers : GivenNumbers) (wired : Is
           arrived = goes.still.registers reg.Arrived refl ∙ inside;
           within = goes.within;
           hold = goes.hold;
-        })))
+        }) (goes.still.passes ∙ passed)))
 
   -- ---- from table 0 on
 
-  module _ (p : Packet) (whole : IsWhole p) (lists : Lists) (zones : ZoneLists) (hold : HoldLists s.number zones lists) where
+  module _ (bound : at s.scene.config.bindings i.name ≡ Some s.scene.here) (p : Packet) (whole : IsWhole p) (lists : Lists) (zones : ZoneLists) (hold : HoldLists s.number zones lists) where
     abbrev copy : Carried
     copy = start (Vif i.name) p
 
@@ -122,6 +127,7 @@ module _ (s : Chassis) (laid : IsLaidOut s) (numbers : GivenNumbers) (wired : Is
       pub regs : AreFirst s i next.regs
       pub off : reg_number reg.Loopback next.regs ≡ 0
       pub inside : reg_number reg.Arrived next.regs ≡ 0
+      pub passes : next.passes ≡ 0
       pub hold_them : HoldLists s.number last after
 
     abbrev Enters : Reached
@@ -147,18 +153,19 @@ module _ (s : Chassis) (laid : IsLaidOut s) (numbers : GivenNumbers) (wired : Is
           };
           off = refl;
           inside = refl;
+          passes = refl;
           hold_them = hold;
         }) (λ rest choices ends. refl))
 
     on_0 : (f : Flow) → Taken s ENTRY_TABLE (EntryRow (basis_of s numbers)) wired.entry copy f → EntryRow (basis_of s numbers) f → Does s f.ops zones copy Enters
-    on_0 f t (EntryRow.entry q port dp key zone theirs bound e) =
+    on_0 f t (EntryRow.entry q port dp key zone theirs there e) =
         let is : at_of.Local i.name ≡ at_of.Local q = fits_entry copy.regs p q (row_fits s ENTRY_TABLE (EntryRow (basis_of s numbers)) wired.entry copy f (entry_row q dp key zone) t e) in
         let named : q ≡ i.name = sym (ap name_at is) in
         let same : port ≡ i = same_Some port i (sym theirs.there ∙ ap (λ n. at (net_of s).switch_ports n) named ∙ i_there) in
         as_row s ENTRY_TABLE (EntryRow (basis_of s numbers)) wired.entry zones copy Enters f (entry_row q dp key zone) e
         (entered dp key zone (subst (λ (o : SwitchPort). IsDatapathKey s.keys o.switch dp) same (datapath_of s laid numbers port.switch dp theirs.on))
         (subst (λ (o : SwitchPort). IsPortKey s.keys o.switch i.name key) same (subst (λ n. IsPortKey s.keys port.switch n key) named (port_of s laid numbers q port dp key theirs)))
-        (ap (λ n. s.number (of_port n)) (sym named) ∙ wired.number q ∙ bound.zoned))
+        (ap (λ n. s.number (of_port n)) (sym named) ∙ wired.number q ∙ there.zoned))
     on_0 f t (EntryRow.arrival e) =
         let is : at_of.Local i.name ≡ at_of.Tunnel = fits_tunnel copy.regs p (row_fits s ENTRY_TABLE (EntryRow (basis_of s numbers)) wired.entry copy f arrival_row t e) in
         absurd (false≢true (sym (ap is_local is)))
@@ -168,16 +175,27 @@ module _ (s : Chassis) (laid : IsLaidOut s) (numbers : GivenNumbers) (wired : Is
         let w = on_switch (net_of s) laid.valid i.name i i_there in
         let d = switch_live s laid i.switch w.0 w.1 in
         let k = port_live s laid i.name i i_there in
-        let z = found (s.number (of_port i.name)) (wired.zoned i.name home) in
-        let here : IsHere (basis_of s numbers) i.name z.0 = record { bound = home; zoned = sym (wired.number i.name) ∙ z.1 } in
+        let z = found (s.number (of_port i.name)) (wired.zoned i.name bound) in
+        let here : IsHere (basis_of s numbers) i.name z.0 = record { bound = bound; zoned = sym (wired.number i.name) ∙ z.1 } in
         row_step s ENTRY_TABLE (EntryRow (basis_of s numbers)) wired.entry zones copy refl Enters (entry_row i.name d.0 k.0 z.0)
         (EntryRow.entry i.name i d.0 k.0 z.0 (is_port s laid numbers i.name i i_there d.0 k.0 (record { birth = w.0.birth; key = d.0 }, d.1, refl) (record { birth = i.birth; datapath = i.switch; key = k.0 }, k.1, refl, refl)) here refl) refl
         (entry_fits copy.regs p i.name refl) (λ f t. on_0 f t t.row)
 
-    pub visits : Comes (course_of s) zones (copy ∷ []) Visits
-    visits =
+    pub visits : is_virtual i ≡ true → LeadsOn s (passing_on s.scene) i.switch 0 → Comes (course_of s) zones (copy ∷ []) Visits
+    visits virtual leads =
         comes_then s (λ rest t. rest t p) (λ q rest t. visit s.scene i t p) lists IsFirst Never zones (copy ∷ []) enters
-        (λ after q last next first. passes (passing_on s.scene) p whole after last first.hold_them next first.in_table first.packet first.regs first.off first.inside)
+        (λ after q last next first.
+        goes_through (passing_on s.scene) 0 (home_here s i virtual bound) leads p whole after last first.hold_them next first.in_table first.packet first.regs first.off first.inside first.passes)
 
-pub visits_so : FirstTableLaw → IngressLaw → SendingLaw → VisitLaw
-visits_so first_law in_law sending s laid numbers wired i i_there home virtual entry p whole lists zones hold = visits s laid numbers wired first_law in_law sending i i_there home virtual p whole lists zones hold
+pub into_switch_so : FirstTableLaw → IngressLaw → SendingOnLaw → ThroughSwitchLaw
+into_switch_so first_law in_law sending s laid numbers wired onward passes i i_there home leads p whole lists zones hold copy in_table packet first off inside passed =
+    goes_through s laid numbers wired first_law in_law sending i i_there onward passes home leads p whole lists zones hold copy in_table packet first off inside passed
+
+pub visits_so : FirstTableLaw → IngressLaw → SendingOnLaw → VisitOnLaw
+visits_so first_law in_law sending s laid numbers wired i i_there virtual bound leads entry p whole lists zones hold =
+    visits s laid numbers wired first_law in_law sending i i_there bound p whole lists zones hold virtual leads
+
+-- where no port leads to a router
+pub visits_virtual : VisitOnLaw → VisitLaw
+visits_virtual law s laid numbers wired i i_there bound virtual entry p whole lists zones hold =
+    law s laid numbers wired i i_there (virtual i.name i i_there refl) bound (none_leads s i.switch virtual (passing_on s.scene) 0) entry p whole lists zones hold

@@ -2,8 +2,11 @@
 use Rattle.std.specs.Prelude.{◌≡◌, ◌≢◌, ℕ, true, [], ◌∷◌, Some, IsSome}
 use Rattle.conn_zones.specs.Zoning.{GivenNumbers}
 use Rattle.inet_packet.specs.Whole.{IsWhole}
+use Rattle.nb_records.specs.declared.router.Router.{Router}
 use Rattle.net_model.specs.Arrival.{is_switch, arrival}
+use Rattle.net_model.specs.Config.{router_identity}
 use Rattle.net_model.specs.Trail.{Lists}
+use Rattle.net_model.specs.Visit.{passing_on}
 use Rattle.net_model.specs.declared.crossing.Aim.{Aim}
 use Rattle.net_model.specs.declared.crossing.Aim.TheVariants.{ToPort, ToGroup}
 use Rattle.net_model.specs.declared.crossing.Crossing.{Crossing}
@@ -18,6 +21,7 @@ use Rattle.tunnel_keys.specs.declared.owner.HeldPort.{HeldPort}
 use Rattle.tunnel_keys.specs.declared.owner.Identity.{Identity}
 use Rattle.tunnel_keys.specs.declared.owner.PortKey.{PortKey}
 use Rattle.sim_laws.specs.Sound.{HasAimKey}
+use Rattle.sim_laws.specs.passes.Onward.{LeadsOn}
 use Rattle.sim_laws.specs.passes.Physical.{IsWired, AreVirtual}
 use Rattle.sim_laws.specs.passes.ToEnd.{EndsAs}
 use Rattle.sim_laws.specs.pipelines.HeldLists.{HoldLists}
@@ -43,7 +47,7 @@ abbrev pub IsAimOnSwitch : Chassis → Identity → Aim → Type 0
 IsAimOnSwitch s datapath (ToPort id) = IsOnSwitch s datapath id
 IsAimOnSwitch s datapath (ToGroup g) = Unit {0}
 
--- The crossing may arrive: its packet is whole, who it names has or had keys, and it doesn't go back to its port of entry.
+-- The crossing may arrive: its packet is whole, who it names has or had keys, it was sent in a switch, and it doesn't go back to its port of entry.
 pub record MayArrive (s : Chassis) (x : Crossing) : Type 0 where
   pub whole : IsWhole x.packet
   pub datapath_key : (h : HeldDatapath) × Among h (held_datapaths s.keys) × (h.owner ≡ x.datapath)
@@ -51,11 +55,20 @@ pub record MayArrive (s : Chassis) (x : Crossing) : Type 0 where
   pub aim_key : HasAimKey s.keys x.aim
   pub in_on : IsOnSwitch s x.datapath x.in_port
   pub aim_on : IsAimOnSwitch s x.datapath x.aim
+  pub no_router : (router : Router) → at (net_of s).routers x.datapath.name ≡ Some router → router_identity router ≢ x.datapath
   pub no_return : x.aim ≢ ToPort x.in_port
 
 -- Whatever walk the packet of a crossing takes from its frame, it does what the network says of its arrival. It is lost where its switch is
--- gone, or where its port is gone or at home elsewhere. Nobody has a live key of a port on a switch but the ports of the records, and no
--- port of the datapath leads to a router.
+-- gone, or where its port is gone or at home elsewhere, or everywhere: a distributed router is entered where the packet was sent. Nobody has a live
+-- key of a port on a switch but the ports of the records.
+abbrev pub ArrivingOnLaw : Type 0
+ArrivingOnLaw =
+    (s : Chassis) → IsLaidOut s → (numbers : GivenNumbers) → IsWired s numbers → AreOwned s
+    → (n : ℕ) (x : Crossing) → MayArrive s x → LeadsOn s (passing_on s.scene) x.datapath.name 0 → s.entry ≡ tunnel_entry_of s.keys x
+    → (lists : Lists) (zones : ZoneLists) → HoldLists s.number zones lists
+    → Comes (course_of s) zones (start (tunnel_entry_of s.keys x) x.packet ∷ []) (EndsAs s (λ t. arrival s.scene n x t) lists)
+
+-- So it is where no port of the datapath leads to a router.
 abbrev pub ArrivingLaw : Type 0
 ArrivingLaw =
     (s : Chassis) → IsLaidOut s → (numbers : GivenNumbers) → IsWired s numbers → AreOwned s

@@ -11,7 +11,7 @@ use Rattle.world_setup.proofs.setup.tables_of.Goals as goal
 
 pub prepare_around-requires-clause-once : goal.prepare_around-requires-clause-once
 prepare_around-requires-clause-once c =
-    each_unit_once (basis_of c.args.maps.now) c.as_slice.result.now c.as_slice-2.result.now (c.as_slice.ensures ∙ c.in_ok-units.ensures) (c.as_slice-2.ensures ∙ c.in_ok-everywhere.ensures) c.requires.switched
+    each_unit_once (basis_of c.args.maps.now) c.as_slice.result.now c.as_slice-2.result.now (c.as_slice.ensures ∙ c.in_ok-units.ensures) (c.as_slice-2.ensures ∙ c.in_ok-everywhere.ensures) c.requires.keyed
 
 pub prepare_around-requires-clause-around : goal.prepare_around-requires-clause-around
 prepare_around-requires-clause-around c =
@@ -27,7 +27,7 @@ holding-requires c =
     let only = units_change (basis_of c.args.maps.now) c.as_slice.result.now c.as_slice-2.result.now (c.as_slice.ensures ∙ c.in_ok-units.ensures) (c.as_slice-2.ensures ∙ c.in_ok-everywhere.ensures) in
     let patch : IsTablePatch no_rows (around_rows (basis_of c.args.maps.now)) c.prepare_around.new.self c.in_ok-patch.patch = c.in_ok-patch.ensures.prepared no_rows (subst (HaveRows no_rows) (sym c.in_ok-flows.ensures) none_have) only in
     let exact : AreExactly (IsFlowBy (basis_of c.args.maps.now)) c.append.new.self =
-    flows_joined (basis_of c.args.maps.now) c.requires.switched.keyed c.in_ok-all.all (c.in_ok-all.ensures.listed _ c.requires.compiled c.requires.lowered) c.in_ok-patch.patch.delta c.apply-delta.result patch.change c.apply-delta.ensures.shown c.append.new.self c.in_ok-append.ensures.ok in
+    flows_joined (basis_of c.args.maps.now) c.requires.keyed c.in_ok-all.all (c.in_ok-all.ensures.listed _ c.requires.compiled c.requires.lowered) c.in_ok-patch.patch.delta c.apply-delta.result patch.change c.apply-delta.ensures.shown c.append.new.self c.in_ok-append.ensures.ok in
     exact.once
 
 pub returns-clause-rows : goal.returns-clause-rows
@@ -40,5 +40,5 @@ returns-clause-flows c =
     let only = units_change (basis_of c.args.maps.now) c.as_slice.result.now c.as_slice-2.result.now (c.as_slice.ensures ∙ c.in_ok-units.ensures) (c.as_slice-2.ensures ∙ c.in_ok-everywhere.ensures) in
     let patch : IsTablePatch no_rows (around_rows (basis_of c.args.maps.now)) c.prepare_around.new.self c.in_ok-patch.patch = c.in_ok-patch.ensures.prepared no_rows (subst (HaveRows no_rows) (sym c.in_ok-flows.ensures) none_have) only in
     let exact : AreExactly (IsFlowBy (basis_of c.args.maps.now)) c.append.new.self =
-    flows_joined (basis_of c.args.maps.now) c.requires.switched.keyed c.in_ok-all.all (c.in_ok-all.ensures.listed _ c.requires.compiled c.requires.lowered) c.in_ok-patch.patch.delta c.apply-delta.result patch.change c.apply-delta.ensures.shown c.append.new.self c.in_ok-append.ensures.ok in
+    flows_joined (basis_of c.args.maps.now) c.requires.keyed c.in_ok-all.all (c.in_ok-all.ensures.listed _ c.requires.compiled c.requires.lowered) c.in_ok-patch.patch.delta c.apply-delta.result patch.change c.apply-delta.ensures.shown c.append.new.self c.in_ok-append.ensures.ok in
     flows_of_rows (basis_of c.args.maps.now) c.append.new.self c.in_ok-held.held exact c.in_ok-held.ensures

@@ -11,4 +11,9 @@ invariant-switches l =
     l.units ++ map (λ e. unit.Switch e.0) l.name-iterator ≡ unit.Common ∷ map (λ e. unit.Switch e.0) net.switches
 
 abbrev pub invariant-ports : goal.invariant-ports
-invariant-ports l = l.units ++ map (λ e. unit.Port e.0) l.name-iterator ≡ all_units (basis_of l.self).net
+invariant-ports l =
+    let net = (basis_of l.self).net in
+    l.units ++ map (λ e. unit.Port e.0) l.name-iterator ≡ unit.Common ∷ map (λ e. unit.Switch e.0) net.switches ++ map (λ e. unit.Port e.0) net.switch_ports
+
+abbrev pub invariant-router_ports : goal.invariant-router_ports
+invariant-router_ports l = l.units ++ map (λ e. unit.RouterPort e.0) l.name-iterator ≡ all_units (basis_of l.self).net

@@ -31,11 +31,11 @@ prepare-requires-clause-fits c =
 
 pub prepare-requires-clause-before : goal.prepare-requires-clause-before
 prepare-requires-clause-before c =
-    (chassis_readied c.args.self.now.ground c.args.number c.args.chassis c.requires.may.0 c.requires.may.1 (allowed c) c.args.self.now.ground refl c.in_ok-names_with.field-0 (names_are c)).tables.switched
+    (chassis_readied c.args.self.now.ground c.args.number c.args.chassis c.requires.may.0 c.requires.may.1 (allowed c) c.args.self.now.ground refl c.in_ok-names_with.field-0 (names_are c)).tables.keyed
 
-pub prepare-requires-clause-switched : goal.prepare-requires-clause-switched
-prepare-requires-clause-switched c =
-    (chassis_readied c.args.self.now.ground c.args.number c.args.chassis c.requires.may.0 c.requires.may.1 (allowed c) c.args.self.now.ground refl c.in_ok-names_with.field-0 (names_are c)).tables_then.switched
+pub prepare-requires-clause-keyed : goal.prepare-requires-clause-keyed
+prepare-requires-clause-keyed c =
+    (chassis_readied c.args.self.now.ground c.args.number c.args.chassis c.requires.may.0 c.requires.may.1 (allowed c) c.args.self.now.ground refl c.in_ok-names_with.field-0 (names_are c)).tables_then.keyed
 
 pub prepare-requires-clause-compiled : goal.prepare-requires-clause-compiled
 prepare-requires-clause-compiled c =

@@ -55,10 +55,10 @@ pub prepare-requires-2-clause-once : goal.prepare-requires-2-clause-once
 prepare-requires-2-clause-once c = (readied c).once
 
 pub prepare-requires-2-clause-before : goal.prepare-requires-2-clause-before
-prepare-requires-2-clause-before c = (readied c).tables.switched
+prepare-requires-2-clause-before c = (readied c).tables.keyed
 
-pub prepare-requires-2-clause-switched : goal.prepare-requires-2-clause-switched
-prepare-requires-2-clause-switched c = (readied c).tables_then.switched
+pub prepare-requires-2-clause-keyed : goal.prepare-requires-2-clause-keyed
+prepare-requires-2-clause-keyed c = (readied c).tables_then.keyed
 
 pub prepare-requires-2-clause-compiled : goal.prepare-requires-2-clause-compiled
 prepare-requires-2-clause-compiled c = (readied c).tables_then.compiled

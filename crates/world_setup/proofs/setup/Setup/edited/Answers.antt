@@ -34,10 +34,10 @@ pub prepare-requires-clause-once : goal.prepare-requires-clause-once
 prepare-requires-clause-once c = (readied c).once
 
 pub prepare-requires-clause-before : goal.prepare-requires-clause-before
-prepare-requires-clause-before c = (readied c).tables.switched
+prepare-requires-clause-before c = (readied c).tables.keyed
 
-pub prepare-requires-clause-switched : goal.prepare-requires-clause-switched
-prepare-requires-clause-switched c = (readied c).tables_then.switched
+pub prepare-requires-clause-keyed : goal.prepare-requires-clause-keyed
+prepare-requires-clause-keyed c = (readied c).tables_then.keyed
 
 pub prepare-requires-clause-compiled : goal.prepare-requires-clause-compiled
 prepare-requires-clause-compiled c = (readied c).tables_then.compiled

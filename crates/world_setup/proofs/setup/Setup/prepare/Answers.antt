@@ -57,8 +57,8 @@ returns-clause-turned c =
     let over : ComesOver before.config.chassis c.args.come after.config.chassis = subst (λ (s : SetupView). ComesOver s.ground.config.chassis c.args.come (changed c.args.change s.ground).config.chassis) (sym c.self.view_is) c.requires.chassis in
     let every = every_delta c.args.lowered in
     let turned : AreTablesTurned before after every = subst (λ (s : SetupView). AreTablesTurned s.ground (changed c.args.change s.ground) every) (sym c.self.view_is) (record {
-      had = c.requires.before.keyed;
-      have = c.requires.switched.keyed;
+      had = c.requires.before;
+      have = c.requires.keyed;
       lowered = planned_change c.args.self.now.ground (changed c.args.change c.args.self.now.ground) c.args.self.now.lowered c.args.lowered c.requires.planned;
     }) in
     let deltas : c.in_ok-sim.field-0 ≡ map (λ p. (p.0, joined every p.1.delta)) c.in_ok-patches.patches = c.in_ok-sim.ensures ∙ ap (λ l. map (λ p. (p.0, joined every p.1.delta)) l) c.as_slice.ensures in
