@@ -1,2 +1,3 @@
 -- Lemmas.
+pub mod router_passes
 pub mod router_stages

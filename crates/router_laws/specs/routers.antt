@@ -2,3 +2,7 @@
 pub mod RouterStanding
 pub mod RouterIngress
 pub mod RouterEgress
+pub mod Patches
+pub mod RouterPass
+pub mod Passing
+pub mod Visits

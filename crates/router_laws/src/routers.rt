@@ -1,6 +1,9 @@
-//! The laws of a router's two pipelines, on a function that does nothing: call it, and its clauses are facts of the call.
+//! The laws of routers, each on a function that does nothing: call it, and its clauses are facts of the call.
+ghost use Rattle.router_laws.specs.routers.Passing.{JourneysPassLaw};
+ghost use Rattle.router_laws.specs.routers.Patches.{PatchLaw};
 ghost use Rattle.router_laws.specs.routers.RouterEgress.{RouterEgressLaw};
 ghost use Rattle.router_laws.specs.routers.RouterIngress.{RouterIngressLaw};
+ghost use Rattle.router_laws.specs.routers.RouterPass.{RouterPassLaw};
 ghost use Rattle.router_laws.specs.routers.RouterStanding.{FirstRouterTableLaw};
 
 use row_laws::routers::{router_stages_are_the_way, router_tables_do_so};
@@ -15,4 +18,16 @@ pub fn router_pipelines()
 {
     router_tables_do_so();
     router_stages_are_the_way();
+}
+
+/// Whatever walk takes on a copy that is to leave by a port that leads into another datapath brings it to the first table there, with one pass more,
+/// or drops it where the port has no partner or no pass is left; and a copy that goes to a port of a distributed router comes to the output
+/// at that port. So, where each router is distributed and switches do with a copy what the network says, by what becomes of what
+/// leaves them, it does what the network says of its whole way.
+pub fn router_passes()
+    ensures patches { PatchLaw }
+    ensures through { RouterPassLaw }
+    ensures on_and_on { JourneysPassLaw }
+{
+    router_pipelines();
 }

@@ -24,4 +24,4 @@ router_egress law s laid c lists zones copy h =
     (router_step s laid stage.RouterFind law.find laid.tables.track_out c lists zones copy h (IsNext zones next) (go_does s zones copy (IsNext zones next) 41 (refl, refl, refl)))
     (router_step s laid stage.RouterSnat law.snat laid.tables.acl_out c lists zones next (stands_next s h stage.RouterSnat (stage_table stage.RouterSnat) h.at_port.passed) So
     (go_does s zones next So 64 (goes_so s piece lists lists (ComesAsItWas s copy) zones c.sight.packet last
-    (record { in_table = refl; packet = h.packet; passes = refl; regs = refl; hold = h.hold }) (λ rest choices ends. refl))))
+    (record { in_table = refl; packet = h.packet; whole = h.at_port.whole; passes = refl; regs = refl; hold = h.hold }) (λ rest choices ends. refl))))

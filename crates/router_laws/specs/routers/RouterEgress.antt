@@ -1,5 +1,6 @@
 -- The law of a router's egress pipeline.
 use Rattle.std.specs.Prelude.{◌≡◌, [], ◌∷◌}
+use Rattle.inet_packet.specs.Whole.{IsWhole}
 use Rattle.inet_packet.specs.declared.packet.Packet.{Packet}
 use Rattle.logical_flows.specs.Stages.{stage_table}
 use Rattle.logical_flows.specs.declared.stage.Stage.TheVariants as stage
@@ -18,6 +19,7 @@ use Rattle.router_laws.specs.routers.RouterStanding.{StandsInRouter}
 pub record ComesAsItWas (s : Chassis) (first : Carried) (lists : Lists) (p : Packet) (zones : ZoneLists) (copy : Carried) : Type 0 where
   pub in_table : copy.table ≡ OUTPUT_TABLE
   pub packet : copy.packet ≡ p
+  pub whole : IsWhole p
   pub passes : copy.passes ≡ first.passes
   pub regs : copy.regs ≡ first.regs
   pub hold : HoldLists s.number zones lists
