@@ -1,5 +1,5 @@
 -- Homes that change, one after the other.
-use Rattle.std.specs.Prelude.{◌≡◌, ◌≢◌, true, false, cond, List, ◌∷◌, Option, Some, None, map, refl}
+use Rattle.std.specs.Prelude.{◌≡◌, true, false, cond, List, ◌∷◌, Option, Some, None, map, refl}
 use mathlib.Core.Path.{sym, ap, subst, ◌∙◌}
 use mathlib.Core.Logic.{inl, inr}
 use Rattle.std.specs.BTreeMap.{is_at}

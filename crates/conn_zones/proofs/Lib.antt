@@ -6,6 +6,7 @@ pub mod PlaceLaws
 pub mod GivingLaws
 pub mod ZoneLists
 pub mod ZoneChanges
+pub mod NameMaps
 pub mod NamedLaws
 pub mod OneResult
 pub mod ForCallers

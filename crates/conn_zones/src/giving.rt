@@ -7,12 +7,12 @@ ghost use Rattle.conn_zones.specs.declared.numbers.TheConstants.{MAX_ZONE};
 ghost use Rattle.conn_zones.specs.Rezoning.{IsLeastFree};
 ghost use Rattle.conn_zones.specs.Giving.{put_place, numbers_in, numbers_of, IsGivenOne, AreGiven, HaveNumbers};
 
+use crate::name_map::NameMap;
 use crate::numbers::{ZoneNumbers, ZonePlace, ZoneUse};
 use ovn_base::list::List;
 use ovn_base::memory::NoMemory;
 use ovn_base::name::Name;
 use std::alloc::Global;
-use std::collections::BTreeMap;
 
 // Puts the number behind the others, if it is one of the chassis.
 fn push_number(taken: &mut List<u16>, place: &ZonePlace, chassis: &Name) -> Result<(), NoMemory>
@@ -28,12 +28,12 @@ fn push_number(taken: &mut List<u16>, place: &ZonePlace, chassis: &Name) -> Resu
 // Puts the numbers of the chassis behind the others.
 fn push_numbers(
     taken: &mut List<u16>,
-    places: &BTreeMap<Name, ZonePlace>,
+    places: &NameMap<ZonePlace>,
     chassis: &Name,
 ) -> Result<(), NoMemory>
-    ensures { OnOk result (taken.new ≡ taken.old ++ numbers_in places.now.entries chassis.now) }
+    ensures { OnOk result (taken.new ≡ taken.old ++ numbers_in places.now chassis.now) }
 {
-    'places: for (_, place) in places {
+    'places: for (_, place) in places.entries() {
         push_number(taken, place, chassis)?;
     }
     Ok(())

@@ -3,15 +3,15 @@ ghost use Rattle.std.specs.Prelude.{◌≡◌};
 ghost use Rattle.std.specs.Option.{option_copied};
 ghost use Rattle.ovn_base.specs.names.ByName.{at};
 
+use crate::name_map::NameMap;
 use ovn_base::name::Name;
-use std::collections::BTreeMap;
 use std::marker::Model;
 
 /// The chassis of virtual ports and of gateway routers.
 #[derive(Drop)]
 pub struct Homes {
-    pub(crate) ports: BTreeMap<Name, Name>,
-    pub(crate) routers: BTreeMap<Name, Name>,
+    pub(crate) ports: NameMap<Name>,
+    pub(crate) routers: NameMap<Name>,
 }
 
 impl Model for Homes {
@@ -19,7 +19,7 @@ impl Model for Homes {
 
     ghost Value = { KnownHomes };
 
-    ghost view = { λ h. record { ports = h.ports.entries; routers = h.routers.entries } };
+    ghost view = { λ h. record { ports = h.ports; routers = h.routers } };
 }
 
 impl Homes {

@@ -13,13 +13,12 @@ ghost use Rattle.conn_zones.specs.Giving.{place_at_home, comes_to, ArePlacesAfte
 
 use crate::change::HomeChange;
 use crate::homes::Homes;
-use crate::moving::{copy_of, names_ascend};
+use crate::name_map::NameMap;
 use crate::numbers::{ZoneNumbers, ZonePlace, ZoneUse};
 use ovn_base::list::List;
 use ovn_base::memory::NoMemory;
 use ovn_base::name::Name;
 use std::alloc::Global;
-use std::collections::BTreeMap;
 
 // Whether the home is this chassis.
 fn is_home_on(home: Option<&Name>, chassis: &Name) -> bool
@@ -32,8 +31,8 @@ fn is_home_on(home: Option<&Name>, chassis: &Name) -> bool
 }
 
 // Leaves who has the name its place only where it is at home.
-fn keep_one(places: &mut BTreeMap<Name, ZonePlace>, homes: &BTreeMap<Name, Name>, name: &Name)
-    ensures { (q : Name) → at places.new.entries q ≡ cond (is_at (slice_cmp nat_cmp name.now) q) (place_at_home (at homes.now.entries name.now) (at places.old.entries name.now)) (at places.old.entries q) }
+fn keep_one(places: &mut NameMap<ZonePlace>, homes: &NameMap<Name>, name: &Name)
+    ensures { (q : Name) → at places.new q ≡ cond (is_at (slice_cmp nat_cmp name.now) q) (place_at_home (at homes.now name.now) (at places.old name.now)) (at places.old q) }
 {
     let home = homes.get(name);
     match places.get(name) {
@@ -46,17 +45,17 @@ fn keep_one(places: &mut BTreeMap<Name, ZonePlace>, homes: &BTreeMap<Name, Name>
 
 // The places, of which those of the named are left only where they are at home.
 fn kept_places(
-    places: &BTreeMap<Name, ZonePlace>,
-    homes: &BTreeMap<Name, Name>,
+    places: &NameMap<ZonePlace>,
+    homes: &NameMap<Name>,
     change: &[(Name, Option<Name>)],
-) -> Result<BTreeMap<Name, ZonePlace>, NoMemory>
-    ensures { IfOk result (λ m. ArePlacesAfter homes.now.entries change.now places.now.entries m.entries) }
+) -> Result<NameMap<ZonePlace>, NoMemory>
+    ensures { IfOk result (λ m. ArePlacesAfter homes.now change.now places.now m) }
 {
-    let mut kept = copy_of(places)?;
+    let mut kept = places.copy()?;
     'change: for (name, _) in change {
         keep_one(&mut kept, homes, name);
     }
-    names_ascend(&kept);
+    let _in_order = kept.entries();
     Ok(kept)
 }
 
@@ -71,7 +70,7 @@ impl ZoneNumbers {
     ) -> Result<ZoneNumbers, NoMemory>
         ensures { IfOk result (λ n. (before : KnownHomes) → IsZoned (record { homes = before; numbers = self.now }) → IsRehomed before change.now after.now → AreKeptNumbers self.now change.now after.now n) }
     {
-        let nobody = BTreeMap::new(alloc);
+        let nobody = NameMap::new(alloc);
         let routers = change.routers.as_slice();
         Ok(ZoneNumbers {
             ports: kept_places(&self.ports, &after.ports, change.ports.as_slice())?,
@@ -86,10 +85,10 @@ fn zones_in(alloc: Global, homes: &Homes) -> Result<List<(ZoneUse, Name)>, NoMem
     ensures { IfOk result (λ l. l ≡ zones_in homes.now) }
 {
     let mut zones = List::new(alloc);
-    'ports: for (name, chassis) in &homes.ports {
+    'ports: for (name, chassis) in homes.ports.entries() {
         zones.push((ZoneUse::Port(*name), *chassis))?;
     }
-    'routers: for (name, chassis) in &homes.routers {
+    'routers: for (name, chassis) in homes.routers.entries() {
         zones.push((ZoneUse::Dnat(*name), *chassis))?;
         zones.push((ZoneUse::Snat(*name), *chassis))?;
     }
@@ -98,12 +97,12 @@ fn zones_in(alloc: Global, homes: &Homes) -> Result<List<(ZoneUse, Name)>, NoMem
 
 // Puts who has the name with its home, if it comes there.
 fn put_comer(
-    comers: &mut BTreeMap<Name, Name>,
-    before: &BTreeMap<Name, Name>,
+    comers: &mut NameMap<Name>,
+    before: &NameMap<Name>,
     name: &Name,
     home: &Option<Name>,
 ) -> Result<(), NoMemory>
-    ensures { OnOk result ((q : Name) → at comers.new.entries q ≡ cond (is_at (slice_cmp nat_cmp name.now) q) (option_or (comes_to (at before.now.entries name.now) (Some home.now)) (at comers.old.entries q)) (at comers.old.entries q)) }
+    ensures { OnOk result ((q : Name) → at comers.new q ≡ cond (is_at (slice_cmp nat_cmp name.now) q) (option_or (comes_to (at before.now name.now) (Some home.now)) (at comers.old q)) (at comers.old q)) }
 {
     match home {
         Some(chassis) if !is_home_on(before.get(name), chassis) => {
@@ -117,17 +116,17 @@ fn put_comer(
 // Those of the named who come to a chassis, each with it.
 fn comers(
     alloc: Global,
-    before: &BTreeMap<Name, Name>,
+    before: &NameMap<Name>,
     change: &[(Name, Option<Name>)],
-) -> Result<BTreeMap<Name, Name>, NoMemory>
+) -> Result<NameMap<Name>, NoMemory>
     requires { EachOnce (map (λ e. e.0) change.now) }
-    ensures { IfOk result (λ m. AreComers before.now.entries change.now m.entries) }
+    ensures { IfOk result (λ m. AreComers before.now change.now m) }
 {
-    let mut comers = BTreeMap::new(alloc);
+    let mut comers = NameMap::new(alloc);
     'change: for (name, home) in change {
         put_comer(&mut comers, before, name, home)?;
     }
-    names_ascend(&comers);
+    let _in_order = comers.entries();
     Ok(comers)
 }
 
@@ -141,7 +140,7 @@ pub(crate) fn coming(
     requires routers_once { EachOnce (map (λ e. e.0) change.now.routers) }
     ensures { IfOk result (λ l. (after : KnownHomes) → IsRehomed before.now change.now after → l ≡ coming before.now change.now after) }
 {
-    let nobody = BTreeMap::new(alloc);
+    let nobody = NameMap::new(alloc);
     let comers = Homes {
         ports: comers(alloc, &before.ports, change.ports.as_slice())?,
         routers: comers(alloc, &nobody, change.routers.as_slice())?,

@@ -7,5 +7,6 @@ pub mod homes;
 mod keeping;
 pub mod laws;
 mod moving;
+mod name_map;
 pub mod numbers;
 pub mod zones;

@@ -10,32 +10,13 @@ ghost use Rattle.ovn_base.specs.declared.name.Name.{Name};
 
 use crate::change::HomeChange;
 use crate::homes::Homes;
+use crate::name_map::NameMap;
 use ovn_base::memory::NoMemory;
 use ovn_base::name::Name;
-use std::collections::BTreeMap;
-
-// The names of a map are in order. It does nothing.
-pub(crate) fn names_ascend<V>(entries: &BTreeMap<Name, V>)
-    ensures { IsByName entries.now.entries }
-{
-    let _len = entries.len();
-}
-
-// The same entries in memory of their own.
-pub(crate) fn copy_of<V: Clone>(entries: &BTreeMap<Name, V>) -> Result<BTreeMap<Name, V>, NoMemory>
-    requires clones { (x y : V) → V.is_clone x y → y ≡ x }
-    ensures { IfOk result (λ m. m.entries ≡ entries.now.entries) }
-{
-    Ok(entries.clone()?)
-}
 
 // One has another home, or none.
-fn move_one(
-    homes: &mut BTreeMap<Name, Name>,
-    name: &Name,
-    home: &Option<Name>,
-) -> Result<(), NoMemory>
-    ensures { OnOk result ((q : Name) → at homes.new.entries q ≡ cond (is_at (slice_cmp nat_cmp name.now) q) home.now (at homes.old.entries q)) }
+fn move_one(homes: &mut NameMap<Name>, name: &Name, home: &Option<Name>) -> Result<(), NoMemory>
+    ensures { OnOk result ((q : Name) → at homes.new q ≡ cond (is_at (slice_cmp nat_cmp name.now) q) home.now (at homes.old q)) }
 {
     match home {
         Some(chassis) => {
@@ -50,18 +31,15 @@ fn move_one(
 }
 
 // The homes after the change.
-fn moved(
-    before: &BTreeMap<Name, Name>,
-    change: &[(Name, Option<Name>)],
-) -> Result<BTreeMap<Name, Name>, NoMemory>
+fn moved(before: &NameMap<Name>, change: &[(Name, Option<Name>)]) -> Result<NameMap<Name>, NoMemory>
     requires { EachOnce (map (λ e. e.0) change.now) }
-    ensures { IfOk result (λ m. AreHomesAfter before.now.entries change.now m.entries) }
+    ensures { IfOk result (λ m. AreHomesAfter before.now change.now m) }
 {
-    let mut homes = copy_of(before)?;
+    let mut homes = before.copy()?;
     'change: for (name, home) in change {
         move_one(&mut homes, name, home)?;
     }
-    names_ascend(&homes);
+    let _in_order = homes.entries();
     Ok(homes)
 }
 

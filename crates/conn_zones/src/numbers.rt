@@ -4,8 +4,8 @@ ghost use Rattle.std.specs.Option.{option_copied};
 ghost use Rattle.conn_zones.specs.Zoning.{number_at, number_on};
 ghost use Rattle.conn_zones.specs.declared.numbers.ZoneUse.TheVariants as uses;
 
+use crate::name_map::NameMap;
 use ovn_base::name::Name;
-use std::collections::BTreeMap;
 use std::marker::Model;
 
 /// The greatest number of a zone; the least is 1.
@@ -32,9 +32,9 @@ pub struct ZonePlace {
 /// The numbers of zones: each chassis has its own, from 1 to [`MAX_ZONE`].
 #[derive(Drop)]
 pub struct ZoneNumbers {
-    pub(crate) ports: BTreeMap<Name, ZonePlace>,
-    pub(crate) dnat: BTreeMap<Name, ZonePlace>,
-    pub(crate) snat: BTreeMap<Name, ZonePlace>,
+    pub(crate) ports: NameMap<ZonePlace>,
+    pub(crate) dnat: NameMap<ZonePlace>,
+    pub(crate) snat: NameMap<ZonePlace>,
 }
 
 impl Model for ZoneNumbers {
@@ -42,7 +42,7 @@ impl Model for ZoneNumbers {
 
     ghost Value = { GivenNumbers };
 
-    ghost view = { λ n. record { ports = n.ports.entries; dnat = n.dnat.entries; snat = n.snat.entries } };
+    ghost view = { λ n. record { ports = n.ports; dnat = n.dnat; snat = n.snat } };
 }
 
 // The number of a place on the chassis.

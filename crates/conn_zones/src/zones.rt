@@ -7,10 +7,10 @@ use crate::change::HomeChange;
 use crate::giving::give_each;
 use crate::homes::Homes;
 use crate::keeping::coming;
+use crate::name_map::NameMap;
 use crate::numbers::ZoneNumbers;
 use ovn_base::memory::NoMemory;
 use std::alloc::Global;
-use std::collections::BTreeMap;
 use std::marker::Model;
 
 /// Where virtual ports and gateway routers are at home, and the numbers of their connection lists there: one of each port, and one
@@ -72,13 +72,13 @@ impl ConnZones {
         Ok(ConnZones {
             alloc,
             homes: Homes {
-                ports: BTreeMap::new(alloc),
-                routers: BTreeMap::new(alloc),
+                ports: NameMap::new(alloc),
+                routers: NameMap::new(alloc),
             },
             numbers: ZoneNumbers {
-                ports: BTreeMap::new(alloc),
-                dnat: BTreeMap::new(alloc),
-                snat: BTreeMap::new(alloc),
+                ports: NameMap::new(alloc),
+                dnat: NameMap::new(alloc),
+                snat: NameMap::new(alloc),
             },
         })
     }

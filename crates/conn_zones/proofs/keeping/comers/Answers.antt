@@ -13,9 +13,9 @@ change-preserved c =
     let rest = drop (i + 1) c.args.change.now in
     let split = drop_more c.args.change.now i e c.change-test.true ∙ ap (λ (x : Name × Option Name). x ∷ rest) (sym c.change-item.is) in
     let once = subst (λ (l : List (Name × Option Name)). EachOnce (map (λ e. e.0) l)) split c.change.invariant.once in
-    let before = c.args.before.now.entries in
+    let before = c.args.before.now in
     record {
       once = once.1;
-      homes = λ q. next_comer before c.change.comers.entries c.put_comer.new.comers.entries e rest once c.in_ok-put_comer.ensures q
-          ∙ sym (ap (λ (l : List (Name × Option Name)). comer_at before l c.change.comers.entries q) split) ∙ c.change.invariant.homes q;
+      homes = λ q. next_comer before c.change.comers c.put_comer.new.comers e rest once c.in_ok-put_comer.ensures q
+          ∙ sym (ap (λ (l : List (Name × Option Name)). comer_at before l c.change.comers q) split) ∙ c.change.invariant.homes q;
     }

@@ -10,5 +10,5 @@ use Rattle.conn_zones.proofs.keeping.comers.Given as goal
 abbrev pub invariant-change : goal.invariant-change
 invariant-change l = record {
   once : EachOnce (map (λ e. e.0) (drop l.name-index l.change));
-  homes : (q : Name) → comer_at l.before.entries (drop l.name-index l.change) l.comers.entries q ≡ comes_to (at l.before.entries q) (at l.change q);
+  homes : (q : Name) → comer_at l.before (drop l.name-index l.change) l.comers q ≡ comes_to (at l.before q) (at l.change q);
 }

@@ -11,6 +11,6 @@ change-preserved c =
     let e : Name × Option Name = c.change-item.result in
     let rest = drop (i + 1) c.args.change.now in
     let split = drop_more c.args.change.now i e c.change-test.true ∙ ap (λ (x : Name × Option Name). x ∷ rest) (sym c.change-item.is) in
-    let homes = c.args.homes.now.entries in
-    λ q. next_place homes c.change.kept.entries c.keep_one.new.places.entries e rest c.keep_one.ensures q
-    ∙ sym (ap (λ (l : List (Name × Option Name)). place_left homes l c.change.kept.entries q) split) ∙ c.change.invariant q
+    let homes = c.args.homes.now in
+    λ q. next_place homes c.change.kept c.keep_one.new.places e rest c.keep_one.ensures q
+    ∙ sym (ap (λ (l : List (Name × Option Name)). place_left homes l c.change.kept q) split) ∙ c.change.invariant q

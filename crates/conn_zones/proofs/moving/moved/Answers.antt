@@ -15,9 +15,9 @@ change-preserved c =
     let rest = drop (i + 1) c.args.change.now in
     let split = drop_more c.args.change.now i e c.change-test.true ∙ ap (λ (x : Name × Option Name). x ∷ rest) (sym c.change-item.is) in
     let once = subst (λ (l : List (Name × Option Name)). EachOnce (map (λ e. e.0) l)) split c.change.invariant.once in
-    let homes = c.change.homes.entries in
+    let homes = c.change.homes in
     record {
       once = once.1;
-      homes = λ q. step homes c.move_one.new.homes.entries e rest once c.in_ok-move_one.ensures q
+      homes = λ q. step homes c.move_one.new.homes e rest once c.in_ok-move_one.ensures q
           ∙ sym (ap (λ (l : List (Name × Option Name)). unwrap_or (at l q) (at homes q)) split) ∙ c.change.invariant.homes q;
     }

@@ -9,5 +9,5 @@ use Rattle.conn_zones.proofs.moving.moved.Given as goal
 abbrev pub invariant-change : goal.invariant-change
 invariant-change l = record {
   once : EachOnce (map (λ e. e.0) (drop l.name-index l.change));
-  homes : (name : Name) → unwrap_or (at (drop l.name-index l.change) name) (at l.homes.entries name) ≡ unwrap_or (at l.change name) (at l.before.entries name);
+  homes : (name : Name) → unwrap_or (at (drop l.name-index l.change) name) (at l.homes name) ≡ unwrap_or (at l.change name) (at l.before name);
 }
