@@ -7,6 +7,5 @@ use Rattle.memory_tests.specs.Compiled.{IsCompiled}
 pub left_compiled : (net : Network) (old new : North) → IsLeft old new → IsCompiled net old → IsCompiled net new
 left_compiled net old new left compiled = record {
   valid = compiled.valid;
-  gate = compiled.gate;
   stands = left.stands net compiled.stands;
 }

@@ -1,5 +1,5 @@
--- Where there is no record, the records are valid and of switches.
-use Rattle.std.proofs.Common.{◌≡◌, [], refl, sym, subst, arith}
+-- Where there is no record, the records are valid.
+use Rattle.std.proofs.Common.{◌≡◌, [], sym, subst, arith}
 use Rattle.std.specs.List.Sorted.{IsStrictlySortedBy}
 use Rattle.nb_records.specs.Network.{Network, empty_network}
 use Rattle.nb_rules.proofs.Validity.{unbroken}
@@ -27,6 +27,5 @@ no_record net none = subst IsValid (sym none) valid_empty
 pub nothing_compiled : (net : Network) (north : North) → net ≡ empty_network → StandsFor empty_network north → IsCompiled net north
 nothing_compiled net north none stands = subst (λ (n : Network). IsCompiled n north) (sym none) (record {
   valid = valid_empty;
-  gate = record { routers = refl; router_ports = refl; routes = refl; nats = refl; balancers = refl };
   stands = stands;
 })

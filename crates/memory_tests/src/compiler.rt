@@ -1,7 +1,5 @@
-//! Records and their logical flows, which take every edit of switches and rules. So no test has to prove that its edits fit.
-ghost use Rattle.std.specs.Prelude.{IsTrue};
+//! Records and their logical flows, which take every edit. So no test has to prove that its edits fit.
 ghost use Rattle.nb_rules.specs.Valid.{IsValid};
-ghost use Rattle.northd_core.specs.Gate.{IsOfSwitches};
 ghost use Rattle.memory_tests.specs.Compiled.{IsCompiled};
 
 use crate::edits::planned;
@@ -67,17 +65,6 @@ fn lines(alloc: Global, pairs: &[(LFlow, Name)]) -> Result<List<Bytes>, NoMemory
     Ok(lines)
 }
 
-// Whether there is nothing of routers, and no balancer.
-fn is_of_switches(records: &Records) -> bool
-    ensures { IsTrue result → IsOfSwitches records.now }
-{
-    records.routers().is_empty()
-        && records.router_ports().is_empty()
-        && records.routes().is_empty()
-        && records.nats().is_empty()
-        && records.load_balancers().is_empty()
-}
-
 // Makes an edit that was planned on the records.
 fn follow(
     alloc: Global,
@@ -89,9 +76,6 @@ fn follow(
     requires valid { IsValid plan.after }
     ensures { IsCompiled records.new north.new }
 {
-    if !is_of_switches(plan.after()) {
-        return Err(NoMemory);
-    }
     let mut steps: Steps<Compiling> = Steps::new();
     let change = north.prepare(records, &plan, &mut steps)?;
     let come = lines(alloc, change.come())?;

@@ -97,3 +97,36 @@ fn two_switches_have_the_same_flows(rt: HostRuntime) -> Result<(), Fail> {
     assert_eq!(rt; (turn.flows_come, turn.flows_gone), (0, 0));
     Ok(())
 }
+
+// Beside its port a router has 16 rows; the port has two of admission, one of ARP, one that answers echo requests, one that drops what is for
+// the router and one of its network; it reaches both ports of the switch; and the port to the router has two of look-up.
+#[test]
+fn a_router_comes(rt: HostRuntime) -> Result<(), Fail> {
+    let turn = second(
+        rt.alloc(),
+        r#"{"edit":[{"add":"router","name":"r0"},{"add":"router_port","name":"r0s","router":"r0","mac":"0a:00:00:00:00:fe","networks":["10.0.0.254/24"]},{"add":"switch_port","name":"s0r","switch":"s0","type":"router","router_port":"r0s","addresses":["router"]}]}"#,
+    )?;
+    let come = [
+        "ingress r_route priority=149 rank=0 datapaths=r0 match=ip4.dst == 10.0.0.0/24 actions=dec_ttl;next_dst;set out=r0s;eth_src 0a:00:00:00:00:fe;set loopback=1;go 14\n",
+        "ingress r_neighbour priority=100 rank=0 datapaths=r0 match=next == 167772161 && outport == \"r0s\" actions=eth_dst 0a:00:00:00:00:01;go 32\n",
+        "ingress r_neighbour priority=100 rank=0 datapaths=r0 match=next == 167772162 && outport == \"r0s\" actions=eth_dst 0a:00:00:00:00:02;go 32\n",
+        "ingress s_lookup priority=50 rank=0 datapaths=s0 match=eth.dst == 0a:00:00:00:00:fe actions=set out=s0r;go 32\n",
+    ];
+    assert!(rt; turn.come.len() == 26 && have(turn.come.as_slice(), &come));
+    assert!(rt; turn.gone.is_empty());
+    Ok(())
+}
+
+// With a balancer its switch tracks connections: each port has a row more on the way in and on the way out.
+#[test]
+fn a_balancer_comes(rt: HostRuntime) -> Result<(), Fail> {
+    let turn = second(
+        rt.alloc(),
+        r#"{"edit":[{"add":"load_balancer","name":"b","vips":{"10.0.0.100:80":"10.0.0.2:8080"},"switches":["s0"]}]}"#,
+    )?;
+    let come =
+        "ingress s_state_in priority=55 rank=0 datapaths=s0 match=state == 1 && tracked == 1 && tcp && ip4.dst == 10.0.0.100 && tcp.dst == 80 actions=balance in 10.0.0.100:80 [10.0.0.2:8080];go 13\n";
+    assert!(rt; turn.come.len() == 5 && has(turn.come.as_slice(), come));
+    assert!(rt; turn.gone.is_empty());
+    Ok(())
+}

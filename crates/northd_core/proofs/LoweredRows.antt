@@ -63,11 +63,11 @@ module _ (l : Lowering) where
   module _ (can : CanCompile l) where
     -- a row of a unit is a pair with the unit's datapath
     pub is_pair : (u : UnitId) (row : LFlow) (d : Name) → Among row (rows_of l.net u) → datapath_of l.net u ≡ Some d → IsPair l.net row d
-    is_pair u row d m on = record { origin = u; there = (with_rows l.net can.valid can.gate u row m).there; among = m; on = on }
+    is_pair u row d m on = record { origin = u; there = (with_rows l.net can.valid u row m).there; among = m; on = on }
 
     -- what has flows is a unit of the network
     pub with_flows : (u : UnitId) (f : Flow) → Among f (lowered_of l u) → Among u (units_of l.net)
-    with_flows u f m = let r = of_row u f m in (with_rows l.net can.valid can.gate u r.0 r.2).there
+    with_flows u f m = let r = of_row u f m in (with_rows l.net can.valid u r.0 r.2).there
 
     pub lowered_in : (u : UnitId) (f : Flow) → Among f (lowered_of l u) → IsLoweredIn l f
     lowered_in u f m = let r = of_row u f m in record { row = r.0; datapath = r.1; pair = is_pair u r.0 r.1 r.2 r.3; among = r.4 }

@@ -16,7 +16,6 @@ use Rattle.logical_flows.specs.declared.flow.LFlow.{LFlow}
 use Rattle.logical_flows.specs.declared.unit.UnitId.{UnitId}
 use Rattle.logical_flows.specs.declared.unit.UnitId.TheVariants as unit
 use Rattle.stage_rows.specs.Units.{rows_of, pairs_of_unit, units_of, IsLogicalFlow}
-use Rattle.northd_core.specs.Gate.{IsOfSwitches}
 use Rattle.northd_core.specs.Held.{North, HaveSame, StandsFor, same_flow, same_pair, unit_order}
 use Rattle.northd_core.specs.Listing.{HaveJoined, with_each}
 use Rattle.northd_core.specs.Plans.{Planned, IsReady, IsNorthPlan, IsLeft, IsPairOf, AreListed}
@@ -100,29 +99,29 @@ is_left exact_flow exact_pair old new kept kept_too stays stays_too shown shown_
   pairs_shown = shown_too;
 }
 
-module _ (before after : Network) (valid : IsValid before) (next_valid : IsValid after) (gate : IsOfSwitches before) (next_gate : IsOfSwitches after)
+module _ (before after : Network) (valid : IsValid before) (next_valid : IsValid after)
     (exact_flow : (f g : LFlow) → (same_flow f g ≡ true) ↔ (f ≡ g)) (exact_pair : (p q : LFlow × Name) → (same_pair p q ≡ true) ↔ (p ≡ q))
     (exact_unit : (u v : UnitId) → (is_at (unit_order u) v ≡ true) ↔ (u ≡ v)) where
   flows_was : (f : LFlow) → ((u : UnitId) × Among f (rows_of before u)) ↔ IsLogicalFlow before f
-  flows_was f = (λ s. flow_of before valid gate s.0 f s.1, λ h. of_flow before valid gate f h)
+  flows_was f = (λ s. flow_of before valid s.0 f s.1, λ h. of_flow before valid f h)
 
   flows_is : (f : LFlow) → ((u : UnitId) × Among f (rows_of after u)) ↔ IsLogicalFlow after f
-  flows_is f = (λ s. flow_of after next_valid next_gate s.0 f s.1, λ h. of_flow after next_valid next_gate f h)
+  flows_is f = (λ s. flow_of after next_valid s.0 f s.1, λ h. of_flow after next_valid f h)
 
   pairs_was : (p : LFlow × Name) → ((u : UnitId) × Among p (pairs_of_unit before u)) ↔ IsPairOf before p
-  pairs_was p = (λ s. pair_of before valid gate s.0 p s.1, λ h. of_pair before valid gate p h)
+  pairs_was p = (λ s. pair_of before valid s.0 p s.1, λ h. of_pair before valid p h)
 
   pairs_is : (p : LFlow × Name) → ((u : UnitId) × Among p (pairs_of_unit after u)) ↔ IsPairOf after p
-  pairs_is p = (λ s. pair_of after next_valid next_gate s.0 p s.1, λ h. of_pair after next_valid next_gate p h)
+  pairs_is p = (λ s. pair_of after next_valid s.0 p s.1, λ h. of_pair after next_valid p h)
 
   module _ (first between units : List UnitId) (one : HaveJoined (units_of before) first between) (two : HaveJoined (units_of after) between units) where
     with_rows_there : (u : UnitId) (f : LFlow) → (Among f (rows_of before u) ⊎ Among f (rows_of after u)) → Among u units
-    with_rows_there u f (inl m) = (two u).1 (inl ((one u).1 (inr (with_rows before valid gate u f m).there)))
-    with_rows_there u f (inr m) = (two u).1 (inr (with_rows after next_valid next_gate u f m).there)
+    with_rows_there u f (inl m) = (two u).1 (inl ((one u).1 (inr (with_rows before valid u f m).there)))
+    with_rows_there u f (inr m) = (two u).1 (inr (with_rows after next_valid u f m).there)
 
     with_pairs_there : (u : UnitId) (p : LFlow × Name) → (Among p (pairs_of_unit before u) ⊎ Among p (pairs_of_unit after u)) → Among u units
-    with_pairs_there u p (inl m) = with_rows_there u p.0 (inl (paired_row before valid gate u p m).2)
-    with_pairs_there u p (inr m) = with_rows_there u p.0 (inr (paired_row after next_valid next_gate u p m).2)
+    with_pairs_there u p (inl m) = with_rows_there u p.0 (inl (paired_row before valid u p m).2)
+    with_pairs_there u p (inr m) = with_rows_there u p.0 (inr (paired_row after next_valid u p m).2)
 
     pub is_plan : (old new : North) (plan : Planned) (rows : List (UnitId × List LFlow)) (pairs : List (UnitId × List (LFlow × Name)))
         → rows ≡ with_each (rows_of after) units → pairs ≡ with_each (pairs_of_unit after) units
@@ -145,11 +144,11 @@ module _ (before after : Network) (valid : IsValid before) (next_valid : IsValid
 
 -- ---- what is listed
 
-module _ (net : Network) (valid : IsValid net) (gate : IsOfSwitches net) where
+module _ (net : Network) (valid : IsValid net) where
   pub flows_listed : ((f g : LFlow) → (same_flow f g ≡ true) ↔ (f ≡ g)) → (origins : List (UnitId × List LFlow)) (keys : List LFlow) → HaveSame (flows_of unit_order origins) (rows_of net)
       → IsDistinct same_flow keys → ((f : LFlow) → (is_member same_flow keys f ≡ true) ↔ IsHeld same_flow (flows_of unit_order origins) f) → AreListed (IsLogicalFlow net) keys
-  flows_listed exact origins keys have = stores.listed same_flow exact (rows_of net) (flows_of unit_order origins) (IsLogicalFlow net) keys have (λ f. (λ s. flow_of net valid gate s.0 f s.1, λ h. of_flow net valid gate f h))
+  flows_listed exact origins keys have = stores.listed same_flow exact (rows_of net) (flows_of unit_order origins) (IsLogicalFlow net) keys have (λ f. (λ s. flow_of net valid s.0 f s.1, λ h. of_flow net valid f h))
 
   pub pairs_listed : ((p q : LFlow × Name) → (same_pair p q ≡ true) ↔ (p ≡ q)) → (origins : List (UnitId × List (LFlow × Name))) (keys : List (LFlow × Name)) → HaveSame (flows_of unit_order origins) (pairs_of_unit net)
       → IsDistinct same_pair keys → ((p : LFlow × Name) → (is_member same_pair keys p ≡ true) ↔ IsHeld same_pair (flows_of unit_order origins) p) → AreListed (IsPairOf net) keys
-  pairs_listed exact origins keys have = stores.listed same_pair exact (pairs_of_unit net) (flows_of unit_order origins) (IsPairOf net) keys have (λ p. (λ s. pair_of net valid gate s.0 p s.1, λ h. of_pair net valid gate p h))
+  pairs_listed exact origins keys have = stores.listed same_pair exact (pairs_of_unit net) (flows_of unit_order origins) (IsPairOf net) keys have (λ p. (λ s. pair_of net valid s.0 p s.1, λ h. of_pair net valid p h))

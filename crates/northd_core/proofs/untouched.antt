@@ -3,6 +3,7 @@ pub mod KnownNames
 pub mod KnownTerms
 pub mod KnownRows
 pub mod KnownPorts
+pub mod KnownRouters
 pub mod KnownSwitches
 pub mod SameFlows
 pub mod SameRules

@@ -1,5 +1,6 @@
 -- Definitions that contracts cite.
-pub mod Gate
+pub mod RulesOn
+pub mod Routed
 pub mod Listing
 pub mod Held
 pub mod Plans

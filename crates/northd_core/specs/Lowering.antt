@@ -28,7 +28,6 @@ use Rattle.stage_rows.specs.Units.{datapath_of, rows_of}
 use Rattle.flow_lowering.specs.LoweredFlows.{NamesLivePort, lowered_flows}
 use Rattle.row_laws.specs.BestRow.{IsLoweredRow}
 use Rattle.row_laws.specs.Numbers.{AreSameMembers}
-use Rattle.northd_core.specs.Gate.{IsOfSwitches}
 use Rattle.northd_core.specs.Held.{HaveSame, unit_order}
 use Rattle.northd_core.specs.Plans.{IsChange}
 
@@ -39,10 +38,9 @@ pub record Lowering : Type 0 where
   pub net : Network
   pub keys : Keys
 
--- the records can be compiled with the keys: they are valid, of switches alone, and who has a key by them has a live one
+-- the records can be compiled with the keys: they are valid, and who has a key by them has a live one
 pub record CanCompile (l : Lowering) : Type 0 where
   pub valid : IsValid l.net
-  pub gate : IsOfSwitches l.net
   pub hold : IsKeys l.keys
   pub live : (owner : KeyOwner) → Among owner (owners_of l.net) → IsLive l.keys owner
 

@@ -13,11 +13,13 @@ use Rattle.stage_rows.specs.Units.{datapath_of}
 use Rattle.flow_lowering.specs.LoweredFlows.{live_datapath_key}
 use Rattle.northd_core.specs.Lowering.{Lowering, CanCompile, lowered_of}
 
--- the keys of the ports and the members of the sets that its matches and actions name are the same: a port's rows name it alone, a switch's none, and a rule's any on its
--- datapath; and a switch is there in both records or in neither, of which no fact that it reads tells
+-- the keys of the ports and the members of the sets that its matches and actions name are the same: a port's rows name it alone, those of what a router's port reaches that port, a
+-- rule's any on its datapath, a route's one of its router, and all others none; and a switch is there in both records or in neither, of which no fact that it reads tells
 abbrev pub AgreeOnNames : Lowering → Lowering → UnitId → Type 0
 AgreeOnNames before after (unit.Port q) = at before.keys.ports q ≡ at after.keys.ports q
 AgreeOnNames before after (unit.Rule r d) = (ports_on before.keys.ports d ≡ ports_on after.keys.ports d) × (sets_of before.net ≡ sets_of after.net)
+AgreeOnNames before after (unit.Route r) = (q : Name) → at before.keys.ports q ≡ at after.keys.ports q
+AgreeOnNames before after (unit.Neighbour port ip) = at before.keys.ports port ≡ at after.keys.ports port
 AgreeOnNames before after (unit.Switch d) = is_there before.net kind.Switch d ≡ is_there after.net kind.Switch d
 AgreeOnNames before after other = Unit {0}
 

@@ -3,7 +3,6 @@ ghost use Rattle.std.specs.Prelude.{◌≡◌, IfOk, List};
 ghost use Rattle.std.specs.List.Sorted.{IsStrictlySortedBy};
 ghost use Rattle.nb_rules.specs.Valid.{IsValid};
 ghost use Rattle.stage_rows.specs.Units.{pairs_of_unit, rows_of};
-ghost use Rattle.northd_core.specs.Gate.{IsOfSwitches};
 ghost use Rattle.northd_core.specs.Held.{unit_order};
 ghost use Rattle.northd_core.specs.Listing.{HasCountedOn, with_each};
 
@@ -34,7 +33,6 @@ pub fn list_units<L>(
     steps: &mut Steps<L>,
 ) -> Result<Listed, NoMemory>
     requires valid { IsValid records.now }
-    requires gate { IsOfSwitches records.now }
     ensures order { IfOk result (λ _. IsStrictlySortedBy unit_order units.now.keys) }
     ensures steps { HasCountedOn steps.old steps.new }
     ensures flows { IfOk result (λ l. l.flows ≡ with_each (rows_of records.now) units.now.keys) }

@@ -4,7 +4,6 @@ ghost use Rattle.std.specs.Map.{keys_of};
 ghost use Rattle.std.specs.Option.{option_copied};
 ghost use Rattle.nb_records.specs.Network.{Network, empty_network};
 ghost use Rattle.nb_rules.specs.Valid.{IsValid};
-ghost use Rattle.northd_core.specs.Gate.{IsOfSwitches};
 ghost use Rattle.northd_core.specs.Held.{StandsFor};
 ghost use Rattle.northd_core.specs.Listing.{HasCountedOn};
 ghost use Rattle.northd_core.specs.Plans.{IsLeft, IsNorthPlan, IsReady, AreListed, IsPairOf};
@@ -107,8 +106,6 @@ impl Northd {
     ) -> Result<NorthPlan, NoMemory>
         requires before { IsValid records.now }
         requires after { IsValid plan.now.after }
-        requires gate_before { IsOfSwitches records.now }
-        requires gate_after { IsOfSwitches plan.now.after }
         requires stands { StandsFor records.now self.old }
         ensures left { IsLeft self.old self.new }
         ensures steps { HasCountedOn steps.old steps.new }
@@ -122,8 +119,8 @@ impl Northd {
         exact_unit_clone();
         let alloc = self.alloc;
         let mut units = BTreeSet::new(alloc);
-        put_units(records, &mut units)?;
-        put_units(plan.after(), &mut units)?;
+        put_units(alloc, records, &mut units)?;
+        put_units(alloc, plan.after(), &mut units)?;
         let Listed { flows, pairs } = list_units(alloc, plan.after(), &units, steps)?;
         let flows = self.flows.prepare(flows)?;
         let pairs = self.pairs.prepare(pairs)?;
@@ -144,7 +141,7 @@ impl Northd {
     /// The held flow at the index, counted from 0; `None` past the last.
     pub fn flow(&self, index: usize) -> Option<&LFlow>
         ensures flow { option_copied result ≡ slice_get (keys_of self.now.flows.counts) index }
-        ensures each { (net : Network) → IsValid net → IsOfSwitches net → StandsFor net self.now → AreListed (IsLogicalFlow net) (keys_of self.now.flows.counts) }
+        ensures each { (net : Network) → IsValid net → StandsFor net self.now → AreListed (IsLogicalFlow net) (keys_of self.now.flows.counts) }
     {
         exact_flow();
         self.flows.flow(index)
@@ -153,7 +150,7 @@ impl Northd {
     /// The held pair at the index, counted from 0; `None` past the last.
     pub fn pair(&self, index: usize) -> Option<(&LFlow, &Name)>
         ensures pair { option_map (λ p. (p.0.now, p.1.now)) result ≡ slice_get (keys_of self.now.pairs.counts) index }
-        ensures each { (net : Network) → IsValid net → IsOfSwitches net → StandsFor net self.now → AreListed (IsPairOf net) (keys_of self.now.pairs.counts) }
+        ensures each { (net : Network) → IsValid net → StandsFor net self.now → AreListed (IsPairOf net) (keys_of self.now.pairs.counts) }
     {
         exact_pairs();
         let (flow, datapath) = self.pairs.flow(index)?;

@@ -5,9 +5,9 @@ ghost use Rattle.logical_flows.specs.declared.unit.UnitId.{UnitId};
 ghost use Rattle.logical_flows.specs.declared.unit.UnitId.TheVariants.{Port, Switch};
 ghost use Rattle.ovn_base.specs.lists.Among.{Among};
 ghost use Rattle.stage_rows.specs.Units.{rule_units, units_of_rule, units_of};
-ghost use Rattle.northd_core.specs.Gate.{IsOfSwitches};
 ghost use Rattle.northd_core.specs.Listing.{HaveJoined};
 
+use crate::routed::put_routed;
 use logical_flows::exact::exact_unit_order;
 use logical_flows::unit::UnitId;
 use nb_records::records::Records;
@@ -72,13 +72,17 @@ fn put_rules(records: &Records, units: &mut BTreeSet<UnitId>) -> Result<(), NoMe
 }
 
 /// Puts the units of the records among the units.
-pub fn put_units(records: &Records, units: &mut BTreeSet<UnitId>) -> Result<(), NoMemory>
-    requires { IsOfSwitches records.now }
+pub fn put_units(
+    alloc: Global,
+    records: &Records,
+    units: &mut BTreeSet<UnitId>,
+) -> Result<(), NoMemory>
     ensures { OnOk result (HaveJoined (units_of records.now) units.old.keys units.new.keys) }
 {
     put_ports(records, units)?;
     put_rules(records, units)?;
     put_switches(records, units)?;
+    put_routed(alloc, records, units)?;
     Ok(())
 }
 

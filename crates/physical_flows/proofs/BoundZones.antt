@@ -2,16 +2,14 @@
 use Rattle.std.specs.Prelude.{◌≡◌, ◌≤◌, ◌<◌, ◌^◌, ℕ, Option, Some, None, unwrap_or, refl}
 use Rattle.std.proofs.Common.{arith}
 use Rattle.ovn_base.specs.declared.name.Name.{Name}
-use Rattle.conn_zones.specs.Zoning.{Zoned, number_on}
+use Rattle.conn_zones.specs.Zoning.{Zoned, IsZoned, number_on}
 use Rattle.conn_zones.specs.declared.numbers.ZoneUse.{ZoneUse}
 use Rattle.conn_zones.specs.declared.numbers.ZoneUse.TheVariants.{Port}
-use Rattle.net_model.specs.Config.{Config}
-use Rattle.physical_flows.specs.Bindings.{AreBound}
 
-module _ (config : Config) (zones : Zoned) (bound : AreBound config zones) (c : Name) where
+module _ (zones : Zoned) (zoned : IsZoned zones) (c : Name) where
   -- the number of a zone fits into a register
   pub number_fits : (z : ZoneUse) (zone : ℕ) → number_on zones.numbers c z ≡ Some zone → zone < 2 ^ 16
-  number_fits z zone is = let most : zone ≤ 65535 = (bound.zoned.in_range c z zone is).1 in omega (arith, most)
+  number_fits z zone is = let most : zone ≤ 65535 = (zoned.in_range c z zone is).1 in omega (arith, most)
 
   -- so does 0, where there is none
   pub number_or_none_fits : (z : ZoneUse) → unwrap_or (number_on zones.numbers c z) 0 < 2 ^ 16

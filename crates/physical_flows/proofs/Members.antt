@@ -1,5 +1,5 @@
 -- The members of a group, found by the keys of the switch's ports.
-use Rattle.std.specs.Prelude.{◌≡◌, ℕ, Bool, true, false, ◌&&◌, ◌||◌, not, cond, List, [], ◌∷◌, ◌++◌, map, filter, Option, Some, None, unwrap_or, refl}
+use Rattle.std.specs.Prelude.{◌≡◌, ℕ, Bool, true, false, ◌&&◌, ◌||◌, not, cond, List, [], ◌∷◌, ◌++◌, map, filter, filter_map, Option, Some, None, unwrap_or, refl}
 use Rattle.std.specs.List.{list_any, cons_option}
 use Rattle.std.specs.List.Sorted.{IsStrictlySortedBy}
 use Rattle.std.specs.Map.{keys_of, values_of}
@@ -20,6 +20,7 @@ use Rattle.ovn_base.specs.declared.name.Name.{Name}
 use Rattle.ovn_base.proofs.AmongLaws.{among_cases, among_none, among_all, among_filter, filter_among, among_map, map_among}
 use Rattle.ovn_base.proofs.ByNameLaws.{below_apart, among_at, at_among}
 use Rattle.flow_table.specs.declared.flow.Flow.{Flow}
+use Rattle.flow_table.specs.declared.flow.Member.{Member}
 use Rattle.nb_records.specs.declared.switch.SwitchPort.{SwitchPort}
 use Rattle.tunnel_keys.specs.Keys.{ports_on}
 use Rattle.tunnel_keys.specs.declared.owner.PortKey.{PortKey}
@@ -32,9 +33,35 @@ use Rattle.physical_flows.specs.Numbers.{port_number}
 use Rattle.physical_flows.specs.RecordKeys.{HaveKeys}
 use Rattle.physical_flows.specs.Homes.{is_reached_at, ArePortsNamed}
 use Rattle.physical_flows.specs.Stages.{Basis, config_of, zone_of, member_of, members_here, homes_of}
-use Rattle.physical_flows.specs.TableList.{group_rows, is_group_member, is_record_in, group_among, home_named, here_among, one_home, bound_among, others_among, rows_among}
+use Rattle.physical_flows.specs.TableList.{group_rows, is_group_member, one_home, others_among}
 use Rattle.physical_flows.specs.Units.{rows_of_group}
 use Rattle.physical_flows.proofs.GroupMembers.{of_group, entries_in, members_entries, entry_on}
+
+-- ---- groups, among ports of a switch with their keys
+
+-- the record is one of the group
+abbrev pub is_record_in : Group → Option SwitchPort → Bool
+is_record_in group None = false
+is_record_in group (Some port) = is_group_member group port
+
+abbrev pub group_among : Basis → Group → List (Name × ℕ) → List (Name × ℕ)
+group_among b group ports = filter (λ e. is_record_in group (at b.net.switch_ports e.0)) ports
+
+-- the home of the port of that name
+abbrev pub home_named : Basis → Name → Home
+home_named b q = home_if (home_of (config_of b)) (at b.net.switch_ports q)
+
+-- those that are reached on this chassis, as its flows know them
+abbrev pub here_among : Basis → Bool → List (Name × ℕ) → List Member
+here_among b arrived ports = map (λ e. record { key = e.1; zone = unwrap_or (zone_of b e.0) 0 }) (filter (λ e. is_reached_at arrived b.chassis (home_named b e.0)) ports)
+
+-- the chassis on which they are at home
+abbrev pub bound_among : Basis → List (Name × ℕ) → List Name
+bound_among b ports = filter_map (λ e. one_home (home_named b e.0)) ports
+
+-- the rows of a group that has these members
+abbrev pub rows_among : Basis → ℕ → Group → List (Name × ℕ) → List Flow
+rows_among b dp group members = group_rows dp group (others_among b (bound_among b members)) (here_among b false members) (here_among b true members)
 
 -- ---- names in order
 

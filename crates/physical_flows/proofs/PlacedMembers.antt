@@ -15,7 +15,8 @@ use Rattle.physical_flows.specs.Homes.{is_reached_at}
 use Rattle.physical_flows.specs.declared.place.Placed.{Placed}
 use Rattle.physical_flows.specs.PlacedList.{zone_here, placed_port, placed_among, is_in, is_reached_by, is_reached_in, placed_homes, placed_members, rows_placed}
 use Rattle.physical_flows.specs.Stages.{Basis, config_of, zone_of}
-use Rattle.physical_flows.specs.TableList.{group_rows, is_group_member, is_record_in, group_among, home_named, here_among, one_home, bound_among, others_among, rows_among}
+use Rattle.physical_flows.specs.TableList.{group_rows, is_group_member, one_home, others_among}
+use Rattle.physical_flows.proofs.Members.{is_record_in, group_among, home_named, here_among, bound_among, rows_among}
 
 -- where what came out of a tunnel is reached, what enters there is
 reached_here : (arrived : Bool) (c : Name) (h : Home) → is_reached_at arrived c h ≡ true → is_reached_at false c h ≡ true

@@ -11,7 +11,7 @@ use Rattle.inet_packet.specs.declared.regs.Reg.TheVariants.{Dp, InPort, ZIn, ZOu
 use Rattle.flow_table.specs.declared.flow.Flow.{Flow}
 use Rattle.flow_table.specs.declared.flow.FlowOp.TheVariants.{Frame, Go}
 use Rattle.switch_engine.specs.Proper.{width, CanBeSet, CanPatch, Rises, IsProperFlow}
-use Rattle.conn_zones.specs.Zoning.{Zoned}
+use Rattle.conn_zones.specs.Zoning.{Zoned, IsZoned}
 use Rattle.conn_zones.specs.declared.numbers.ZoneUse.TheVariants.{Dnat, Snat}
 use Rattle.nb_records.specs.Routers.{Partner, switch_side, router_side}
 use Rattle.nb_records.specs.declared.switch.SwitchPort.{SwitchPort}
@@ -21,7 +21,6 @@ use Rattle.physical_flows.specs.Around.{AroundFlow}
 use Rattle.physical_flows.specs.AroundLaws.{AroundProperLaw}
 use Rattle.physical_flows.specs.Numbers.{datapath_number, port_number}
 use Rattle.physical_flows.specs.RecordKeys.{HaveKeys}
-use Rattle.physical_flows.specs.Bindings.{AreBound}
 use Rattle.physical_flows.specs.ChassisFlows.{basis_at}
 use Rattle.physical_flows.specs.Stages.{Basis, IsDatapath, IsPort, IsHere, beyond, members_here, homes_of, EntryRow, RemoteRow, HomeRow, ReturnRow, OutputRow}
 use Rattle.physical_flows.proofs.BoundZones.{zone_fits, number_or_none_fits}
@@ -38,8 +37,8 @@ module _ (m : state.State) (zones : Zoned) (c : Name) where
   pub port_in_range : HaveKeys m.config.net m.keys → (q : Name) (port : SwitchPort) (dp key : ℕ) → IsPort (basis_at m zones.numbers c) q port dp key → key < 2 ^ 15
   port_in_range keys q port dp key of = subst (λ n. n < 2 ^ 15) of.number (port_fits m.config.net m.keys keys q of.live of.has).1
 
-  pub zone_in_range : AreBound m.config zones → (q : Name) (zone : ℕ) → IsHere (basis_at m zones.numbers c) q zone → zone < 2 ^ 16
-  zone_in_range bound q zone home = zone_fits m.config zones bound c q zone home.zoned
+  pub zone_in_range : IsZoned zones → (q : Name) (zone : ℕ) → IsHere (basis_at m zones.numbers c) q zone → zone < 2 ^ 16
+  zone_in_range zoned q zone home = zone_fits zones zoned c q zone home.zoned
 
   -- and 0, where there is no key
   datapath_or_none : HaveKeys m.config.net m.keys → (a : Name) → unwrap_or (datapath_number m.keys a) 0 < 2 ^ 24
@@ -56,19 +55,19 @@ module _ (m : state.State) (zones : Zoned) (c : Name) where
       by None is = omega arith
       by (Some k) is = (port_fits m.config.net m.keys keys q k is).1
 
-  can_patch : HaveKeys m.config.net m.keys → AreBound m.config zones → (partner : Partner)
+  can_patch : HaveKeys m.config.net m.keys → IsZoned zones → (partner : Partner)
       → CanPatch (beyond (basis_at m zones.numbers c) partner).dp (beyond (basis_at m zones.numbers c) partner).in_port (beyond (basis_at m zones.numbers c) partner).z_dnat (beyond (basis_at m zones.numbers c) partner).z_snat
-  can_patch keys bound (switch_side q) = record {
+  can_patch keys zoned (switch_side q) = record {
     dp_within = datapath_or_none keys q.switch;
     in_port_within = port_or_none keys q.name;
     z_dnat_within = omega arith;
     z_snat_within = omega arith;
   }
-  can_patch keys bound (router_side r) = record {
+  can_patch keys zoned (router_side r) = record {
     dp_within = datapath_or_none keys r.router;
     in_port_within = port_or_none keys r.name;
-    z_dnat_within = number_or_none_fits m.config zones bound c (Dnat r.router);
-    z_snat_within = number_or_none_fits m.config zones bound c (Snat r.router);
+    z_dnat_within = number_or_none_fits zones zoned c (Dnat r.router);
+    z_snat_within = number_or_none_fits zones zoned c (Snat r.router);
   }
 
 -- ---- registers that can be set
@@ -94,14 +93,14 @@ spread_rises : (homes : List Name) → AllByRecursion (Rises 32) (map (λ home. 
 spread_rises [] = (omega arith, tt)
 spread_rises (home ∷ homes) = (tt, spread_rises homes)
 
-module _ (m : state.State) (zones : Zoned) (c : Name) (keys : HaveKeys m.config.net m.keys) (bound : AreBound m.config zones) (f : Flow) where
+module _ (m : state.State) (zones : Zoned) (c : Name) (keys : HaveKeys m.config.net m.keys) (zoned : IsZoned zones) (f : Flow) where
   abbrev b : Basis
   b = basis_at m zones.numbers c
 
   entry_proper : EntryRow b f → IsProperFlow f
   entry_proper (EntryRow.entry q port dp key zone of home e) =
       row_proper f (entry_row q dp key zone) e
-      (can_be_set Dp dp refl (datapath_in_range m zones c keys port.switch dp of.on), (in_port_set key (port_in_range m zones c keys q port dp key of), (can_be_set ZIn zone refl (zone_in_range m zones c bound q zone home), (omega arith, tt))))
+      (can_be_set Dp dp refl (datapath_in_range m zones c keys port.switch dp of.on), (in_port_set key (port_in_range m zones c keys q port dp key of), (can_be_set ZIn zone refl (zone_in_range m zones c zoned q zone home), (omega arith, tt))))
   entry_proper (EntryRow.arrival e) = row_proper f arrival_row e (tt, (can_be_set Arrived 1 refl (omega arith), (omega arith, tt)))
 
   remote_proper : RemoteRow b f → IsProperFlow f
@@ -112,7 +111,7 @@ module _ (m : state.State) (zones : Zoned) (c : Name) (keys : HaveKeys m.config.
 
   home_proper : HomeRow b f → IsProperFlow f
   home_proper (HomeRow.home q port dp key zone of home e) =
-      row_proper f (home_row dp key zone) e (can_be_set ZOut zone refl (zone_in_range m zones c bound q zone home), (omega arith, tt))
+      row_proper f (home_row dp key zone) e (can_be_set ZOut zone refl (zone_in_range m zones c zoned q zone home), (omega arith, tt))
   home_proper (HomeRow.passes x of is e) = row_proper f (pass_row x.dp x.key) e (omega arith, tt)
   home_proper (HomeRow.enters x of is e) = row_proper f (enter_row x.dp x.key) e (omega arith, tt)
   home_proper (HomeRow.copies a dp group arrived on e) = row_proper f (copies_row dp group arrived (members_here b a group arrived)) e (omega arith, tt)
@@ -126,7 +125,7 @@ module _ (m : state.State) (zones : Zoned) (c : Name) (keys : HaveKeys m.config.
 
   output_proper : OutputRow b f → IsProperFlow f
   output_proper (OutputRow.output q port dp key of virtual e) = row_proper f (output_row dp q key) e (tt, tt)
-  output_proper (OutputRow.patch x partner of is e) = row_proper f (patch_row x.dp x.key (beyond b partner)) e ((refl, can_patch m zones c keys bound partner), tt)
+  output_proper (OutputRow.patch x partner of is e) = row_proper f (patch_row x.dp x.key (beyond b partner)) e ((refl, can_patch m zones c keys zoned partner), tt)
   output_proper (OutputRow.no_peer x of is e) = row_proper f (no_peer_row x.dp x.key) e (tt, tt)
 
   around_flow_proper : AroundFlow b f → IsProperFlow f
@@ -138,4 +137,4 @@ module _ (m : state.State) (zones : Zoned) (c : Name) (keys : HaveKeys m.config.
 
 -- each number lies within its register, and each flow goes on at later tables
 pub around_proper : AroundProperLaw
-around_proper m zones c keys bound f r = around_flow_proper m zones c keys bound f r
+around_proper m zones c keys zoned f r = around_flow_proper m zones c keys zoned f r

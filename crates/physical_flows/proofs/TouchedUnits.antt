@@ -40,8 +40,7 @@ use Rattle.physical_flows.specs.Around.{around_rows}
 use Rattle.physical_flows.specs.Homes.{ArePortsNamed}
 use Rattle.physical_flows.specs.Stages.{Basis, config_of, number_here, beyond}
 use Rattle.physical_flows.specs.TableList.{homed_rows, is_group_member, way_row}
-use Rattle.physical_flows.specs.Touching as touching
-use Rattle.physical_flows.specs.Touching.{BindTouches, ChassisTouches, EditTouches}
+use Rattle.physical_flows.specs.Touching.{IsSameBeside, BindTouches, ChassisTouches, EditTouches}
 use Rattle.physical_flows.specs.Units.{ChangeOnly, patch_rows}
 use Rattle.physical_flows.proofs.GroupMembers.{and_first, of_group, entries_in, members_entries, member_on}
 use Rattle.physical_flows.proofs.UnitReads.{IsSameMember, has_member_at, only_these}
@@ -144,7 +143,7 @@ module _ (before : Basis) (q home : Name) (port : SwitchPort) (zones : GivenNumb
         (λ a out. record {
           chassis = refl;
           entry = refl;
-          number = refl;
+          number = λ r is. refl;
           in_group = λ group. refl;
           each = λ group p m. bound_member p (bound_apart a (not_switch port.switch q a out) group p m);
           homes = λ group. refl;
@@ -153,7 +152,7 @@ module _ (before : Basis) (q home : Name) (port : SwitchPort) (zones : GivenNumb
           chassis = refl;
           entry = refl;
           beneath = λ r is. refl;
-          number = refl;
+          number = λ r is. refl;
           home = put_other before.bindings q home p (not_port_of port.switch q p out);
           zone = port_zone p (not_port_of port.switch q p out);
           leads = λ r is leads dp key.
@@ -271,7 +270,7 @@ module _ (before : Basis) (c : Name) where
         (λ a out. record {
           chassis = refl;
           entry = refl;
-          number = refl;
+          number = λ r is. refl;
           in_group = λ group. refl;
           each = λ group q m. record { number = refl; home = home_kept q; zone = refl };
           homes = λ group. kept_by_test (has_member_at before a group) before.all c (untaken a group);
@@ -280,7 +279,7 @@ module _ (before : Basis) (c : Name) where
           chassis = refl;
           entry = refl;
           beneath = λ r is. refl;
-          number = refl;
+          number = λ r is. refl;
           home = refl;
           zone = refl;
           leads = λ r is leads dp key.
@@ -295,15 +294,11 @@ module _ (before : Basis) (c : Name) where
               (chassis_way (partner_of_router_port before.net r));
         })
 
--- a chassis that is added changes no rows on the others: nobody is at home there yet
+-- a chassis that is added changes no rows on the others: nobody is at home there yet, and no gateway router waits for it
 pub around_chassis : ChassisTouches around_rows
 around_chassis before after c is new homes waits = subst (λ b. ChangeOnly [] (around_rows before) (around_rows b)) (sym is) (with_chassis_touches before c new homes waits)
 
 -- ---- records are edited
-
--- as it is told in specs, under the name by which callers know it
-abbrev pub IsSameBeside : List FlowUnit → Network → Network → Keys → Keys → Type 0
-IsSameBeside units net next keys keys_after = touching.IsSameBeside units net next keys keys_after
 
 module _ (before : Basis) (units : List FlowUnit) (next : Network) (keys : Keys) where
   abbrev edited : Basis
@@ -353,7 +348,7 @@ module _ (before : Basis) (units : List FlowUnit) (next : Network) (keys : Keys)
         each_kept q m =
             let of = member_on before.net sorted named a group q m in
             let apart = untouched q.name q (inl of.0) of.1 in
-            record { number = same.numbers q.name apart; home = virtual_home q (is_bound_kind q.name q of.0 apart); zone = refl }
+            record { number = same.numbers q.name q apart of.0; home = virtual_home q (is_bound_kind q.name q of.0 apart); zone = refl }
 
     module _ (q : Name) (out : ¬ Among (unit.RouterPort q) units) where
       no_router_port : (ports : List (Name × RouterPort)) → ((port : RouterPort) → at ports q ≡ Some port → Among (unit.RouterPort q) units) → at ports q ≡ None
@@ -375,7 +370,7 @@ module _ (before : Basis) (units : List FlowUnit) (next : Network) (keys : Keys)
         (λ a out. record {
           chassis = refl;
           entry = ap (λ o. is_some o) (same.switches a out);
-          number = same.datapaths a out;
+          number = λ switch is. same.datapaths a switch out is;
           in_group = members_kept a out;
           each = each_kept a out;
           homes = λ group. refl;
@@ -384,7 +379,7 @@ module _ (before : Basis) (units : List FlowUnit) (next : Network) (keys : Keys)
           chassis = refl;
           entry = same.ports q out;
           beneath = λ port is. same.beneath q port out is;
-          number = same.numbers q out;
+          number = λ port is. same.numbers q port out is;
           home = refl;
           zone = refl;
           leads = λ port is leads dp key. absurd (false≢true (sym leads ∙ is_bound_kind q port is out));
@@ -396,7 +391,7 @@ module _ (before : Basis) (units : List FlowUnit) (next : Network) (keys : Keys)
           leads = λ port is dp key. absurd (none-some port (sym (was_none q out) ∙ is));
         })
 
--- an edit of any records changes the rows of those units alone beside which all stays
+-- an edit of records changes the rows of those units alone beside which all stays
 pub around_edit : EditTouches around_rows
 around_edit before after units next keys is sorted sorted_after named same =
     subst (λ b. ChangeOnly units (around_rows before) (around_rows b)) (sym is) (edited_touches before units next keys sorted sorted_after named same)

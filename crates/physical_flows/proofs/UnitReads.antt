@@ -61,13 +61,13 @@ pub record IsSameMember (before after : Basis) (port : SwitchPort) : Type 0 wher
   pub home : home_of (config_of after) port ≡ home_of (config_of before) port
   pub zone : zone_of after port.name ≡ zone_of before port.name
 
--- what the rows of a port follow from is the same: its record, the numbers of its switch's key and its own, where it is bound and its
+-- what the rows of a port follow from is the same: its record, where it has one the numbers of its switch's key and its own, where it is bound and its
 -- zone there, and the rows of one that leads to a router
 pub record IsSamePort (before after : Basis) (q : Name) : Type 0 where
   pub chassis : after.chassis ≡ before.chassis
   pub entry : at after.net.switch_ports q ≡ at before.net.switch_ports q
   pub beneath : (port : SwitchPort) → at before.net.switch_ports q ≡ Some port → datapath_number after.keys port.switch ≡ datapath_number before.keys port.switch
-  pub number : port_number after.keys q ≡ port_number before.keys q
+  pub number : (port : SwitchPort) → at before.net.switch_ports q ≡ Some port → port_number after.keys q ≡ port_number before.keys q
   pub home : at after.bindings q ≡ at before.bindings q
   pub zone : zone_of after q ≡ zone_of before q
   pub leads : (port : SwitchPort) → at before.net.switch_ports q ≡ Some port → is_virtual port ≡ false → (dp key : ℕ) → patch_rows after (switch_patch after port dp key) ≡ patch_rows before (switch_patch before port dp key)
@@ -83,12 +83,12 @@ pub record IsSameRouterPort (before after : Basis) (q : Name) : Type 0 where
 abbrev pub has_member_at : Basis → Name → Group → Name → Bool
 has_member_at b a group c = not (same_name c b.chassis) && list_any (λ q. is_on c (home_of (config_of b) q)) (members b.net a group)
 
--- what the rows of a switch follow from is the same: whether it is there, the number of its key, the members of its groups, what each
+-- what the rows of a switch follow from is the same: whether it is there, if so the number of its key, the members of its groups, what each
 -- of these has, and the other chassis where one of them is at home
 pub record IsSameSwitch (before after : Basis) (a : Name) : Type 0 where
   pub chassis : after.chassis ≡ before.chassis
   pub entry : is_some (at after.net.switches a) ≡ is_some (at before.net.switches a)
-  pub number : datapath_number after.keys a ≡ datapath_number before.keys a
+  pub number : (switch : Switch) → at before.net.switches a ≡ Some switch → datapath_number after.keys a ≡ datapath_number before.keys a
   pub in_group : (group : Group) → members after.net a group ≡ members before.net a group
   pub each : (group : Group) (q : SwitchPort) → Among q (members before.net a group) → IsSameMember before after q
   pub homes : (group : Group) → filter (has_member_at before a group) after.all ≡ filter (has_member_at before a group) before.all
@@ -118,7 +118,7 @@ module _ (before after : Basis) (q : Name) (same : IsSamePort before after q) wh
   here_same None is = refl
   here_same (Some port) is =
       let dp = same.beneath port is in
-      let key = same.number in
+      let key = same.number port is in
       (λ i. keyed_here after q port (dp i) (key i)) ∙ keyed_same port is (datapath_number before.keys port.switch) (port_number before.keys q)
 
   port_here_same : rows_here after (unit.Port q) ≡ rows_here before (unit.Port q)
@@ -126,7 +126,7 @@ module _ (before after : Basis) (q : Name) (same : IsSamePort before after q) wh
 
   around_same : (o : Option SwitchPort) → at before.net.switch_ports q ≡ o → port_around after q o ≡ port_around before q o
   around_same None is = refl
-  around_same (Some port) is = let dp = same.beneath port is in let key = same.number in λ i. keyed_around (is_virtual port) q (dp i) (key i)
+  around_same (Some port) is = let dp = same.beneath port is in let key = same.number port is in λ i. keyed_around (is_virtual port) q (dp i) (key i)
 
   port_around_same : around_everywhere after (unit.Port q) ≡ around_everywhere before (unit.Port q)
   port_around_same = ap (λ o. port_around after q o) same.entry ∙ around_same (at before.net.switch_ports q) refl
@@ -181,15 +181,18 @@ module _ (before after : Basis) (a : Name) (same : IsSameSwitch before after a) 
     groups_same : (dp : ℕ) → rows_of_group after a dp group ≡ rows_of_group before a dp group
     groups_same dp = λ i. group_rows dp group (homes_same i) (members_same false i) (members_same true i)
 
-  own_same : (o p : Option Switch) (number : Option ℕ) → is_some o ≡ is_some p → switch_here after a o number ≡ switch_here before a p number
-  own_same None None number e = refl
-  own_same None (Some p) number e = absurd (false≢true e)
-  own_same (Some o) None number e = absurd (false≢true (sym e))
-  own_same (Some o) (Some p) None e = refl
-  own_same (Some o) (Some p) (Some dp) e = λ i. groups_same Flood dp i ++ groups_same Unknown dp i
+  keyed_groups : (o p : Switch) (number : Option ℕ) → switch_here after a (Some o) number ≡ switch_here before a (Some p) number
+  keyed_groups o p None = refl
+  keyed_groups o p (Some dp) = λ i. groups_same Flood dp i ++ groups_same Unknown dp i
+
+  own_same : (o p : Option Switch) → at before.net.switches a ≡ p → is_some o ≡ is_some p → switch_here after a o (datapath_number after.keys a) ≡ switch_here before a p (datapath_number before.keys a)
+  own_same None None is e = refl
+  own_same None (Some p) is e = absurd (false≢true e)
+  own_same (Some o) None is e = absurd (false≢true (sym e))
+  own_same (Some o) (Some p) is e = ap (λ n. switch_here after a (Some o) n) (same.number p is) ∙ keyed_groups o p (datapath_number before.keys a)
 
   switch_here_same : rows_here after (unit.Switch a) ≡ rows_here before (unit.Switch a)
-  switch_here_same = ap (λ n. switch_here after a (at after.net.switches a) n) same.number ∙ own_same (at after.net.switches a) (at before.net.switches a) (datapath_number before.keys a) same.entry
+  switch_here_same = own_same (at after.net.switches a) (at before.net.switches a) refl same.entry
 
 -- ---- all units
 

@@ -1,13 +1,12 @@
 -- What holds of the rows around the pipelines.
 use Rattle.std.specs.Prelude.{◌≡◌, ◌↔◌, ◌⊎◌, true}
-use Rattle.conn_zones.specs.Zoning.{Zoned}
+use Rattle.conn_zones.specs.Zoning.{Zoned, IsZoned}
 use Rattle.flow_table.specs.declared.flow.Flow.{Flow}
 use Rattle.nb_records.specs.Network.{Network}
 use Rattle.net_model.specs.State.{State}
 use Rattle.ovn_base.specs.declared.name.Name.{Name}
 use Rattle.ovn_base.specs.lists.Once.{EachOnce}
 use Rattle.physical_flows.specs.Around.{AroundFlow, is_around, around_everywhere, around_rows}
-use Rattle.physical_flows.specs.Bindings.{AreBound}
 use Rattle.physical_flows.specs.ChassisFlows.{basis_at}
 use Rattle.physical_flows.specs.RecordKeys.{HaveKeys}
 use Rattle.physical_flows.specs.Stages.{Basis}
@@ -31,7 +30,7 @@ AroundTablesLaw = (b : Basis) (f : Flow) → AroundFlow b f → is_around f.tabl
 -- They are proper: each number lies within its register, and each flow goes on at later tables.
 abbrev pub AroundProperLaw : Type 0
 AroundProperLaw =
-    (m : State) (zones : Zoned) (chassis : Name) → HaveKeys m.config.net m.keys → AreBound m.config zones
+    (m : State) (zones : Zoned) (chassis : Name) → HaveKeys m.config.net m.keys → IsZoned zones
     → (f : Flow) → AroundFlow (basis_at m zones.numbers chassis) f → IsProperFlow f
 
 -- The rows that are the same on every chassis don't follow from the chassis.

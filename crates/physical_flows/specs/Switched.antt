@@ -9,17 +9,10 @@ use Rattle.ovn_base.specs.names.ByName.{at}
 use Rattle.physical_flows.specs.RecordKeys.{HaveKeys}
 use Rattle.tunnel_keys.specs.Keys.{Keys}
 
--- The records are valid, and who has a key by them has a live one.
+-- The records are valid; each switch, each router and each of their ports has a live key, and nobody else has one; the ranges of keys are
+-- whole, and no key is retired.
 pub record IsKeyed (net : Network) (keys : Keys) : Type 0 where
   pub valid : IsValid net
-  pub keyed : HaveKeys net keys
-
--- The network is a switched one: its records are valid, there is no router and no router port, and each switch and each port has its key.
--- Ports may be disabled or have port security, and there may be rules, sets and groups.
-pub record IsSwitched (net : Network) (keys : Keys) : Type 0 where
-  pub valid : IsValid net
-  pub no_routers : net.routers ≡ []
-  pub no_router_ports : net.router_ports ≡ []
   pub keyed : HaveKeys net keys
 
 -- Where records are valid and there is no router port, all ports of switches are virtual.

@@ -1,20 +1,18 @@
 -- The rows of switches, of ports and of all chassis, as lists in the compiler's order.
-use Rattle.std.specs.Prelude.{ℕ, Bool, true, false, ◌&&◌, not, cond, List, [], ◌∷◌, Some, None, Option, filter, filter_map, map, unwrap_or}
+use Rattle.std.specs.Prelude.{ℕ, Bool, true, false, ◌&&◌, not, cond, List, [], ◌∷◌, Some, None, Option, filter}
 use Rattle.std.specs.List.{list_any}
 use Rattle.ovn_base.specs.declared.name.Name.{Name}
 use Rattle.flow_table.specs.declared.flow.Flow.{Flow}
 use Rattle.flow_table.specs.declared.flow.Member.{Member}
-use Rattle.ovn_base.specs.names.ByName.{at}
 use Rattle.ovn_base.specs.names.SameName.{same_name}
 use Rattle.nb_records.specs.Switches.{takes_unknown}
 use Rattle.nb_records.specs.declared.switch.SwitchPort.{SwitchPort}
-use Rattle.net_model.specs.Config.{Home, nowhere, on, everywhere, home_if, home_of}
+use Rattle.net_model.specs.Config.{Home, nowhere, on, everywhere}
 use Rattle.net_model.specs.declared.crossing.Group.{Group}
 use Rattle.net_model.specs.declared.crossing.Group.TheVariants.{Flood, Unknown}
-use Rattle.physical_flows.specs.Homes.{is_reached_at}
 use Rattle.physical_flows.specs.declared.beyond.Beyond.{Beyond}
 use Rattle.physical_flows.specs.Rows.{entry_row, arrival_row, remote_row, spread_row, stay_row, home_row, pass_row, enter_row, copies_row, leave_row, patch_row, no_peer_row}
-use Rattle.physical_flows.specs.Stages.{Basis, config_of, zone_of}
+use Rattle.physical_flows.specs.Stages.{Basis}
 
 -- ---- switches
 
@@ -57,37 +55,18 @@ way_row dp key None = no_peer_row dp key
 abbrev pub common_rows : List Flow
 common_rows = arrival_row ∷ stay_row ∷ leave_row ∷ []
 
--- ---- groups, among ports of a switch with their keys
+-- ---- groups
 
 -- the port is in the group of its switch: none is that is disabled
 abbrev pub is_group_member : Group → SwitchPort → Bool
 is_group_member Flood port = port.enabled
 is_group_member Unknown port = port.enabled && takes_unknown port.addresses
 
--- the record is one of the group
-abbrev pub is_record_in : Group → Option SwitchPort → Bool
-is_record_in group None = false
-is_record_in group (Some port) = is_group_member group port
-
-abbrev pub group_among : Basis → Group → List (Name × ℕ) → List (Name × ℕ)
-group_among b group ports = filter (λ e. is_record_in group (at b.net.switch_ports e.0)) ports
-
--- the home of the port of that name
-abbrev pub home_named : Basis → Name → Home
-home_named b q = home_if (home_of (config_of b)) (at b.net.switch_ports q)
-
--- those that are reached on this chassis, as its flows know them
-abbrev pub here_among : Basis → Bool → List (Name × ℕ) → List Member
-here_among b arrived ports = map (λ e. record { key = e.1; zone = unwrap_or (zone_of b e.0) 0 }) (filter (λ e. is_reached_at arrived b.chassis (home_named b e.0)) ports)
-
--- the chassis on which they are at home
+-- the chassis of a home, where it is one
 abbrev pub one_home : Home → Option Name
 one_home nowhere = None
 one_home (on home) = Some home
 one_home everywhere = None
-
-abbrev pub bound_among : Basis → List (Name × ℕ) → List Name
-bound_among b ports = filter_map (λ e. one_home (home_named b e.0)) ports
 
 -- the other chassis among these
 abbrev pub is_other_among : Basis → List Name → Name → Bool
@@ -95,7 +74,3 @@ is_other_among b homes c = not (same_name c b.chassis) && list_any (λ home. sam
 
 abbrev pub others_among : Basis → List Name → List Name
 others_among b homes = filter (λ c. is_other_among b homes c) b.all
-
--- the rows of a group that has these members
-abbrev pub rows_among : Basis → ℕ → Group → List (Name × ℕ) → List Flow
-rows_among b dp group members = group_rows dp group (others_among b (bound_among b members)) (here_among b false members) (here_among b true members)

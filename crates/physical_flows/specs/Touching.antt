@@ -11,6 +11,7 @@ use Rattle.nb_records.specs.Network.{Network}
 use Rattle.nb_records.specs.Switches.{is_virtual}
 use Rattle.nb_records.specs.declared.router.Router.{Router}
 use Rattle.nb_records.specs.declared.router.RouterPort.{RouterPort}
+use Rattle.nb_records.specs.declared.switch.Switch.{Switch}
 use Rattle.nb_records.specs.declared.switch.SwitchPort.{SwitchPort}
 use Rattle.ovn_base.specs.declared.name.Name.{Name}
 use Rattle.ovn_base.specs.lists.Among.{Among}
@@ -24,12 +25,13 @@ use Rattle.physical_flows.specs.declared.unit.FlowUnit.TheVariants as unit
 use Rattle.tunnel_keys.specs.Keys.{Keys}
 
 -- The records of the switches and ports that aren't among the units stay, and so do the numbers of their keys. Among the units are all ports that lead into
--- another datapath, whose rows follow from the records of several.
+-- another datapath, whose rows follow from the records of several. Numbers are asked only of what is there: under a name without a
+-- record a switch or a port of a switch has no rows, whatever number the name has.
 pub record IsSameBeside (units : List FlowUnit) (net next : Network) (keys keys_after : Keys) : Type 0 where
   pub switches : (a : Name) → ¬ Among (unit.Switch a) units → at next.switches a ≡ at net.switches a
-  pub datapaths : (a : Name) → ¬ Among (unit.Switch a) units → datapath_number keys_after a ≡ datapath_number keys a
+  pub datapaths : (a : Name) (switch : Switch) → ¬ Among (unit.Switch a) units → at net.switches a ≡ Some switch → datapath_number keys_after a ≡ datapath_number keys a
   pub ports : (q : Name) → ¬ Among (unit.Port q) units → at next.switch_ports q ≡ at net.switch_ports q
-  pub numbers : (q : Name) → ¬ Among (unit.Port q) units → port_number keys_after q ≡ port_number keys q
+  pub numbers : (q : Name) (port : SwitchPort) → ¬ Among (unit.Port q) units → at net.switch_ports q ≡ Some port → port_number keys_after q ≡ port_number keys q
   -- the switch of a port that stays keeps its key
   pub beneath : (q : Name) (port : SwitchPort) → ¬ Among (unit.Port q) units → at net.switch_ports q ≡ Some port → datapath_number keys_after port.switch ≡ datapath_number keys port.switch
   -- with a port go the switches that it was on and is on
@@ -37,7 +39,7 @@ pub record IsSameBeside (units : List FlowUnit) (net next : Network) (keys keys_
   pub router_ports : (p : Name) (port : RouterPort) → (at net.router_ports p ≡ Some port) ⊎ (at next.router_ports p ≡ Some port) → Among (unit.RouterPort p) units
   pub to_routers : (q : Name) (port : SwitchPort) → (at net.switch_ports q ≡ Some port) ⊎ (at next.switch_ports q ≡ Some port) → is_virtual port ≡ false → Among (unit.Port q) units
 
--- An edit of any records changes the rows of those units alone beside which all stays.
+-- An edit of records that leaves bindings and zones as they are changes the rows of those units alone beside which all stays.
 abbrev pub EditTouches : (Basis → FlowUnit → List Flow) → Type 0
 EditTouches rows =
     (before after : Basis) (units : List FlowUnit) (next : Network) (keys : Keys) → after ≡ record before { net = next; keys = keys }

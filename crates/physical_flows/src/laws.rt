@@ -11,8 +11,8 @@ pub fn ports_are_virtual()
     ensures { VirtualPortsLaw }
 {}
 
-/// The rows around the pipelines of all units are exactly the flows of those tables, which are proper. Each flow is one of them
-/// or isn't.
+/// Of valid records with their keys, the rows around the pipelines of all units are exactly the flows of those tables, and each flow
+/// is one of them or isn't. They are proper where records have their keys and the numbers of zones are in range.
 pub fn flows_around()
     ensures set { AroundSetLaw }
     ensures decided { AroundDecidedLaw }
@@ -30,8 +30,9 @@ pub fn units_around()
     ensures alike { AroundAlikeLaw }
 {}
 
-/// An edit changes the rows around the pipelines of those units alone beside which all stays, a port that is bound its own and its
-/// switch's, and a chassis that comes none on the others.
+/// An edit of records that leaves bindings and zones as they are changes the rows around the pipelines of those units alone beside
+/// which all stays, a port that is bound its own and its switch's, and a chassis that comes, for which no gateway router waits,
+/// none on the others.
 pub fn around_touched()
     ensures edit { EditTouches around_rows }
     ensures bind { BindTouches around_rows }

@@ -16,7 +16,6 @@ use Rattle.net_model.specs.State.{State, finished}
 use Rattle.net_model.specs.Transition as net
 use Rattle.northd_core.proofs.LoweredRows.{sets_are}
 use Rattle.northd_core.specs.Plans.{IsChange}
-use Rattle.northd_core.specs.Gate.{IsOfSwitches}
 use Rattle.northd_core.specs.Lowering.{CanCompile, IsLoweredIn, Lowering}
 use Rattle.ovn_base.proofs.AmongLaws.{all_among, among_cases, among_map, among_none}
 use Rattle.ovn_base.specs.names.SameName.{same_name, bytes_decides}
@@ -45,7 +44,6 @@ use Rattle.world_setup.proofs.HeldFlows.{flows_of}
 use Rattle.world_setup.proofs.Names.{names_once}
 use Rattle.world_setup.proofs.TurnEvents.{same_settled}
 use Rattle.world_setup.specs.Ground.{GroundView, basis_in, ground_of}
-use Rattle.world_setup.specs.Built.{IsBuilt}
 use Rattle.world_setup.specs.Setup.{IsFlowOn, IsTurnOfTables, lowering_in}
 use Rattle.world_setup.specs.Turning.{IsTurned}
 use Rattle.world_setup.specs.Consistent.{IsConsistent}
@@ -110,19 +108,9 @@ found_once {X} (d ∷ es) e once among = elim (among_cases e d es among) [
 ]
 
 -- the records of a consistent state can be compiled
-pub of_switches : (net : Network) → IsBuilt net → IsOfSwitches net
-of_switches net built = record {
-  routers = ap (λ (n : Network). n.routers) built.others;
-  router_ports = ap (λ (n : Network). n.router_ports) built.others;
-  routes = ap (λ (n : Network). n.routes) built.others;
-  nats = ap (λ (n : Network). n.nats) built.others;
-  balancers = ap (λ (n : Network). n.load_balancers) built.others;
-}
-
 compiled_then : (mid : State) (zones : Zoned) → IsConsistent (finished mid) zones → (keys : Keys) → HaveKeys mid.config.net keys → CanCompile (record { net = mid.config.net; keys = keys })
 compiled_then mid zones consistent keys have = record {
   valid = consistent.at_rest.valid;
-  gate = of_switches mid.config.net consistent.built;
   hold = have.hold;
   live = owners_live mid.config.net keys consistent.at_rest.valid have consistent.at_rest.no_router;
 }
@@ -160,7 +148,7 @@ module _ (m : State) (zones : Zoned) (event : Event) (effects : List NetEffect) 
   -- what comes is proper
   flow_proper : (c : Name) (f : Flow) → IsFlowOn (ground_of mid after.zones) c f → IsProperFlow f
   flow_proper c f (inl lowered) = lowered_proper (lowering_in (ground_of mid after.zones)) (compiled_then mid after.zones turned.consistent turned.keys have_then) f lowered
-  flow_proper c f (inr around) = around_proper mid after.zones c have_then turned.consistent.at_rest.bound f around
+  flow_proper c f (inr around) = around_proper mid after.zones c have_then turned.consistent.at_rest.bound.zoned f around
 
   comes_proper : (t : Name × Delta Flow) → Among t change.tables → IsProper t.1.added
   comes_proper t among f added =

@@ -18,9 +18,9 @@ use Rattle.northd_core.specs.Lowering.{CanCompile}
 use Rattle.physical_flows.specs.RecordKeys.{HaveKeys}
 use Rattle.physical_flows.specs.Switched.{IsKeyed}
 use Rattle.sim_laws.specs.journeys.UnderWay.{HasNoRouter}
-use Rattle.sim_laws.proofs.journey_laws.Premises.{owners_live}
 use Rattle.tunnel_keys.specs.Keys.{Keys}
 use Rattle.world_setup.specs.Built.{IsBuilt}
+use Rattle.world_setup.proofs.EditedKeys.{owner_lives}
 
 module _ (net : Network) (built : IsBuilt net) where
   pub no_router : HasNoRouter net
@@ -33,15 +33,8 @@ module _ (net : Network) (built : IsBuilt net) where
     pub can_compile : CanCompile (record { net = net; keys = keys })
     can_compile = record {
       valid = valid;
-      gate = record {
-        routers = no_router.routers;
-        router_ports = no_router.router_ports;
-        routes = ap (λ (w : Network). w.routes) built.others;
-        nats = ap (λ (w : Network). w.nats) built.others;
-        balancers = ap (λ (w : Network). w.load_balancers) built.others;
-      };
       hold = have.hold;
-      live = owners_live net keys valid have no_router;
+      live = owner_lives net keys have valid.in_order;
     }
 
 -- the switch of a port is there

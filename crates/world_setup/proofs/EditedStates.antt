@@ -55,13 +55,12 @@ use Rattle.world_setup.specs.KeyLines.{key_effects, key_name}
 use Rattle.world_setup.specs.Refusing.{refusal}
 use Rattle.world_setup.specs.Touched.{touched_by}
 use Rattle.world_setup.specs.Turning.{IsPlannedEdit, IsTurned}
-use Rattle.world_setup.proofs.ComingOwners.{HasNoRouters}
-use Rattle.world_setup.proofs.EditedKeys.{HasRecordsFrom, edited_born, edited_have, keys_of_records, own_place, port_number_same, switch_number_same, switch_number_stays}
+use Rattle.world_setup.proofs.EditedKeys.{HasRecordsFrom, edited_born, edited_have, keys_of_records, port_number_stays, switch_number_stays}
 use Rattle.world_setup.proofs.EditedNames.{AreNamesOf, names_listed, names_set}
 use Rattle.world_setup.proofs.EditedRecords.{edited_built}
 use Rattle.world_setup.proofs.StayingOwners.{bindings_stay, none_gone, still_there}
-use Rattle.world_setup.proofs.StayingRecords.{ports_stay, switches_stay}
-use Rattle.world_setup.proofs.TouchedRecords.{port_kept, port_with_switch, switch_kept}
+use Rattle.world_setup.proofs.StayingRecords.{ports_stay, router_ports_stay, routers_stay, switches_stay}
+use Rattle.world_setup.proofs.TouchedRecords.{port_kept, port_with_switch, router_kept, router_port_kept, router_port_touched, switch_kept, to_router_touched}
 use Rattle.world_setup.proofs.EditedWaiting.{edit_kept}
 use Rattle.world_setup.proofs.FreedKeys.{clock_still, counted, finished_consistent}
 use Rattle.world_setup.proofs.KeyLacks.{IsLack, datapaths_after, enough_keys, lack_is}
@@ -69,13 +68,6 @@ use Rattle.world_setup.proofs.NewKeys.{given_beside}
 use Rattle.world_setup.proofs.RecordChanges.{bound_kept}
 use Rattle.world_setup.proofs.RefusedTurns.{edit_allowed}
 use Rattle.world_setup.proofs.WaitingFrames.{AreKept, frames_same, way_on}
-use Rattle.std.proofs.lemmas.Option.{none-some}
-use Rattle.std.proofs.lemmas.Bool.{false≢true}
-use Rattle.physical_flows.proofs.VirtualPorts.{virtual_ports}
-
--- where there are only switches and plain ports, there are no routers
-pub no_routers : (net : Network) → rules.IsValid net → IsBuilt net → HasNoRouters net
-no_routers net valid built = record { order = valid.in_order; routers = ap (λ (w : Network). w.routers) built.others; router_ports = ap (λ (w : Network). w.router_ports) built.others }
 
 -- ---- what an edit leaves that is built and has no fault
 
@@ -96,12 +88,14 @@ module _ (m : State) (zones : Zoned) (old : IsConsistent m zones) (ops : List Op
   edit_records_from = record {
     switches = switches_stay before ops (event_count m + 1) old.at_rest.valid grammar.each faultless built;
     ports = ports_stay before ops (event_count m + 1) old.at_rest.valid grammar.each faultless built;
-    before = no_routers before old.at_rest.valid old.built;
-    after = no_routers leaves edit_sound_then.valid edit_built_then;
+    routers = routers_stay before ops (event_count m + 1) old.at_rest.valid grammar.each faultless built;
+    router_ports = router_ports_stay before ops (event_count m + 1) old.at_rest.valid grammar.each faultless built;
+    before = old.at_rest.valid;
+    after = edit_sound_then.valid;
   }
 
   pub edit_owns : edits.AreKeysOf before (event_count m + 1) m.keys
-  edit_owns = keys_of_records before m.keys old.at_rest.keys edit_records_from.before (event_count m) (event_count m + 1) (omega arith) old.at_rest.born.keys
+  edit_owns = keys_of_records before m.keys old.at_rest.keys old.at_rest.valid.in_order (event_count m) (event_count m + 1) (omega arith) old.at_rest.born.keys
 
   pub edit_fits : IsKeyEdit m.keys (owners_only_in leaves before) (owners_only_in before leaves)
   edit_fits = key_edit before leaves (event_count m + 1) m.keys old.at_rest.valid edit_sound_then.valid edit_sound_then.owners edit_owns
@@ -143,7 +137,7 @@ module _ (m : State) (zones : Zoned) (old : IsConsistent m zones) (room : event_
   after = subst (λ owners. IsAfter m.keys owners (owners_only_in net next) keys) planned.stands.added (subst (λ owners. IsAfter m.keys plan.added owners keys) planned.stands.removed planned.after)
 
   none : owners_only_in net next ≡ []
-  none = none_gone net ops (event_count m + 1) old.at_rest.valid grammar.each planned.faultless planned.built old.built
+  none = none_gone net ops (event_count m + 1) old.at_rest.valid grammar.each planned.faultless planned.built
 
   pub gives : GivesKeys m.keys (owners_only_in next net) [] keys
   gives = subst (λ owners. GivesKeys m.keys (owners_only_in next net) owners keys) none after.gives
@@ -177,7 +171,7 @@ module _ (m : State) (zones : Zoned) (old : IsConsistent m zones) (room : event_
   }
 
   pub kept : AreKept m mid
-  kept = edit_kept m mid (owners_only_in next net) next keys (event_count m + 1) old.at_rest.keys.hold after.hold gives (omega arith) records_from.before sound.owners refl refl
+  kept = edit_kept m mid (owners_only_in next net) next keys (event_count m + 1) old.at_rest.keys.hold after.hold gives (omega arith) records_from sound.owners refl refl
 
   -- no record is younger than the event
   born_then : AreBorn (counted mid)
@@ -214,7 +208,7 @@ module _ (m : State) (zones : Zoned) (old : IsConsistent m zones) (room : event_
           is_some_of (at next.switch_ports q) stays.0 stays.1
 
       kept_then : AreKept m (counted mid)
-      kept_then = edit_kept m (counted mid) (owners_only_in next net) next keys (event_count m + 1) old.at_rest.keys.hold after.hold gives (omega arith) records_from.before sound.owners refl refl
+      kept_then = edit_kept m (counted mid) (owners_only_in next net) next keys (event_count m + 1) old.at_rest.keys.hold after.hold gives (omega arith) records_from sound.owners refl refl
 
   -- ---- lists
 
@@ -250,21 +244,15 @@ module _ (m : State) (zones : Zoned) (old : IsConsistent m zones) (room : event_
     pub same_beside : IsSameBeside units net next m.keys keys
     same_beside = record {
       switches = same_switch;
-      datapaths = λ a out. switch_number_same net next m.keys keys old.at_rest.keys after.hold gives records_from a (same_switch a out);
+      datapaths = λ a switch out is. switch_number_stays net next m.keys keys old.at_rest.keys after.hold gives records_from a switch is;
       ports = same_port;
-      numbers = λ q out. port_number_same net next m.keys keys old.at_rest.keys after.hold gives records_from q (ap (option_map own_place) (same_port q out));
+      numbers = λ q port out is. port_number_stays net next m.keys keys old.at_rest.keys after.hold gives records_from port.switch q port.birth (inr (port, is, refl, refl));
       beneath = λ q port out is.
           let on = some_of (at net.switches port.switch) (on_switch net old.at_rest.valid q port is) in
           switch_number_stays net next m.keys keys old.at_rest.keys after.hold gives records_from port.switch on.0 on.1;
       on = λ q port in' is. (are (unit.Switch port.switch)).1 (port_with_switch net next ops q port ((are (unit.Port q)).0 in') is);
-      router_ports = λ p port is. elim is [
-        | inl was ↦ absurd (none-some port (ap (λ l. at l p) (sym records_from.before.router_ports) ∙ was))
-        | inr now ↦ absurd (none-some port (ap (λ l. at l p) (sym records_from.after.router_ports) ∙ now))
-      ];
-      to_routers = λ q port is leads. elim is [
-        | inl was ↦ absurd (false≢true (sym leads ∙ virtual_ports net old.at_rest.valid records_from.before.router_ports q port was))
-        | inr now ↦ absurd (false≢true (sym leads ∙ virtual_ports next sound.valid records_from.after.router_ports q port now))
-      ];
+      router_ports = λ p port is. (are (unit.RouterPort p)).1 (router_port_touched net next ops p port is);
+      to_routers = λ q port is leads. (are (unit.Port q)).1 (to_router_touched net next ops old.at_rest.valid sound.valid q port is leads);
     }
 
   -- ---- the turn

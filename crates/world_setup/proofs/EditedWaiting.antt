@@ -2,14 +2,17 @@
 use Rattle.std.specs.Prelude.{◌≡◌, ◌≤◌, ◌<◌, ℕ, true, List, [], Option, Some, None, IsTrue, option_map, refl}
 use Rattle.std.proofs.Common.{arith, sym, ap, subst, ◌∙◌, inl, inr}
 use Rattle.std.proofs.lemmas.Bool.{false≢true}
+use Rattle.std.proofs.lemmas.Option.{none-some}
 use Rattle.ovn_base.specs.lists.Among.{Among}
 use Rattle.ovn_base.specs.names.ByName.{at}
-use Rattle.ovn_base.proofs.AmongLaws.{among_none}
+use Rattle.ovn_base.proofs.AmongLaws.{among_all, among_none}
+use Rattle.ovn_base.proofs.ByNameLaws.{at_among}
+use Rattle.ovn_base.specs.declared.name.Name.{Name}
 use Rattle.nb_records.specs.Network.{Network}
 use Rattle.nb_records.specs.declared.switch.Switch.{Switch}
 use Rattle.net_model.specs.State.{State, event_count}
 use Rattle.nb_edits.specs.EditLeaves as edits
-use Rattle.nb_edits.proofs.OwnerLaws.{datapath_among}
+use Rattle.nb_edits.proofs.OwnerLaws.{IsDatapath, among_owns, datapath_among}
 use Rattle.tunnel_keys.specs.Edits.{GivesKeys}
 use Rattle.tunnel_keys.specs.Keys.{Keys, IsKeys, held_datapaths, held_ports}
 use Rattle.tunnel_keys.specs.Same.{birth_exact, birth_own, same_birth}
@@ -19,7 +22,7 @@ use Rattle.tunnel_keys.specs.declared.owner.KeyOwner.{KeyOwner}
 use Rattle.tunnel_keys.specs.declared.owner.KeyOwner.TheVariants.{Datapath}
 use Rattle.tunnel_keys.proofs.KeyStays.{datapaths_stay, ports_stay}
 use Rattle.sim_laws.specs.Sound.{has_birth, is_switch}
-use Rattle.world_setup.proofs.ComingOwners.{HasNoRouters, switch_of}
+use Rattle.world_setup.proofs.EditedKeys.{HasRecordsFrom}
 use Rattle.world_setup.proofs.WaitingFrames.{AreKept}
 
 -- ---- the switch of a name and birth
@@ -45,13 +48,20 @@ module _ (m mid : State) (added : List KeyOwner) (next : Network) (after : Keys)
     | inr moved ↦ absurd (among_none (Datapath h.datapath.name h.datapath.birth) moved.gone)
   ]
 
-  module _ (later : event_count m < n) (plain : HasNoRouters m.config.net) (come : edits.AreBorn m.config.net next n) where
+  module _ (later : event_count m < n) (from : HasRecordsFrom m.config.net next) (come : edits.AreBorn m.config.net next n) where
+    -- the datapath of a switch was one, since a router that was there is one still
+    was_switch : (id : Identity) (s : Switch) → at next.switches id.name ≡ Some s → IsDatapath m.config.net id.name id.birth → IsTrue (is_switch m.config.net id)
+    was_switch id s now (inl was) = is_the_switch m.config.net id was.0 was.1 was.2
+    was_switch id s now (inr was) =
+        let apart : at next.routers id.name ≡ None = among_all (λ (e : Name × Switch). at next.routers e.0 ≡ None) (id.name, s) next.switches from.after.datapaths (at_among next.switches id.name s now) in
+        absurd (none-some was.0 (sym apart ∙ from.routers id.name was.0 was.1))
+
     -- a switch that isn't as young as the edit was there before
     switch_was : (id : Identity) → id.birth.0 ≤ event_count m → IsTrue (is_switch next id) → IsTrue (is_switch m.config.net id)
     switch_was id early is =
         let s = the_switch next id is in
         elim (come (Datapath id.name id.birth) (datapath_among next id.name id.birth (inl s))) [
-          | inl old ↦ let was = switch_of m.config.net plain id.name id.birth old in is_the_switch m.config.net id was.0 was.1 was.2
+          | inl old ↦ was_switch id s.0 s.1 (among_owns m.config.net from.before.in_order (Datapath id.name id.birth) old)
           | inr new ↦ absurd (omega (arith, early, later, new))
         ]
 

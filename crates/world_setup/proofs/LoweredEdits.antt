@@ -19,27 +19,23 @@ use Rattle.ovn_base.proofs.AmongLaws.{among_filter_map, filter_map_among}
 use Rattle.ovn_base.specs.declared.name.Name.{Name}
 use Rattle.ovn_base.specs.lists.Among.{Among}
 use Rattle.ovn_base.specs.names.ByName.{at}
-use Rattle.physical_flows.proofs.KeyLaws.{no_port_key}
 use Rattle.physical_flows.specs.RecordKeys.{HaveKeys}
 use Rattle.physical_flows.specs.Touching.{IsSameBeside}
 use Rattle.physical_flows.specs.declared.unit.FlowUnit.{FlowUnit}
 use Rattle.physical_flows.specs.declared.unit.FlowUnit.TheVariants as unit
 use Rattle.tunnel_keys.specs.Edits.{GivesKeysAfter}
 use Rattle.tunnel_keys.specs.Keys.{Keys}
-use Rattle.tunnel_keys.specs.declared.owner.PortKey.{PortKey}
 use Rattle.world_setup.specs.Editing.{next_net}
 use Rattle.world_setup.specs.Ground.{GroundView, ground_of}
 use Rattle.world_setup.specs.Setup.{lowering_in}
 use Rattle.world_setup.specs.Touched.{row_unit, rules_touched, touched_by}
 use Rattle.world_setup.specs.Turning.{IsPlannedEdit, MayTurn}
 use Rattle.world_setup.specs.Consistent.{IsConsistent}
-use Rattle.world_setup.proofs.EditedStates.{gives, have, next_built, same_beside, sound, no_routers}
+use Rattle.world_setup.proofs.EditedStates.{gives, have, next_built, same_beside, sound}
 use Rattle.world_setup.proofs.BuiltTables.{can_compile}
 use Rattle.world_setup.proofs.NewKeys.{given_beside}
 use Rattle.world_setup.proofs.ReadiedChanges.{edit_leaves, planned_here}
 use Rattle.world_setup.proofs.TouchedRules.{rule_kept, sets_kept}
-use Rattle.world_setup.proofs.ComingOwners.{HasNoRouters}
-use Rattle.world_setup.proofs.EditedKeys.{port_there}
 
 -- ---- units of rows
 
@@ -60,17 +56,6 @@ port_outside units q out m = out (among_filter_map row_unit (unit.Port q) (rows.
 
 switch_outside : (units : List FlowUnit) (d : Name) → ¬ Among (rows.Switch d) (filter_map row_unit units) → ¬ Among (unit.Switch d) units
 switch_outside units d out m = out (among_filter_map row_unit (unit.Switch d) (rows.Switch d) units m refl)
-
--- ---- the key of a port
-
--- a port whose record stays keeps its key, or has none before and after
-port_key_same : (net next : Network) (keys after : Keys) → HaveKeys net keys → HaveKeys next after → HasNoRouters net → HasNoRouters next → ((p : Name) (k : PortKey) → at keys.ports p ≡ Some k → at after.ports p ≡ Some k)
-    → (q : Name) → at next.switch_ports q ≡ at net.switch_ports q → at keys.ports q ≡ at after.ports q
-port_key_same net next keys after have have_then plain plain_then kept q same = by (at net.switch_ports q) refl
-  where
-    by : (o : Option SwitchPort) → at net.switch_ports q ≡ o → at keys.ports q ≡ at after.ports q
-    by None is = no_port_key net keys have q is (ap (λ l. at l q) plain.router_ports) ∙ sym (no_port_key next after have_then q (same ∙ is) (ap (λ l. at l q) plain_then.router_ports))
-    by (Some p) is = let own = have.port_has q p is in own.1 ∙ sym (kept q own.0 own.1)
 
 -- ---- a planned edit
 
@@ -99,23 +84,17 @@ module _ (m : State) (zones : Zoned) (old : IsConsistent m zones) (room : event_
     given : GivesKeysAfter m.keys (owners_only_in next net) keys
     given = given_beside m.keys (owners_only_in next net) keys (gives m zones old room ops grammar plan keys planned)
 
-    plain : HasNoRouters net
-    plain = no_routers net old.at_rest.valid old.built
-
-    plain_then : HasNoRouters next
-    plain_then = no_routers next (sound m zones old room ops grammar plan keys planned).valid (next_built m zones old room ops grammar plan keys planned)
-
     -- records and keys of what no operation names stay
     same_but_for : IsSameButFor before later (filter_map row_unit units) (rules_touched net ops)
     same_but_for = record {
       ports = λ q out. sym (same.ports q (port_outside units q out));
-      port_keys = λ q out. port_key_same net next m.keys keys old.at_rest.keys have_then plain plain_then given.port_kept q (same.ports q (port_outside units q out));
+      port_keys = λ q port out is. let own = old.at_rest.keys.port_has q port is in own.1 ∙ sym (given.port_kept q own.0 own.1);
       switches = λ d out. sym (same.switches d (switch_outside units d out));
-      switch_keys = λ d out. ap (λ (o : Option ℕ). unwrap_or o 0) (sym (same.datapaths d (switch_outside units d out)));
+      switch_keys = λ d switch out is. ap (λ (o : Option ℕ). unwrap_or o 0) (sym (same.datapaths d switch (switch_outside units d out) is));
       beneath = λ q port out is. ap (λ (o : Option ℕ). unwrap_or o 0) (sym (same.beneath q port (port_outside units q out) is));
       on = λ q port listed is. among_filter_map row_unit (unit.Switch port.switch) (rows.Switch port.switch) units (same.on q port (port_listed units q listed) is) refl;
-      had = λ q k is. port_there net m.keys old.at_rest.keys plain q k is;
-      have = λ q k is. port_there next keys have_then plain_then q k is;
+      had = old.at_rest.keys.port_of;
+      have = have_then.port_of;
       rules = λ r out. sym (rule_kept net ops (event_count m + 1) old.at_rest.valid grammar.each planned.faultless r out);
       sets = λ r rule out is. sym (sets_kept net ops (event_count m + 1) old.at_rest.valid grammar.each planned.faultless r rule out is);
     }

@@ -129,7 +129,32 @@ module _ (net : Network) (q : Name) where
   port_without kind.SwitchPort p other = removed_other net.switch_ports p q (λ same. other (refl, sym same))
   port_without k p other = refl
 
-  -- so it is with rules
+  -- so it is with routers and their ports
+  pub router_beside : (r : Record) → ¬ IsNamed kind.Router q r → at (with_record net r).routers q ≡ at net.routers q
+  router_beside (row.Router r) other = put_other net.routers r.name r q (λ same. other (refl, sym same))
+  router_beside r other = refl
+
+  pub router_port_beside : (r : Record) → ¬ IsNamed kind.RouterPort q r → at (with_record net r).router_ports q ≡ at net.router_ports q
+  router_port_beside (row.RouterPort r) other = put_other net.router_ports r.name r q (λ same. other (refl, sym same))
+  router_port_beside r other = refl
+
+  pub router_unchanged : (c : Change) (a : Option Record) → ((r : Record) → a ≡ Some r → ¬ IsNamed kind.Router q r) → at (with_change net c a).routers q ≡ at net.routers q
+  router_unchanged c None other = refl
+  router_unchanged c (Some r) other = router_beside (changed_record c r) (λ named. let is = changed_named c r in other r refl (sym is.0 ∙ named.0, sym is.1 ∙ named.1))
+
+  pub router_port_unchanged : (c : Change) (a : Option Record) → ((r : Record) → a ≡ Some r → ¬ IsNamed kind.RouterPort q r) → at (with_change net c a).router_ports q ≡ at net.router_ports q
+  router_port_unchanged c None other = refl
+  router_port_unchanged c (Some r) other = router_port_beside (changed_record c r) (λ named. let is = changed_named c r in other r refl (sym is.0 ∙ named.0, sym is.1 ∙ named.1))
+
+  pub router_without : (k : Kind) (p : Name) → ¬ ((k ≡ kind.Router) × (p ≡ q)) → at (without_record net k p).routers q ≡ at net.routers q
+  router_without kind.Router p other = removed_other net.routers p q (λ same. other (refl, sym same))
+  router_without k p other = refl
+
+  pub router_port_without : (k : Kind) (p : Name) → ¬ ((k ≡ kind.RouterPort) × (p ≡ q)) → at (without_record net k p).router_ports q ≡ at net.router_ports q
+  router_port_without kind.RouterPort p other = removed_other net.router_ports p q (λ same. other (refl, sym same))
+  router_port_without k p other = refl
+
+  -- and with rules
   pub acl_beside : (r : Record) → ¬ IsNamed kind.Acl q r → at (with_record net r).acls q ≡ at net.acls q
   acl_beside (row.Acl r) other = put_other net.acls r.name r q (λ same. other (refl, sym same))
   acl_beside r other = refl

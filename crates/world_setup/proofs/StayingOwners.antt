@@ -27,8 +27,8 @@ use Rattle.tunnel_keys.specs.declared.owner.Identity.{Identity}
 use Rattle.tunnel_keys.specs.declared.owner.KeyOwner.{KeyOwner}
 use Rattle.tunnel_keys.specs.declared.owner.KeyOwner.TheVariants.{Datapath, Port}
 use Rattle.physical_flows.proofs.FlowSearch.{some_of}
-use Rattle.world_setup.specs.Built.{IsBuilt, is_built_edit}
-use Rattle.world_setup.proofs.StayingRecords.{switches_stay, ports_stay}
+use Rattle.world_setup.specs.Built.{is_built_edit}
+use Rattle.world_setup.proofs.StayingRecords.{ports_stay, router_ports_stay, routers_stay, switches_stay}
 use Rattle.world_setup.proofs.TouchedRecords.{ops_pass}
 
 -- ---- tests that none or all pass
@@ -43,34 +43,23 @@ all_pass : {X : Type 0} (test : X → Bool) (xs : List X) → ((x : X) → Among
 all_pass test [] h = refl
 all_pass test (x ∷ xs) h = ap (λ b. cond b (x ∷ filter test xs) (filter test xs)) (h x here) ∙ ap (λ l. x ∷ l) (all_pass test xs (λ y m. h y (there m)))
 
--- nothing is found where there is nothing
-none_there : {X : Type 0} (es : List (Name × X)) (q : Name) (x : X) → es ≡ [] → ¬ (at es q ≡ Some x)
-none_there {X = X} es q x none found = let clash : None ≡ Some x = sym (ap (λ (ds : List (Name × X)). at ds q) none) ∙ found in cc
-
 module _ (net : Network) (ops : List Op) (n : ℕ) (valid : IsValid net) (grammar : AllByRecursion IsOpInGrammar ops) (none : fault_of net ops n ≡ None) (is : is_built_edit ops ≡ true) where
   abbrev after : Network
   after = accepted net ops n
 
   -- ---- owners
 
-  -- there is no router, and no port of one
-  no_router : IsBuilt net → net.routers ≡ []
-  no_router built = ap (λ (m : Network). m.routers) built.others
-
-  no_router_port : IsBuilt net → net.router_ports ≡ []
-  no_router_port built = ap (λ (m : Network). m.router_ports) built.others
-
   -- an owner stays one
-  still_owns : IsBuilt net → (o : KeyOwner) → Owns net o → Owns after o
-  still_owns built (Datapath name birth) (inl h) = inl (h.0, switches_stay net ops n valid grammar none is name h.0 h.1, h.2)
-  still_owns built (Datapath name birth) (inr h) = absurd (none_there net.routers name h.0 (no_router built) h.1)
-  still_owns built (Port datapath name birth) (inl h) = absurd (none_there net.router_ports name h.0 (no_router_port built) h.1)
-  still_owns built (Port datapath name birth) (inr h) = let now = ports_stay net ops n valid grammar none is name h.0 h.1 in inr (now.0, now.1, now.3 ∙ h.2, now.2 ∙ h.3)
+  still_owns : (o : KeyOwner) → Owns net o → Owns after o
+  still_owns (Datapath name birth) (inl h) = inl (h.0, switches_stay net ops n valid grammar none is name h.0 h.1, h.2)
+  still_owns (Datapath name birth) (inr h) = inr (h.0, routers_stay net ops n valid grammar none is name h.0 h.1, h.2)
+  still_owns (Port datapath name birth) (inl h) = let now = router_ports_stay net ops n valid grammar none is name h.0 h.1 in inl (now.0, now.1, now.3 ∙ h.2, now.2 ∙ h.3)
+  still_owns (Port datapath name birth) (inr h) = let now = ports_stay net ops n valid grammar none is name h.0 h.1 in inr (now.0, now.1, now.3 ∙ h.2, now.2 ∙ h.3)
 
   -- no owner goes
-  pub none_gone : IsBuilt net → owners_only_in net after ≡ []
-  none_gone built = none_pass (λ (o : KeyOwner). not (is_listed (owners_of after) o)) (owners_of net) (λ o m.
-      ap not (among_listed (owners_of after) o (owns_among after o (still_owns built o (among_owns net valid.in_order o m)))))
+  pub none_gone : owners_only_in net after ≡ []
+  none_gone = none_pass (λ (o : KeyOwner). not (is_listed (owners_of after) o)) (owners_of net) (λ o m.
+      ap not (among_listed (owners_of after) o (owns_among after o (still_owns o (among_owns net valid.in_order o m)))))
 
   -- ---- bindings
 

@@ -1,4 +1,4 @@
--- Switches and ports stay through an edit of what is built, with their births, and ports on their switches.
+-- Switches, routers and their ports stay through an edit of what is built, with their births, and ports on their datapaths.
 use Rattle.std.specs.Prelude.{◌≡◌, ℕ, true, false, List, [], ◌∷◌, Option, Some, None, option_map, refl}
 use Rattle.std.specs.List.{AllByRecursion}
 use Rattle.std.proofs.lemmas.Bool.{false≢true, and_parts}
@@ -17,6 +17,8 @@ use Rattle.nb_records.specs.declared.change.Op.TheVariants as op
 use Rattle.nb_records.specs.declared.kinds.Kind.TheVariants as kind
 use Rattle.nb_records.specs.declared.record.Record.{Record}
 use Rattle.nb_records.specs.declared.record.Record.TheVariants as row
+use Rattle.nb_records.specs.declared.router.Router.{Router}
+use Rattle.nb_records.specs.declared.router.RouterPort.{RouterPort}
 use Rattle.nb_records.specs.declared.switch.Switch.{Switch}
 use Rattle.nb_records.specs.declared.switch.SwitchPort.{SwitchPort}
 use Rattle.nb_rules.specs.First.{fault_if}
@@ -27,16 +29,21 @@ use Rattle.world_setup.specs.Built.{is_built_op, is_built_edit}
 use Rattle.world_setup.proofs.NamedRecords.{itself_at}
 use Rattle.world_setup.proofs.TouchedRecords.{ops_pass}
 
--- the port is at the name, of its birth and on its switch
+-- the port is at the name, of its birth and on its switch, or on its router
 abbrev pub StaysAt : Network → Name → SwitchPort → Type 0
 StaysAt net q port = (now : SwitchPort) × (at net.switch_ports q ≡ Some now) × (now.birth ≡ port.birth) × (now.switch ≡ port.switch)
 
+abbrev pub RouterPortStaysAt : Network → Name → RouterPort → Type 0
+RouterPortStaysAt net p port = (now : RouterPort) × (at net.router_ports p ≡ Some now) × (now.birth ≡ port.birth) × (now.router ≡ port.router)
+
 -- ---- a record that is put
 
--- none is at its name, or the switch itself, or a port of its birth and on its switch
+-- none is at its name, or the switch or the router itself, or a port of its birth and on its datapath
 abbrev AgreesWith : Network → Record → Type 0
 AgreesWith net (row.Switch r) = (s : Switch) → at net.switches r.name ≡ Some s → r ≡ s
 AgreesWith net (row.SwitchPort r) = (s : SwitchPort) → at net.switch_ports r.name ≡ Some s → (r.birth ≡ s.birth) × (r.switch ≡ s.switch)
+AgreesWith net (row.Router r) = (s : Router) → at net.routers r.name ≡ Some s → r ≡ s
+AgreesWith net (row.RouterPort r) = (s : RouterPort) → at net.router_ports r.name ≡ Some s → (r.birth ≡ s.birth) × (r.router ≡ s.router)
 AgreesWith net r = Unit {0}
 
 -- a new record does
@@ -49,9 +56,17 @@ born_agrees net n (row.SwitchPort r) free = λ s found.
     let none = not_there row.SwitchPort (at net.switch_ports r.name) (neither (is_there net kind.RouterPort r.name) (is_there net kind.SwitchPort r.name) free).1 in
     let clash : None ≡ Some s = sym none ∙ found in
     absurd cc
+born_agrees net n (row.Router r) free = λ s found.
+    let none = not_there row.Router (at net.routers r.name) (neither (is_there net kind.Switch r.name) (is_there net kind.Router r.name) free).1 in
+    let clash : None ≡ Some s = sym none ∙ found in
+    cc
+born_agrees net n (row.RouterPort r) free = λ s found.
+    let none = not_there row.RouterPort (at net.router_ports r.name) (neither (is_there net kind.RouterPort r.name) (is_there net kind.SwitchPort r.name) free).0 in
+    let clash : None ≡ Some s = sym none ∙ found in
+    absurd cc
 born_agrees net n r free = tt
 
--- the switch or port that the record is
+-- the switch, the router or the port that the record is
 abbrev switch_in : Switch → Option Record → Switch
 switch_in other (Some (row.Switch r)) = r
 switch_in other r = other
@@ -60,12 +75,24 @@ abbrev port_in : SwitchPort → Option Record → SwitchPort
 port_in other (Some (row.SwitchPort r)) = r
 port_in other r = other
 
+abbrev router_in : Router → Option Record → Router
+router_in other (Some (row.Router r)) = r
+router_in other r = other
+
+abbrev router_port_in : RouterPort → Option Record → RouterPort
+router_port_in other (Some (row.RouterPort r)) = r
+router_port_in other r = other
+
 -- a record that is there does
 there_agrees : (net : Network) (r : Record) → record_at net (kind_of r) (name_of r) ≡ Some r → AgreesWith net r
 there_agrees net (row.Switch r) is = λ s found. ap (switch_in r) (sym is ∙ ap (option_map row.Switch) found)
 there_agrees net (row.SwitchPort r) is = λ s found.
     let same : r ≡ s = ap (port_in r) (sym is ∙ ap (option_map row.SwitchPort) found) in
     (ap (λ (x : SwitchPort). x.birth) same, ap (λ (x : SwitchPort). x.switch) same)
+there_agrees net (row.Router r) is = λ s found. ap (router_in r) (sym is ∙ ap (option_map row.Router) found)
+there_agrees net (row.RouterPort r) is = λ s found.
+    let same : r ≡ s = ap (router_port_in r) (sym is ∙ ap (option_map row.RouterPort) found) in
+    (ap (λ (x : RouterPort). x.birth) same, ap (λ (x : RouterPort). x.router) same)
 there_agrees net r is = tt
 
 -- so it does when it is changed
@@ -97,6 +124,20 @@ module _ (net : Network) where
   ]
   port_stays_with r agrees q p found = (p, found, refl, refl)
 
+  router_stays_with : (r : Record) → AgreesWith net r → (a : Name) (s : Router) → at net.routers a ≡ Some s → at (with_record net r).routers a ≡ Some s
+  router_stays_with (row.Router r) agrees a s found = elim (one_or_two a r.name) [
+    | inl same ↦ ap (at (put net.routers r.name r)) same ∙ put_there net.routers r.name r ∙ ap Some (agrees s (ap (at net.routers) (sym same) ∙ found))
+    | inr apart ↦ put_other net.routers r.name r a apart ∙ found
+  ]
+  router_stays_with r agrees a s found = found
+
+  router_port_stays_with : (r : Record) → AgreesWith net r → (q : Name) (p : RouterPort) → at net.router_ports q ≡ Some p → RouterPortStaysAt (with_record net r) q p
+  router_port_stays_with (row.RouterPort r) agrees q p found = elim (one_or_two q r.name) [
+    | inl same ↦ (let is = agrees p (ap (at net.router_ports) (sym same) ∙ found) in (r, ap (at (put net.router_ports r.name r)) same ∙ put_there net.router_ports r.name r, is.0, is.1))
+    | inr apart ↦ (p, put_other net.router_ports r.name r q apart ∙ found, refl, refl)
+  ]
+  router_port_stays_with r agrees q p found = (p, found, refl, refl)
+
   -- and where one is changed
   switch_stays_changed : (c : Change) (x : Option Record) → ((r : Record) → x ≡ Some r → AgreesWith net r) → (a : Name) (s : Switch) → at net.switches a ≡ Some s → at (with_change net c x).switches a ≡ Some s
   switch_stays_changed c None agrees a s found = found
@@ -105,6 +146,14 @@ module _ (net : Network) where
   port_stays_changed : (c : Change) (x : Option Record) → ((r : Record) → x ≡ Some r → AgreesWith net r) → (q : Name) (p : SwitchPort) → at net.switch_ports q ≡ Some p → StaysAt (with_change net c x) q p
   port_stays_changed c None agrees q p found = (p, found, refl, refl)
   port_stays_changed c (Some r) agrees q p found = port_stays_with (changed_record c r) (changed_agrees net c r (agrees r refl)) q p found
+
+  router_stays_changed : (c : Change) (x : Option Record) → ((r : Record) → x ≡ Some r → AgreesWith net r) → (a : Name) (s : Router) → at net.routers a ≡ Some s → at (with_change net c x).routers a ≡ Some s
+  router_stays_changed c None agrees a s found = found
+  router_stays_changed c (Some r) agrees a s found = router_stays_with (changed_record c r) (changed_agrees net c r (agrees r refl)) a s found
+
+  router_port_stays_changed : (c : Change) (x : Option Record) → ((r : Record) → x ≡ Some r → AgreesWith net r) → (q : Name) (p : RouterPort) → at net.router_ports q ≡ Some p → RouterPortStaysAt (with_change net c x) q p
+  router_port_stays_changed c None agrees q p found = (p, found, refl, refl)
+  router_port_stays_changed c (Some r) agrees q p found = router_port_stays_with (changed_record c r) (changed_agrees net c r (agrees r refl)) q p found
 
   -- ---- operations
 
@@ -125,6 +174,18 @@ module _ (net : Network) where
   port_stays_by f (op.Remove k a) n is none q p found = absurd (false≢true is)
   port_stays_by f (op.Health balancer backend online) n is none q p found = absurd (false≢true is)
 
+  router_stays_by : IsFit net → (o : Op) (n : ℕ) → is_built_op o ≡ true → op_fault net o ≡ None → (a : Name) (s : Router) → at net.routers a ≡ Some s → at (operated net o n).routers a ≡ Some s
+  router_stays_by f (op.Add r) n is none a s found = router_stays_with (born n r) (added_agrees n r none) a s found
+  router_stays_by f (op.Set k q c) n is none a s found = router_stays_changed c (record_at net k q) (λ r there. there_agrees net r (itself_at net f k q r there)) a s found
+  router_stays_by f (op.Remove k q) n is none a s found = absurd (false≢true is)
+  router_stays_by f (op.Health balancer backend online) n is none a s found = absurd (false≢true is)
+
+  router_port_stays_by : IsFit net → (o : Op) (n : ℕ) → is_built_op o ≡ true → op_fault net o ≡ None → (q : Name) (p : RouterPort) → at net.router_ports q ≡ Some p → RouterPortStaysAt (operated net o n) q p
+  router_port_stays_by f (op.Add r) n is none q p found = router_port_stays_with (born n r) (added_agrees n r none) q p found
+  router_port_stays_by f (op.Set k a c) n is none q p found = router_port_stays_changed c (record_at net k a) (λ r there. there_agrees net r (itself_at net f k a r there)) q p found
+  router_port_stays_by f (op.Remove k a) n is none q p found = absurd (false≢true is)
+  router_port_stays_by f (op.Health balancer backend online) n is none q p found = absurd (false≢true is)
+
 -- and through all of them
 switch_stays_through : (net : Network) (ops : List Op) (n : ℕ) → IsFit net → AllByRecursion IsOpInGrammar ops → is_built_edit ops ≡ true → ops_fault net ops n ≡ None
     → (a : Name) (s : Switch) → at net.switches a ≡ Some s → at (accepted net ops n).switches a ≡ Some s
@@ -144,13 +205,35 @@ port_stays_through net (o ∷ ops) n f g is none q p found =
     let last = port_stays_through (operated net o n) ops n (operated_fit net o n f g.0 parts.0) g.1 each.1 parts.1 q mid.0 mid.1 in
     (last.0, last.1, last.2 ∙ mid.2, last.3 ∙ mid.3)
 
+router_stays_through : (net : Network) (ops : List Op) (n : ℕ) → IsFit net → AllByRecursion IsOpInGrammar ops → is_built_edit ops ≡ true → ops_fault net ops n ≡ None
+    → (a : Name) (s : Router) → at net.routers a ≡ Some s → at (accepted net ops n).routers a ≡ Some s
+router_stays_through net [] n f g is none a s found = found
+router_stays_through net (o ∷ ops) n f g is none a s found =
+    let parts = no_first (op_fault net o) _ none in
+    let each = and_parts (is_built_op o) (is_built_edit ops) is in
+    router_stays_through (operated net o n) ops n (operated_fit net o n f g.0 parts.0) g.1 each.1 parts.1 a s (router_stays_by net f o n each.0 parts.0 a s found)
+
+router_port_stays_through : (net : Network) (ops : List Op) (n : ℕ) → IsFit net → AllByRecursion IsOpInGrammar ops → is_built_edit ops ≡ true → ops_fault net ops n ≡ None
+    → (q : Name) (p : RouterPort) → at net.router_ports q ≡ Some p → RouterPortStaysAt (accepted net ops n) q p
+router_port_stays_through net [] n f g is none q p found = (p, found, refl, refl)
+router_port_stays_through net (o ∷ ops) n f g is none q p found =
+    let parts = no_first (op_fault net o) _ none in
+    let each = and_parts (is_built_op o) (is_built_edit ops) is in
+    let mid = router_port_stays_by net f o n each.0 parts.0 q p found in
+    let last = router_port_stays_through (operated net o n) ops n (operated_fit net o n f g.0 parts.0) g.1 each.1 parts.1 q mid.0 mid.1 in
+    (last.0, last.1, last.2 ∙ mid.2, last.3 ∙ mid.3)
+
 module _ (net : Network) (ops : List Op) (n : ℕ) (valid : IsValid net) (grammar : AllByRecursion IsOpInGrammar ops) (none : fault_of net ops n ≡ None) where
-  -- no switch goes or changes
+  -- no switch goes or changes, and no router
   pub switches_stay : is_built_edit ops ≡ true → (a : Name) (s : Switch) → at net.switches a ≡ Some s → at (accepted net ops n).switches a ≡ Some s
   switches_stay is a s found = switch_stays_through net ops n (valid_fit net valid) grammar is (ops_pass net ops n none) a s found
+
+  pub routers_stay : is_built_edit ops ≡ true → (a : Name) (r : Router) → at net.routers a ≡ Some r → at (accepted net ops n).routers a ≡ Some r
+  routers_stay is a r found = router_stays_through net ops n (valid_fit net valid) grammar is (ops_pass net ops n none) a r found
 
   -- no port goes, is another or moves
   pub ports_stay : is_built_edit ops ≡ true → (q : Name) (p : SwitchPort) → at net.switch_ports q ≡ Some p → StaysAt (accepted net ops n) q p
   ports_stay is q p found = port_stays_through net ops n (valid_fit net valid) grammar is (ops_pass net ops n none) q p found
 
--- ---- births
+  pub router_ports_stay : is_built_edit ops ≡ true → (p : Name) (port : RouterPort) → at net.router_ports p ≡ Some port → RouterPortStaysAt (accepted net ops n) p port
+  router_ports_stay is p port found = router_port_stays_through net ops n (valid_fit net valid) grammar is (ops_pass net ops n none) p port found

@@ -1,5 +1,5 @@
 -- The units of flows and the rules that an edit touches.
-use Rattle.std.specs.Prelude.{◌++◌, Bool, true, false, cond, List, [], ◌∷◌, Option, Some, None, flat_map}
+use Rattle.std.specs.Prelude.{◌++◌, Bool, true, false, cond, not, List, [], ◌∷◌, Option, Some, None, filter, flat_map, map}
 use Rattle.std.specs.List.{list_any}
 use Rattle.std.specs.Map.{keys_of}
 use Rattle.ovn_base.specs.declared.name.Name.{Name}
@@ -12,6 +12,7 @@ use Rattle.nb_records.specs.declared.change.Op.TheVariants.{Add, Set, Remove, He
 use Rattle.nb_records.specs.declared.kinds.Kind.{Kind}
 use Rattle.nb_records.specs.declared.kinds.Kind.TheVariants as kind
 use Rattle.nb_records.specs.declared.switch.SwitchPort.{SwitchPort}
+use Rattle.nb_records.specs.Switches.{has_some, is_virtual}
 use Rattle.physical_flows.specs.declared.unit.FlowUnit.{FlowUnit}
 use Rattle.physical_flows.specs.declared.unit.FlowUnit.TheVariants as unit
 
@@ -20,11 +21,12 @@ abbrev pub switch_of : Option SwitchPort → List FlowUnit
 switch_of None = []
 switch_of (Some port) = unit.Switch port.switch ∷ []
 
--- those of the record of this kind and name: its own, and with a port those of the switches that it was and is on
+-- those of the record of this kind and name: its own, and with a port those of the switches that it was and is on; a router and its ports, whose keys may come,
+-- touch what a switch and a port of their names would
 abbrev pub units_named : Network → Network → Kind → Name → List FlowUnit
 units_named before after kind.Switch a = unit.Switch a ∷ []
-units_named before after kind.Router a = []
-units_named before after kind.RouterPort q = []
+units_named before after kind.Router a = unit.Switch a ∷ []
+units_named before after kind.RouterPort q = unit.Port q ∷ switch_of (at before.switch_ports q) ++ switch_of (at after.switch_ports q)
 units_named before after kind.SwitchPort q = unit.Port q ∷ switch_of (at before.switch_ports q) ++ switch_of (at after.switch_ports q)
 units_named before after kind.AddressSet s = []
 units_named before after kind.PortGroup g = []
@@ -41,8 +43,28 @@ units_by before after (Set k name change) = units_named before after k name
 units_by before after (Remove k name) = units_named before after k name
 units_by before after (Health balancer backend online) = []
 
+abbrev pub named_by : Network → Network → List Op → List FlowUnit
+named_by before after ops = flat_map (λ o. units_by before after o) ops
+
+-- the ports of switches that lead to routers; where no router has a port, there are none
+abbrev pub to_routers : Network → List Name
+to_routers net = map (λ e. e.0) (filter (λ e. not (is_virtual e.1)) net.switch_ports)
+
+abbrev pub ports_leading : Network → List Name
+ports_leading net = cond (has_some net.router_ports) (to_routers net) []
+
+abbrev pub units_leading : Network → Network → Network → List FlowUnit
+units_leading before after net = flat_map (λ q. units_named before after kind.SwitchPort q) (ports_leading net)
+
+abbrev pub router_port_units : Network → List FlowUnit
+router_port_units net = map (λ e. unit.RouterPort e.0) net.router_ports
+
+-- all ports that lead into another datapath, before and after: the rows of each follow from the records of several
+abbrev pub leading_units : Network → Network → List FlowUnit
+leading_units before after = units_leading before after before ++ units_leading before after after ++ router_port_units before ++ router_port_units after
+
 abbrev pub touched_by : Network → Network → List Op → List FlowUnit
-touched_by before after ops = flat_map (λ o. units_by before after o) ops
+touched_by before after ops = named_by before after ops ++ leading_units before after
 
 -- the unit of rows that a unit of flows is: a switch's or a port's
 abbrev pub row_unit : FlowUnit → Option UnitId

@@ -1,14 +1,16 @@
 //! What an edit makes of units, lines and names.
-ghost use Rattle.std.specs.Prelude.{◌≡◌, ◌↔◌, ◌++◌, cond, [], map, IfOk, OnOk};
+ghost use Rattle.std.specs.Prelude.{◌≡◌, ◌↔◌, ◌++◌, cond, [], flat_map, map, IfOk, OnOk};
 ghost use Rattle.std.specs.List.{filter_map, list_any};
 ghost use Rattle.std.specs.Map.{keys_of};
 ghost use Rattle.ovn_base.specs.lists.Among.{Among};
 ghost use Rattle.ovn_base.specs.lists.Once.{EachOnce};
 ghost use Rattle.ovn_base.specs.names.ByName.{at, in_order};
+ghost use Rattle.nb_records.specs.Switches.{has_some};
+ghost use Rattle.nb_records.specs.declared.kinds.Kind.TheVariants as kind;
 ghost use Rattle.tunnel_keys.specs.Giving.{put_option};
 ghost use Rattle.tunnel_keys.specs.Owners.{as_port_of, datapaths_in, ports_in};
 ghost use Rattle.world_setup.specs.KeyLines.{as_place, datapath_effect, key_effects, key_name, port_effect};
-ghost use Rattle.world_setup.specs.Touched.{has_members, names_members, row_unit, rule_named, rules_by, rules_touched, switch_of, touched_by, units_by, units_named};
+ghost use Rattle.world_setup.specs.Touched.{has_members, leading_units, names_members, router_port_units, row_unit, rule_named, rules_by, rules_touched, switch_of, to_routers, touched_by, units_by, units_leading, units_named};
 
 use logical_flows::unit::UnitId;
 use nb_records::change::Op;
@@ -51,8 +53,8 @@ fn push_named(
     ensures { OnOk result (units.new ≡ units.old ++ units_named before.now after.now kind name) }
 {
     match kind {
-        Kind::Switch => units.push(FlowUnit::Switch(name)),
-        Kind::SwitchPort => {
+        Kind::Switch | Kind::Router => units.push(FlowUnit::Switch(name)),
+        Kind::SwitchPort | Kind::RouterPort => {
             units.push(FlowUnit::Port(name))?;
             push_switch_of(before, &name, units)?;
             push_switch_of(after, &name, units)
@@ -77,12 +79,85 @@ fn push_touched(
         Op::Add(Record::SwitchPort(port)) => {
             push_named(before, after, Kind::SwitchPort, port.name, units)
         }
+        Op::Add(Record::Router(router)) => {
+            push_named(before, after, Kind::Router, router.name, units)
+        }
+        Op::Add(Record::RouterPort(port)) => {
+            push_named(before, after, Kind::RouterPort, port.name, units)
+        }
         Op::Add(_) => Ok(()),
         Op::Set { kind, name, .. } | Op::Remove { kind, name } => {
             push_named(before, after, *kind, *name, units)
         }
         Op::Health { .. } => Ok(()),
     }
+}
+
+// Whether a router has a port.
+fn has_router_ports(records: &Records) -> bool
+    ensures { result ≡ has_some records.now.router_ports }
+{
+    'ports: for (_name, _port) in records.router_ports() {
+        return true;
+    }
+    false
+}
+
+// Adds the units of the ports of switches that lead to routers.
+fn push_to_routers(
+    before: &Records,
+    after: &Records,
+    records: &Records,
+    units: &mut List<FlowUnit>,
+) -> Result<(), NoMemory>
+    ensures { OnOk result (units.new ≡ units.old ++ flat_map (λ q. units_named before.now after.now kind.SwitchPort q) (to_routers records.now)) }
+{
+    'ports: for (name, port) in records.switch_ports() {
+        if !port.kind.is_virtual() {
+            push_named(before, after, Kind::SwitchPort, *name, units)?;
+        }
+    }
+    Ok(())
+}
+
+// Adds them, if a router has a port.
+fn push_leading(
+    before: &Records,
+    after: &Records,
+    records: &Records,
+    units: &mut List<FlowUnit>,
+) -> Result<(), NoMemory>
+    ensures { OnOk result (units.new ≡ units.old ++ units_leading before.now after.now records.now) }
+{
+    if has_router_ports(records) {
+        push_to_routers(before, after, records, units)
+    } else {
+        Ok(())
+    }
+}
+
+// Adds the units of the ports of routers.
+fn push_router_ports(records: &Records, units: &mut List<FlowUnit>) -> Result<(), NoMemory>
+    ensures { OnOk result (units.new ≡ units.old ++ router_port_units records.now) }
+{
+    'ports: for (name, _port) in records.router_ports() {
+        units.push(FlowUnit::RouterPort(*name))?;
+    }
+    Ok(())
+}
+
+// Adds the units of all ports that lead into another datapath, before and after.
+fn push_all_leading(
+    before: &Records,
+    after: &Records,
+    units: &mut List<FlowUnit>,
+) -> Result<(), NoMemory>
+    ensures { OnOk result (units.new ≡ units.old ++ leading_units before.now after.now) }
+{
+    push_leading(before, after, before, units)?;
+    push_leading(before, after, after, units)?;
+    push_router_ports(before, units)?;
+    push_router_ports(after, units)
 }
 
 // The units, each once.
@@ -102,7 +177,7 @@ fn each_once(alloc: Global, units: &[FlowUnit]) -> Result<List<FlowUnit>, NoMemo
     Ok(singles)
 }
 
-/// The units of flows that the operations touch, each once.
+/// The units of flows that the operations touch, each once: those that they name, and those of all ports that lead into another datapath.
 pub(crate) fn touched_units(
     alloc: Global,
     before: &Records,
@@ -116,6 +191,7 @@ pub(crate) fn touched_units(
     'ops: for op in ops {
         push_touched(before, after, op, &mut touched)?;
     }
+    push_all_leading(before, after, &mut touched)?;
     each_once(alloc, touched.as_slice())
 }
 

@@ -24,6 +24,7 @@ use Rattle.nb_records.specs.Switches.{applies, covers, has_port_of, is_given, is
 use Rattle.nb_records.specs.declared.kinds.Kind.TheVariants as kind
 use Rattle.nb_records.specs.declared.record.Record.{Record}
 use Rattle.nb_records.specs.declared.record.Record.TheVariants as row
+use Rattle.nb_records.specs.declared.router.RouterPort.{RouterPort}
 use Rattle.nb_records.specs.declared.rule.Acl.{Acl}
 use Rattle.nb_records.specs.declared.rule.PortGroup.{PortGroup}
 use Rattle.nb_records.specs.declared.switch.SwitchPort.{SwitchPort}
@@ -32,7 +33,7 @@ use Rattle.nb_rules.specs.Unbroken.{AreThere}
 use Rattle.tunnel_keys.specs.Edits.{IsLive}
 use Rattle.tunnel_keys.specs.Keys.{ports_on}
 use Rattle.tunnel_keys.specs.declared.owner.PortKey.{PortKey}
-use Rattle.net_model.specs.Owners.{switch_port_owner}
+use Rattle.net_model.specs.Owners.{router_port_owner, switch_port_owner}
 use Rattle.row_laws.proofs.lowered.PortKeys.{key_on, named_on}
 use Rattle.row_laws.proofs.records.ValidPorts.{port_named, whole}
 use Rattle.northd_core.specs.Lowering.{Lowering, CanCompile}
@@ -82,6 +83,18 @@ key_owner l can q k has there = by (at l.net.switch_ports q) refl there
     by (Some port) is h =
         let live = live_port l can k.datapath q port is in
         (port, is, ap (λ (x : PortKey). x.datapath) (same_Some (record { birth = port.birth; datapath = port.switch; key = live.0 }) k (sym live.1 ∙ has)))
+
+-- and one of a router of the router on which its key is
+pub router_key_owner : (l : Lowering) → CanCompile l → (q : Name) (k : PortKey) → at l.keys.ports q ≡ Some k → IsSome (at l.net.router_ports q)
+    → (port : RouterPort) × (at l.net.router_ports q ≡ Some port) × (port.router ≡ k.datapath)
+router_key_owner l can q k has there = by (at l.net.router_ports q) refl there
+  where
+    by : (o : Option RouterPort) → at l.net.router_ports q ≡ o → IsSome o → (port : RouterPort) × (at l.net.router_ports q ≡ Some port) × (port.router ≡ k.datapath)
+    by None is h = absurd (false≢true h)
+    by (Some port) is h =
+        let o = router_port_owner (q, port) in
+        let live = can.live o (among_left o _ _ (among_right o _ _ (among_map router_port_owner (q, port) l.net.router_ports (at_among l.net.router_ports q port is)))) in
+        (port, is, ap (λ (x : PortKey). x.datapath) (same_Some (record { birth = port.birth; datapath = port.router; key = live.0 }) k (sym live.1 ∙ has)))
 
 -- ---- groups
 

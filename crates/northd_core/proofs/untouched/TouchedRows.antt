@@ -1,11 +1,11 @@
 -- An edit leaves every unit lowered to the same flows but those that are touched.
-use Rattle.std.specs.Prelude.{◌≡◌, ◌⊎◌, Bool, true, false, cond, List, [], ◌∷◌, map, filter, Option, Some, None, is_some, option_map}
+use Rattle.std.specs.Prelude.{◌≡◌, ◌⊎◌, ◌++◌, ◌||◌, Bool, true, false, cond, List, [], ◌∷◌, map, filter, Option, Some, None, is_some, option_map}
 use Rattle.std.specs.List.{list_any}
 use Rattle.std.specs.Map.{keys_of, values_of}
 use Rattle.std.proofs.Common.{refl, sym, ap, ◌∙◌, subst, inl, inr}
-use Rattle.std.proofs.lemmas.Bool.{false≢true, or_left, or_right}
+use Rattle.std.proofs.lemmas.Bool.{false≢true, true≢false, or_left, or_right}
 use Rattle.std.proofs.lemmas.Option.{none-some, same_Some}
-use Rattle.ovn_base.proofs.AmongLaws.{among_cases, among_filter, among_filter_map, among_flat_map, among_left, among_map, among_none, among_right, among_same}
+use Rattle.ovn_base.proofs.AmongLaws.{among_append, among_cases, among_filter, among_filter_map, among_flat_map, among_left, among_map, among_none, among_right, among_same, flat_map_among, map_among}
 use Rattle.ovn_base.proofs.ByNameLaws.{at_among, one_or_two}
 use Rattle.ovn_base.proofs.SameEntries.{same_found}
 use Rattle.ovn_base.specs.declared.name.Name.{Name}
@@ -33,14 +33,17 @@ use Rattle.stage_rows.specs.Facts.{answered_if}
 use Rattle.stage_rows.specs.Reads.{Agree, port_reads, router_port_reads}
 use Rattle.stage_rows.specs.Rows.{on_some}
 use Rattle.stage_rows.specs.SwitchRows.{some_take_unknown}
-use Rattle.stage_rows.specs.Units.{datapath_of, datapath_of_port, rows_of}
+use Rattle.stage_rows.specs.Units.{datapath_of, datapath_of_port, rows_of, rule_units, units_of, units_of_rule}
 use Rattle.flow_lowering.specs.LoweredFlows.{live_datapath_key}
-use Rattle.northd_core.specs.Gate.{applies_if, is_rule_on}
+use Rattle.row_laws.proofs.records.ValidPorts.{on_switch}
 use Rattle.northd_core.specs.Lowering.{Lowering, CanCompile, lowered_of}
-use Rattle.northd_core.specs.Touched.{IsSameButFor, TouchedLaw, as_switch, is_on_either, is_other, ports_at, rule_touched, rules_at, switches_in, switches_of_rule, switches_touched, touched_rows, turned_at}
+use Rattle.northd_core.specs.Routed.{routed_units}
+use Rattle.northd_core.specs.RulesOn.{applies_if, is_rule_on}
+use Rattle.northd_core.specs.Touched.{IsPortOf, IsSameButFor, TouchedLaw, as_switch, beside_routers, is_on_either, is_other, ports_at, ports_to_routers, rule_touched, rules_at, switches_in, switches_of_rule, switches_touched, touched_rows, turned_at, turns}
 use Rattle.northd_core.specs.Untouched.{IsUntouched}
-use Rattle.northd_core.proofs.RowUnits.{applied_there, no_balancer, no_nat, no_neighbour, no_route, no_router, no_rule, off_rule}
-use Rattle.northd_core.proofs.untouched.SameRules.{key_owner, stateful_too}
+use Rattle.northd_core.proofs.Joined.{kinds}
+use Rattle.northd_core.proofs.RowUnits.{applied_there, neither, no_port, no_rows_beside, no_rule, no_switch, off_rule, router_port_off}
+use Rattle.northd_core.proofs.untouched.SameRules.{key_owner, router_key_owner, stateful_too}
 use Rattle.northd_core.proofs.untouched.SameUnits.{both_none, untouched_stay}
 
 -- ---- tests and lists
@@ -73,6 +76,11 @@ same_unless true false h = h refl
 same_unless false true h = h refl
 same_unless false false h = refl
 
+-- a list that has none is empty
+has_none : {X : Type 0} (xs : List X) → has_some xs ≡ false → xs ≡ []
+has_none [] h = refl
+has_none (x ∷ xs) h = absurd (true≢false h)
+
 -- the values of what passes are the values that pass
 values_filtered : (test : SwitchPort → Bool) (es : List (Name × SwitchPort)) → values_of (filter (λ e. test e.1) es) ≡ filter test (values_of es)
 values_filtered test [] = refl
@@ -95,6 +103,37 @@ switch_record net valid r d on = by (at net.acls r) refl on
 switch_listed : (net : Network) (d : Name) (sw : Switch) → at net.switches d ≡ Some sw → Among d (keys_of net.switches)
 switch_listed net d sw is = among_map (λ (e : Name × Switch). e.0) (d, sw) net.switches (at_among net.switches d sw is)
 
+-- a rule has no rows on a switch that isn't there
+rule_nowhere : (net : Network) → IsValid net → (r d : Name) → at net.switches d ≡ None → rows_of net (unit.Rule r d) ≡ []
+rule_nowhere net valid r d none = off_rule net r d (false_unless (is_rule_on net r d) (λ on. let sw = switch_record net valid r d on in none-some sw.0 (sym none ∙ sw.1)))
+
+-- the unit of a router's port
+port_routed : (net : Network) (q : Name) (p : RouterPort) → at net.router_ports q ≡ Some p → Among (unit.Port q) (routed_units net)
+port_routed net q p is =
+    let u = unit.Port q in
+    among_left u _ _ (among_left u _ _ (among_left u _ _ (among_left u _ _ (among_left u _ _
+    (among_map unit.Port q (keys_of net.router_ports) (among_map (λ (e : Name × RouterPort). e.0) (q, p) net.router_ports (at_among net.router_ports q p is)))))))
+
+-- a unit that is no port, no rule and no switch is one of those that routers and balancers have
+module _ (net : Network) (u : UnitId) (not_port : (q : Name) → u ≡ unit.Port q → ⊥) (not_rule : (r d : Name) → u ≡ unit.Rule r d → ⊥) (not_switch : (d : Name) → u ≡ unit.Switch d → ⊥) where
+  no_unit : Among u ((map unit.Port (keys_of net.switch_ports) ++ rule_units net) ++ map unit.Switch (keys_of net.switches)) → ⊥
+  no_unit m = elim (among_append u _ (map unit.Switch (keys_of net.switches)) m) [
+    | inr x ↦ (let d = map_among unit.Switch u (keys_of net.switches) x in not_switch d.0 d.2)
+    | inl m ↦ elim (among_append u (map unit.Port (keys_of net.switch_ports)) (rule_units net) m) [
+      | inl x ↦ (let q = map_among unit.Port u (keys_of net.switch_ports) x in not_port q.0 q.2)
+      | inr x ↦ (
+          let e = flat_map_among (units_of_rule net) u net.acls x in
+          let d = map_among (unit.Rule e.0.0) u _ e.2 in
+          not_rule e.0.0 d.0 d.2)
+    ]
+  ]
+
+  is_routed : Among u (units_of net) → Among u (routed_units net)
+  is_routed m = elim (among_append u ((map unit.Port (keys_of net.switch_ports) ++ rule_units net) ++ map unit.Switch (keys_of net.switches)) (routed_units net) (kinds net u m)) [
+    | inl x ↦ absurd (no_unit x)
+    | inr x ↦ x
+  ]
+
 -- the name of a rule that is there
 rule_named : (net : Network) (r : Name) (x : Acl) → at net.acls r ≡ Some x → Among r (keys_of net.acls)
 rule_named net r x is = among_map (λ (e : Name × Acl). e.0) (r, x) net.acls (at_among net.acls r x is)
@@ -114,19 +153,32 @@ module _ (before after : Lowering) (can : CanCompile before) (could : CanCompile
 
   -- the units that are named
   named_in : (u : UnitId) → Among u units → Among u touched
-  named_in u m = among_left u _ _ (among_left u _ _ (among_left u units _ m))
+  named_in u m = among_left u _ _ (among_left u units _ m)
+
+  beside_in : (u : UnitId) → Among u (beside_routers before.net after.net units rules) → Among u touched
+  beside_in u m = among_left u _ _ (among_right u units _ m)
 
   -- the rules that are named
   rule_in : (r : Name) (u : UnitId) → Among r rules → Among u (rule_touched before.net after.net r) → Among u touched
-  rule_in r u m n = among_left u _ _ (among_left u _ _ (among_right u units _ (among_flat_map (rule_touched before.net after.net) r u rules m n)))
+  rule_in r u m n = beside_in u (among_left u _ _ (among_left u _ _ (among_flat_map (rule_touched before.net after.net) r u rules m n)))
 
   -- all rules on the switches that are named
   on_named_in : (d : Name) (u : UnitId) → Among d (switches_in units) → Among u (rules_at before.net after.net d) → Among u touched
-  on_named_in d u m n = among_left u _ _ (among_right u _ _ (among_flat_map (rules_at before.net after.net) d u (switches_in units) m n))
+  on_named_in d u m n = beside_in u (among_left u _ _ (among_right u _ _ (among_flat_map (rules_at before.net after.net) d u (switches_in units) m n)))
 
-  -- the switches that begin or cease to be stateful, with their ports
+  -- the switches that begin or cease to track connections, with their ports
   turned_in : (s : Name) (u : UnitId) → Among s switches → Among u (turned_at before.net after.net s) → Among u touched
-  turned_in s u m n = among_right u _ _ (among_flat_map (turned_at before.net after.net) s u switches m n)
+  turned_in s u m n = beside_in u (among_right u _ _ (among_flat_map (turned_at before.net after.net) s u switches m n))
+
+  -- what routers and balancers have
+  routed_before : (u : UnitId) → Among u (routed_units before.net) → Among u touched
+  routed_before u m = among_right u _ _ (among_left u _ _ (among_left u (routed_units before.net) _ m))
+
+  routed_after : (u : UnitId) → Among u (routed_units after.net) → Among u touched
+  routed_after u m = among_right u _ _ (among_left u _ _ (among_right u (routed_units before.net) _ m))
+
+  to_router_in : (u : UnitId) → Among u (ports_to_routers before.net after.net) → Among u touched
+  to_router_in u m = among_right u _ _ (among_right u _ _ m)
 
   switch_named : (d : Name) → Among (unit.Switch d) units → Among d (switches_in units)
   switch_named d m = among_filter_map as_switch (unit.Switch d) d units m refl
@@ -174,83 +226,81 @@ module _ (before after : Lowering) (can : CanCompile before) (could : CanCompile
             let f = filter_at on_it after.net.switch_ports could.valid.in_order.switch_ports q p is in
             at_filter on_it before.net.switch_ports can.valid.in_order.switch_ports q p (same.ports q (port_beside q p (inr f.0) ((bytes_decides p.switch d).0 f.1)) ∙ f.0) f.1
 
-    -- a port with a key on it isn't named
-    had_beside : (q : Name) (k : PortKey) → at before.keys.ports q ≡ Some k → key_on_it (q, k) ≡ true → ¬ Among (unit.Port q) units
-    had_beside q k is on =
-        let o = key_owner before can q k is (same.had q k is) in
-        port_beside q o.0 (inl o.1) (o.2 ∙ sym ((bytes_decides d k.datapath).0 on))
+    module _ (sw : Switch) (is_switch : at before.net.switches d ≡ Some sw) where
+      there_after : at after.net.switches d ≡ Some sw
+      there_after = sym (same.switches d beside) ∙ is_switch
 
-    have_beside : (q : Name) (k : PortKey) → at after.keys.ports q ≡ Some k → key_on_it (q, k) ≡ true → ¬ Among (unit.Port q) units
-    have_beside q k is on =
-        let o = key_owner after could q k is (same.have q k is) in
-        port_beside q o.0 (inr o.1) (o.2 ∙ sym ((bytes_decides d k.datapath).0 on))
+      -- who has a key on it is one of its ports
+      port_with : (l : Lowering) → CanCompile l → at l.net.switches d ≡ Some sw → (q : Name) (k : PortKey) → at l.keys.ports q ≡ Some k → IsPortOf l.net q → key_on_it (q, k) ≡ true
+          → (port : SwitchPort) × (at l.net.switch_ports q ≡ Some port) × (port.switch ≡ d)
+      port_with l fits there_now q k is known on = elim known [
+        | inl s ↦ (let o = key_owner l fits q k is s in (o.0, o.1, o.2 ∙ sym ((bytes_decides d k.datapath).0 on)))
+        | inr r ↦ (let o = router_key_owner l fits q k is r in absurd (router_port_off l.net fits.valid d sw there_now q o.0 o.1 (o.2 ∙ sym ((bytes_decides d k.datapath).0 on))))
+      ]
 
-    -- its ports have the same keys
-    keys_same : ports_on before.keys.ports d ≡ ports_on after.keys.ports d
-    keys_same =
-        ap (λ (es : List (Name × PortKey)). map (λ e. (e.0, e.1.key)) es)
-        (same_found (filter key_on_it before.keys.ports) (filter key_on_it after.keys.ports) (filter_sorted key_on_it before.keys.ports can.hold.ports_in_order) (filter_sorted key_on_it after.keys.ports could.hold.ports_in_order) stays was)
-      where
-        stays : (q : Name) (k : PortKey) → at (filter key_on_it before.keys.ports) q ≡ Some k → at (filter key_on_it after.keys.ports) q ≡ Some k
-        stays q k is =
-            let f = filter_at key_on_it before.keys.ports can.hold.ports_in_order q k is in
-            at_filter key_on_it after.keys.ports could.hold.ports_in_order q k (sym (same.port_keys q (had_beside q k f.0 f.1)) ∙ f.0) f.1
+      -- its ports have the same keys
+      keys_same : ports_on before.keys.ports d ≡ ports_on after.keys.ports d
+      keys_same =
+          ap (λ (es : List (Name × PortKey)). map (λ e. (e.0, e.1.key)) es)
+          (same_found (filter key_on_it before.keys.ports) (filter key_on_it after.keys.ports) (filter_sorted key_on_it before.keys.ports can.hold.ports_in_order) (filter_sorted key_on_it after.keys.ports could.hold.ports_in_order) stays was)
+        where
+          stays : (q : Name) (k : PortKey) → at (filter key_on_it before.keys.ports) q ≡ Some k → at (filter key_on_it after.keys.ports) q ≡ Some k
+          stays q k is =
+              let f = filter_at key_on_it before.keys.ports can.hold.ports_in_order q k is in
+              let p = port_with before can is_switch q k f.0 (same.had q k f.0) f.1 in
+              at_filter key_on_it after.keys.ports could.hold.ports_in_order q k (sym (same.port_keys q p.0 (port_beside q p.0 (inl p.1) p.2) p.1) ∙ f.0) f.1
 
-        was : (q : Name) (k : PortKey) → at (filter key_on_it after.keys.ports) q ≡ Some k → at (filter key_on_it before.keys.ports) q ≡ Some k
-        was q k is =
-            let f = filter_at key_on_it after.keys.ports could.hold.ports_in_order q k is in
-            at_filter key_on_it before.keys.ports can.hold.ports_in_order q k (same.port_keys q (have_beside q k f.0 f.1) ∙ f.0) f.1
+          was : (q : Name) (k : PortKey) → at (filter key_on_it after.keys.ports) q ≡ Some k → at (filter key_on_it before.keys.ports) q ≡ Some k
+          was q k is =
+              let f = filter_at key_on_it after.keys.ports could.hold.ports_in_order q k is in
+              let p = port_with after could there_after q k f.0 (same.have q k f.0) f.1 in
+              let out = port_beside q p.0 (inr p.1) p.2 in
+              at_filter key_on_it before.keys.ports can.hold.ports_in_order q k (same.port_keys q p.0 out (same.ports q out ∙ p.1) ∙ f.0) f.1
 
-    -- where none of the rules that are named applies to it, it tracks connections as it did
-    module _ (off : (r : Name) → Among r rules → ¬ Among d (switches_of_rule before.net after.net r)) where
-      rule_stays : (r : Name) (x : Acl) → at before.net.acls r ≡ Some x → applies before.net d x ≡ true → (at after.net.acls r ≡ Some x) × (sets_of before.net ≡ sets_of after.net)
-      rule_stays r x is on =
-          let unnamed : ¬ Among r rules = λ m. off r m (on_before r d beside (ap (applies_if before.net d) is ∙ on)) in
-          (sym (same.rules r unnamed) ∙ is, same.sets r x unnamed is)
+      -- where none of the rules that are named applies to it, it tracks connections as it did
+      module _ (off : (r : Name) → Among r rules → ¬ Among d (switches_of_rule before.net after.net r)) where
+        rule_stays : (r : Name) (x : Acl) → at before.net.acls r ≡ Some x → applies before.net d x ≡ true → (at after.net.acls r ≡ Some x) × (sets_of before.net ≡ sets_of after.net)
+        rule_stays r x is on =
+            let unnamed : ¬ Among r rules = λ m. off r m (on_before r d beside (ap (applies_if before.net d) is ∙ on)) in
+            (sym (same.rules r unnamed) ∙ is, same.sets r x unnamed is)
 
-      rule_was : (r : Name) (x : Acl) → at after.net.acls r ≡ Some x → applies after.net d x ≡ true → (at before.net.acls r ≡ Some x) × (sets_of after.net ≡ sets_of before.net)
-      rule_was r x is on =
-          let unnamed : ¬ Among r rules = λ m. off r m (on_after r d (ap (applies_if after.net d) is ∙ on)) in
-          let was = same.rules r unnamed ∙ is in
-          (was, sym (same.sets r x unnamed was))
+        rule_was : (r : Name) (x : Acl) → at after.net.acls r ≡ Some x → applies after.net d x ≡ true → (at before.net.acls r ≡ Some x) × (sets_of after.net ≡ sets_of before.net)
+        rule_was r x is on =
+            let unnamed : ¬ Among r rules = λ m. off r m (on_after r d (ap (applies_if after.net d) is ∙ on)) in
+            let was = same.rules r unnamed ∙ is in
+            (was, sym (same.sets r x unnamed was))
 
-      stateful_same : is_stateful before.net d ≡ is_stateful after.net d
-      stateful_same =
-          same_tests (is_stateful before.net d) (is_stateful after.net d) (stateful_too before after can could d keys_same rule_stays) (stateful_too after before could can d (sym keys_same) rule_was)
+        stateful_same : is_stateful before.net d ≡ is_stateful after.net d
+        stateful_same =
+            same_tests (is_stateful before.net d) (is_stateful after.net d) (stateful_too before after can could d keys_same rule_stays) (stateful_too after before could can d (sym keys_same) rule_was)
 
   -- the switch of a unit that isn't touched tracks connections as it did
-  stateful_kept : (s : Name) (u : UnitId) → Among u (unit.Switch s ∷ ports_at after.net s) → ¬ Among u touched → is_stateful before.net s ≡ is_stateful after.net s
-  stateful_kept s u m out =
-      same_unless (is_stateful before.net s) (is_stateful after.net s) (λ turned.
-      let mine : Among u (turned_at before.net after.net s) = subst (λ b. Among u (cond b (unit.Switch s ∷ ports_at after.net s) [])) (sym turned) m in
-      let aside : ¬ Among s switches = λ n. out (turned_in s u n mine) in
-      stateful_same s (λ n. aside (among_left s (switches_in units) _ (switch_named s n)))
-      (λ r n k. aside (among_right s (switches_in units) _ (among_flat_map (switches_of_rule before.net after.net) r s rules n k))))
+  module _ (s : Name) (sw : Switch) (is_there : at after.net.switches s ≡ Some sw) (u : UnitId) (mine : Among u (unit.Switch s ∷ ports_at after.net s)) (out : ¬ Among u touched) where
+    aside : turns before.net after.net s ≡ true → ¬ Among s switches
+    aside turned n = out (turned_in s u n (subst (λ b. Among u (cond b (unit.Switch s ∷ ports_at after.net s) [])) (sym turned) mine))
 
-  -- ---- facts of routers and balancers
+    stateful_kept : is_stateful before.net s ≡ is_stateful after.net s
+    stateful_kept =
+        same_unless (is_stateful before.net s) (is_stateful after.net s) (λ turned.
+        let away = aside (or_left (is_other (is_stateful before.net s) (is_stateful after.net s)) (is_other (has_balancer before.net s) (has_balancer after.net s)) turned) in
+        let beside : ¬ Among (unit.Switch s) units = λ n. away (among_left s _ _ (among_left s (switches_in units) _ (switch_named s n))) in
+        stateful_same s beside sw (same.switches s beside ∙ is_there) (λ r n k. away (among_left s _ _ (among_right s (switches_in units) _ (among_flat_map (switches_of_rule before.net after.net) r s rules n k)))))
 
-  balanced_same : (s : Name) → has_balancer before.net s ≡ has_balancer after.net s
-  balanced_same s = ap (λ es. has_some (filter (serves_at s) (values_of es))) (can.gate.balancers ∙ sym could.gate.balancers)
-
-  router_port_same : (q : Name) → at before.net.router_ports q ≡ at after.net.router_ports q
-  router_port_same q = ap (λ (es : List (Name × RouterPort)). at es q) (can.gate.router_ports ∙ sym could.gate.router_ports)
+    balanced_kept : has_balancer before.net s ≡ has_balancer after.net s
+    balanced_kept =
+        same_unless (has_balancer before.net s) (has_balancer after.net s) (λ turned.
+        let away = aside (or_right (is_other (is_stateful before.net s) (is_stateful after.net s)) (is_other (has_balancer before.net s) (has_balancer after.net s)) turned) in
+        by away (has_some before.net.load_balancers || has_some after.net.load_balancers) refl)
+      where
+        by : ¬ Among s switches → (b : Bool) → (has_some before.net.load_balancers || has_some after.net.load_balancers) ≡ b → has_balancer before.net s ≡ has_balancer after.net s
+        by away true some = absurd (away (among_right s _ _ (subst (λ b. Among s (cond b (keys_of after.net.switches) [])) (sym some) (switch_listed after.net s sw is_there))))
+        by away false none =
+            let two = neither (has_some before.net.load_balancers) (has_some after.net.load_balancers) none in
+            ap (λ es. has_some (filter (serves_at s) (values_of es))) (has_none before.net.load_balancers two.0 ∙ sym (has_none after.net.load_balancers two.1))
 
   -- the fact has the same value
   abbrev Agrees : Fact → Type 0
   Agrees x = Agree before.net after.net x
-
-  router_port_agrees : (q : Name) (x : Fact) → Among x (router_port_reads q) → Agrees x
-  router_port_agrees q x m = elim (among_cases x (fact.RouterPort q) (fact.Answered q ∷ []) m) [
-    | inl is ↦ subst Agrees (sym is) (router_port_same q)
-    | inr later ↦ elim (among_cases x (fact.Answered q) [] later) [
-      | inl is ↦ subst Agrees (sym is) (ap (λ (es : List (Name × RouterPort)). answered_if before.net (at es q)) can.gate.router_ports ∙ sym (ap (λ (es : List (Name × RouterPort)). answered_if after.net (at es q)) could.gate.router_ports))
-      | inr none ↦ absurd (among_none x none)
-    ]
-  ]
-
-  behind_agrees : (o : Option Name) (x : Fact) → Among x (on_some o router_port_reads) → Agrees x
-  behind_agrees None x m = absurd (among_none x m)
-  behind_agrees (Some q) x m = router_port_agrees q x m
 
   -- ---- ports
 
@@ -258,45 +308,82 @@ module _ (before after : Lowering) (can : CanCompile before) (could : CanCompile
     unnamed_port : ¬ Among (unit.Port q) units
     unnamed_port m = out (named_in (unit.Port q) m)
 
-    -- its switch tracks connections as it did
-    port_stateful : (p : SwitchPort) → at before.net.switch_ports q ≡ Some p → is_stateful before.net p.switch ≡ is_stateful after.net p.switch
-    port_stateful p is =
-        let still : at after.net.switch_ports q ≡ Some p = sym (same.ports q unnamed_port) ∙ is in
-        let own = among_filter (λ (e : Name × SwitchPort). same_name e.1.switch p.switch) (q, p) after.net.switch_ports (at_among after.net.switch_ports q p still) ((bytes_decides p.switch p.switch).1 refl) in
-        let mine : Among (unit.Port q) (ports_at after.net p.switch) = among_map (λ (e : Name × SwitchPort). unit.Port e.0) (q, p) _ own in
-        stateful_kept p.switch (unit.Port q) (there mine) out
+    -- it is no port of a router
+    none_before : at before.net.router_ports q ≡ None
+    none_before = none_unless (at before.net.router_ports q) (λ p is. out (routed_before (unit.Port q) (port_routed before.net q p is)))
 
-    port_agrees : (o : Option SwitchPort) → at before.net.switch_ports q ≡ o → (x : Fact) → Among x (port_reads q o) → Agrees x
-    port_agrees None here_is x m = router_port_agrees q x m
-    port_agrees (Some p) here_is x m = elim (among_cases x (fact.SwitchPort q) (fact.Stateful p.switch ∷ fact.Balanced p.switch ∷ on_some p.router_port router_port_reads) m) [
-      | inl is ↦ subst Agrees (sym is) (same.ports q unnamed_port)
-      | inr more ↦ elim (among_cases x (fact.Stateful p.switch) (fact.Balanced p.switch ∷ on_some p.router_port router_port_reads) more) [
-        | inl is ↦ subst Agrees (sym is) (port_stateful p here_is)
-        | inr rest ↦ elim (among_cases x (fact.Balanced p.switch) (on_some p.router_port router_port_reads) rest) [
-          | inl is ↦ subst Agrees (sym is) (balanced_same p.switch)
-          | inr behind ↦ behind_agrees p.router_port x behind
+    none_after : at after.net.router_ports q ≡ None
+    none_after = none_unless (at after.net.router_ports q) (λ p is. out (routed_after (unit.Port q) (port_routed after.net q p is)))
+
+    module _ (p : SwitchPort) (here_is : at before.net.switch_ports q ≡ Some p) where
+      still : at after.net.switch_ports q ≡ Some p
+      still = sym (same.ports q unnamed_port) ∙ here_is
+
+      -- its switch tracks connections as it did
+      on_it_still : Among (unit.Port q) (unit.Switch p.switch ∷ ports_at after.net p.switch)
+      on_it_still =
+          let own = among_filter (λ (e : Name × SwitchPort). same_name e.1.switch p.switch) (q, p) after.net.switch_ports (at_among after.net.switch_ports q p still) ((bytes_decides p.switch p.switch).1 refl) in
+          there (among_map (λ (e : Name × SwitchPort). unit.Port e.0) (q, p) _ own)
+
+      port_stateful : is_stateful before.net p.switch ≡ is_stateful after.net p.switch
+      port_stateful = let sw = on_switch after.net could.valid q p still in stateful_kept p.switch sw.0 sw.1 (unit.Port q) on_it_still out
+
+      port_balanced : has_balancer before.net p.switch ≡ has_balancer after.net p.switch
+      port_balanced = let sw = on_switch after.net could.valid q p still in balanced_kept p.switch sw.0 sw.1 (unit.Port q) on_it_still out
+
+      -- no router has a port that could be behind it
+      no_routers : is_some p.router_port ≡ true → (has_some before.net.router_ports || has_some after.net.router_ports) ≡ false
+      no_routers some = false_unless (has_some before.net.router_ports || has_some after.net.router_ports) (λ are.
+          let own = among_filter (λ (e : Name × SwitchPort). is_some e.1.router_port) (q, p) after.net.switch_ports (at_among after.net.switch_ports q p still) some in
+          out (to_router_in (unit.Port q) (subst (λ b. Among (unit.Port q) (cond b (map (λ (e : Name × SwitchPort). unit.Port e.0) (filter (λ (e : Name × SwitchPort). is_some e.1.router_port) after.net.switch_ports)) [])) (sym are)
+          (among_map (λ (e : Name × SwitchPort). unit.Port e.0) (q, p) _ own))))
+
+      router_port_agrees : (r : Name) → is_some p.router_port ≡ true → (x : Fact) → Among x (router_port_reads r) → Agrees x
+      router_port_agrees r some x m =
+          let two = neither (has_some before.net.router_ports) (has_some after.net.router_ports) (no_routers some) in
+          let bare : at before.net.router_ports r ≡ None = ap (λ (es : List (Name × RouterPort)). at es r) (has_none before.net.router_ports two.0) in
+          let bare_too : at after.net.router_ports r ≡ None = ap (λ (es : List (Name × RouterPort)). at es r) (has_none after.net.router_ports two.1) in
+          elim (among_cases x (fact.RouterPort r) (fact.Answered r ∷ []) m) [
+            | inl is ↦ subst Agrees (sym is) (bare ∙ sym bare_too)
+            | inr later ↦ elim (among_cases x (fact.Answered r) [] later) [
+              | inl is ↦ subst Agrees (sym is) (ap (answered_if before.net) bare ∙ sym (ap (answered_if after.net) bare_too))
+              | inr none ↦ absurd (among_none x none)
+            ]
+          ]
+
+      behind_agrees : (o : Option Name) → p.router_port ≡ o → (x : Fact) → Among x (on_some o router_port_reads) → Agrees x
+      behind_agrees None is x m = absurd (among_none x m)
+      behind_agrees (Some r) is x m = router_port_agrees r (ap is_some is) x m
+
+      port_agrees : (x : Fact) → Among x (port_reads q (Some p)) → Agrees x
+      port_agrees x m = elim (among_cases x (fact.SwitchPort q) (fact.Stateful p.switch ∷ fact.Balanced p.switch ∷ on_some p.router_port router_port_reads) m) [
+        | inl is ↦ subst Agrees (sym is) (same.ports q unnamed_port)
+        | inr more ↦ elim (among_cases x (fact.Stateful p.switch) (fact.Balanced p.switch ∷ on_some p.router_port router_port_reads) more) [
+          | inl is ↦ subst Agrees (sym is) port_stateful
+          | inr rest ↦ elim (among_cases x (fact.Balanced p.switch) (on_some p.router_port router_port_reads) rest) [
+            | inl is ↦ subst Agrees (sym is) port_balanced
+            | inr behind ↦ behind_agrees p.router_port refl x behind
+          ]
         ]
       ]
-    ]
 
-    -- its switch keeps its key
-    port_on : (d : Name) → datapath_of before.net (unit.Port q) ≡ Some d → live_datapath_key before.keys d ≡ live_datapath_key after.keys d
-    port_on d on = by (at before.net.switch_ports q) refl
-      where
-        by : (o : Option SwitchPort) → at before.net.switch_ports q ≡ o → live_datapath_key before.keys d ≡ live_datapath_key after.keys d
-        by None is =
-            absurd (none-some d (sym (ap (λ (o : Option SwitchPort). datapath_of_port o (at before.net.router_ports q)) is ∙ ap (λ (es : List (Name × RouterPort)). datapath_of_port None (at es q)) can.gate.router_ports) ∙ on))
-        by (Some p) is =
-            let here_on : p.switch ≡ d = same_Some p.switch d (sym (ap (λ (o : Option SwitchPort). datapath_of_port o (at before.net.router_ports q)) is) ∙ on) in
-            subst (λ n. live_datapath_key before.keys n ≡ live_datapath_key after.keys n) here_on (same.beneath q p unnamed_port is)
+      -- its switch keeps its key
+      port_on : (d : Name) → datapath_of before.net (unit.Port q) ≡ Some d → live_datapath_key before.keys d ≡ live_datapath_key after.keys d
+      port_on d on =
+          let here_on : p.switch ≡ d = same_Some p.switch d (sym (ap (λ (o : Option SwitchPort). datapath_of_port o (at before.net.router_ports q)) here_is) ∙ on) in
+          subst (λ n. live_datapath_key before.keys n ≡ live_datapath_key after.keys n) here_on (same.beneath q p unnamed_port here_is)
 
-    port_untouched : IsUntouched before after (unit.Port q)
-    port_untouched = record {
-      reads = port_agrees (at before.net.switch_ports q) refl;
-      place = λ i. datapath_of_port (same.ports q unnamed_port i) (router_port_same q i);
-      on = port_on;
-      names = same.port_keys q unnamed_port;
-    }
+      port_untouched : IsUntouched before after (unit.Port q)
+      port_untouched = record {
+        reads = λ x m. port_agrees x (subst (λ (o : Option SwitchPort). Among x (port_reads q o)) here_is m);
+        place = λ i. datapath_of_port (same.ports q unnamed_port i) ((none_before ∙ sym none_after) i);
+        on = port_on;
+        names = same.port_keys q p unnamed_port here_is;
+      }
+
+    port_same : (o : Option SwitchPort) → at before.net.switch_ports q ≡ o → Stays (unit.Port q)
+    port_same None is = both_none before after can could (unit.Port q) (no_port before.net q is none_before) (no_port after.net q (sym (same.ports q unnamed_port) ∙ is) none_after)
+    port_same (Some p) is = untouched_stay before after can could (unit.Port q) (port_untouched p is)
 
   -- ---- switches
 
@@ -308,25 +395,33 @@ module _ (before after : Lowering) (can : CanCompile before) (could : CanCompile
     unknown_same : some_take_unknown before.net d ≡ some_take_unknown after.net d
     unknown_same = ap (λ (qs : List SwitchPort). list_any (λ (q : SwitchPort). takes_unknown q.addresses) (filter (λ (q : SwitchPort). q.enabled) qs)) (ports_same d unnamed_switch)
 
-    switch_agrees : (x : Fact) → Among x (fact.Stateful d ∷ fact.Balanced d ∷ fact.TakesUnknown d ∷ []) → Agrees x
-    switch_agrees x m = elim (among_cases x (fact.Stateful d) (fact.Balanced d ∷ fact.TakesUnknown d ∷ []) m) [
-      | inl is ↦ subst Agrees (sym is) (stateful_kept d (unit.Switch d) here out)
-      | inr more ↦ elim (among_cases x (fact.Balanced d) (fact.TakesUnknown d ∷ []) more) [
-        | inl is ↦ subst Agrees (sym is) (balanced_same d)
-        | inr rest ↦ elim (among_cases x (fact.TakesUnknown d) [] rest) [
-          | inl is ↦ subst Agrees (sym is) unknown_same
-          | inr none ↦ absurd (among_none x none)
+    module _ (sw : Switch) (is_switch : at before.net.switches d ≡ Some sw) where
+      now_there : at after.net.switches d ≡ Some sw
+      now_there = sym (same.switches d unnamed_switch) ∙ is_switch
+
+      switch_agrees : (x : Fact) → Among x (fact.Stateful d ∷ fact.Balanced d ∷ fact.TakesUnknown d ∷ []) → Agrees x
+      switch_agrees x m = elim (among_cases x (fact.Stateful d) (fact.Balanced d ∷ fact.TakesUnknown d ∷ []) m) [
+        | inl is ↦ subst Agrees (sym is) (stateful_kept d sw now_there (unit.Switch d) here out)
+        | inr more ↦ elim (among_cases x (fact.Balanced d) (fact.TakesUnknown d ∷ []) more) [
+          | inl is ↦ subst Agrees (sym is) (balanced_kept d sw now_there (unit.Switch d) here out)
+          | inr rest ↦ elim (among_cases x (fact.TakesUnknown d) [] rest) [
+            | inl is ↦ subst Agrees (sym is) unknown_same
+            | inr none ↦ absurd (among_none x none)
+          ]
         ]
       ]
-    ]
 
-    switch_untouched : IsUntouched before after (unit.Switch d)
-    switch_untouched = record {
-      reads = switch_agrees;
-      place = refl;
-      on = λ e is. subst (λ n. live_datapath_key before.keys n ≡ live_datapath_key after.keys n) (same_Some d e is) (same.switch_keys d unnamed_switch);
-      names = ap (λ (o : Option Switch). is_some (option_map row.Switch o)) (same.switches d unnamed_switch);
-    }
+      switch_untouched : IsUntouched before after (unit.Switch d)
+      switch_untouched = record {
+        reads = switch_agrees;
+        place = refl;
+        on = λ e is. subst (λ n. live_datapath_key before.keys n ≡ live_datapath_key after.keys n) (same_Some d e is) (same.switch_keys d sw unnamed_switch is_switch);
+        names = ap (λ (o : Option Switch). is_some (option_map row.Switch o)) (same.switches d unnamed_switch);
+      }
+
+    switch_same : (o : Option Switch) → at before.net.switches d ≡ o → Stays (unit.Switch d)
+    switch_same None is = both_none before after can could (unit.Switch d) (no_switch before.net d is) (no_switch after.net d (sym (same.switches d unnamed_switch) ∙ is))
+    switch_same (Some sw) is = untouched_stay before after can could (unit.Switch d) (switch_untouched sw is)
 
   -- ---- rules
 
@@ -365,17 +460,22 @@ module _ (before after : Lowering) (can : CanCompile before) (could : CanCompile
         (off_rule after.net r d (false_unless (is_rule_on after.net r d) (λ on. off (or_right (is_rule_on before.net r d) (is_rule_on after.net r d) on))))
 
     -- any other rule has the same record, and the same ports and members of sets to name
-    rule_untouched : ¬ Among r rules → ¬ Among (unit.Switch d) units → (x : Acl) → at before.net.acls r ≡ Some x → IsUntouched before after (unit.Rule r d)
-    rule_untouched unnamed beside x here_is = record {
+    rule_untouched : ¬ Among r rules → ¬ Among (unit.Switch d) units → (x : Acl) → at before.net.acls r ≡ Some x → (sw : Switch) → at before.net.switches d ≡ Some sw → IsUntouched before after (unit.Rule r d)
+    rule_untouched unnamed beside x here_is sw is_switch = record {
       reads = λ y m. elim (among_cases y (fact.Rule r) [] m) [ inl is ↦ subst Agrees (sym is) (same.rules r unnamed) | inr none ↦ absurd (among_none y none) ];
       place = refl;
-      on = λ e is. subst (λ n. live_datapath_key before.keys n ≡ live_datapath_key after.keys n) (same_Some d e is) (same.switch_keys d beside);
-      names = (keys_same d beside, same.sets r x unnamed here_is);
+      on = λ e is. subst (λ n. live_datapath_key before.keys n ≡ live_datapath_key after.keys n) (same_Some d e is) (same.switch_keys d sw beside is_switch);
+      names = (keys_same d beside sw is_switch, same.sets r x unnamed here_is);
     }
+
+    rule_somewhere : ¬ Among r rules → ¬ Among (unit.Switch d) units → (x : Acl) → at before.net.acls r ≡ Some x → (o : Option Switch) → at before.net.switches d ≡ o → Stays (unit.Rule r d)
+    rule_somewhere unnamed beside x here_is None is =
+        both_none before after can could (unit.Rule r d) (rule_nowhere before.net can.valid r d is) (rule_nowhere after.net could.valid r d (sym (same.switches d beside) ∙ is))
+    rule_somewhere unnamed beside x here_is (Some sw) is = untouched_stay before after can could (unit.Rule r d) (rule_untouched unnamed beside x here_is sw is)
 
     rule_kept : ¬ Among r rules → ¬ Among (unit.Switch d) units → (o : Option Acl) → at before.net.acls r ≡ o → Stays (unit.Rule r d)
     rule_kept unnamed beside None is = both_none before after can could (unit.Rule r d) (no_rule before.net r d is) (no_rule after.net r d (sym (same.rules r unnamed) ∙ is))
-    rule_kept unnamed beside (Some x) is = untouched_stay before after can could (unit.Rule r d) (rule_untouched unnamed beside x is)
+    rule_kept unnamed beside (Some x) is = rule_somewhere unnamed beside x is (at before.net.switches d) refl
 
     rule_same : Stays (unit.Rule r d)
     rule_same = elim (among_or_not d (switches_in units)) [
@@ -388,17 +488,26 @@ module _ (before after : Lowering) (can : CanCompile before) (could : CanCompile
           ])
     ]
 
+  -- ---- what routers and balancers have
+
+  -- who isn't touched is no unit of them, and has no rows
+  routed_stays : (u : UnitId) → ((q : Name) → u ≡ unit.Port q → ⊥) → ((r d : Name) → u ≡ unit.Rule r d → ⊥) → ((d : Name) → u ≡ unit.Switch d → ⊥) → ¬ Among u touched → Stays u
+  routed_stays u not_port not_rule not_switch out =
+      both_none before after can could u
+      (no_rows_beside before.net can.valid u (λ m. out (routed_before u (is_routed before.net u not_port not_rule not_switch m))))
+      (no_rows_beside after.net could.valid u (λ m. out (routed_after u (is_routed after.net u not_port not_rule not_switch m))))
+
   -- ---- all units
 
   same_flows : (u : UnitId) → ¬ Among u touched → Stays u
-  same_flows (unit.Port q) out = untouched_stay before after can could (unit.Port q) (port_untouched q out)
+  same_flows (unit.Port q) out = port_same q out (at before.net.switch_ports q) refl
   same_flows (unit.Rule r d) out = rule_same r d out
-  same_flows (unit.Route r) out = both_none before after can could (unit.Route r) (no_route before.net can.gate r) (no_route after.net could.gate r)
-  same_flows (unit.Neighbour port ip) out = both_none before after can could (unit.Neighbour port ip) (no_neighbour before.net can.gate port ip) (no_neighbour after.net could.gate port ip)
-  same_flows (unit.Nat r) out = both_none before after can could (unit.Nat r) (no_nat before.net can.gate r) (no_nat after.net could.gate r)
-  same_flows (unit.Balancer b d) out = both_none before after can could (unit.Balancer b d) (no_balancer before.net can.gate b d) (no_balancer after.net could.gate b d)
-  same_flows (unit.Switch d) out = untouched_stay before after can could (unit.Switch d) (switch_untouched d out)
-  same_flows (unit.Router d) out = both_none before after can could (unit.Router d) (no_router before.net can.gate d) (no_router after.net could.gate d)
+  same_flows (unit.Route r) out = routed_stays (unit.Route r) (λ q h. cc) (λ r d h. cc) (λ d h. cc) out
+  same_flows (unit.Neighbour port ip) out = routed_stays (unit.Neighbour port ip) (λ q h. cc) (λ r d h. cc) (λ d h. cc) out
+  same_flows (unit.Nat r) out = routed_stays (unit.Nat r) (λ q h. cc) (λ r d h. cc) (λ d h. cc) out
+  same_flows (unit.Balancer b d) out = routed_stays (unit.Balancer b d) (λ q h. cc) (λ r d h. cc) (λ d h. cc) out
+  same_flows (unit.Switch d) out = switch_same d out (at before.net.switches d) refl
+  same_flows (unit.Router d) out = routed_stays (unit.Router d) (λ q h. cc) (λ r d h. cc) (λ d h. cc) out
 
 -- ---- the law
 

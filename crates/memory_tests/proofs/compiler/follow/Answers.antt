@@ -1,7 +1,6 @@
 use Rattle.std.proofs.Common.{subst, sym}
 use Rattle.memory_tests.proofs.Left.{left_compiled}
 use Rattle.nb_rules.specs.Valid.{IsValid}
-use Rattle.northd_core.specs.Gate.{IsOfSwitches}
 use Rattle.northd_core.specs.Held.{StandsFor}
 use Rattle.memory_tests.proofs.compiler.follow.Goals as goal
 
@@ -17,6 +16,5 @@ returns-in_err-gone c = left_compiled _ _ _ c.prepare.ensures.left c.requires.co
 pub returns : goal.returns
 returns c = record {
   valid = subst IsValid (sym c.apply.ensures) c.requires.valid;
-  gate = subst IsOfSwitches (sym c.apply.ensures) (subst IsOfSwitches c.after.ensures (c.is_of_switches.ensures c.if-not-is_of_switches.false));
   stands = subst (λ net. StandsFor net c.apply-flows.new.self) (sym c.apply.ensures) (c.apply-flows.ensures.leads _ _ c.in_ok-change.ensures.planned);
 }

@@ -8,13 +8,13 @@ use Rattle.northd_core.proofs.NorthPlans.{pairs_listed}
 use Rattle.northd_core.proofs.northd.Northd.pair.Goals as goal
 
 pub returns-in_err-flow-clause-each : goal.returns-in_err-flow-clause-each
-returns-in_err-flow-clause-each c net valid gate stands =
+returns-in_err-flow-clause-each c net valid stands =
     let held = subst (λ (n : North). HaveSame (flows_of unit_order n.pairs.origins) (pairs_of_unit net)) (sym c.self.view_is) stands.pairs in
     subst (λ (n : North). AreListed (IsPairOf net) (keys_of n.pairs.counts)) c.self.view_is
-    (pairs_listed net valid gate c.exact_pairs.ensures c.self.inside.pairs.origins (keys_of c.self.inside.pairs.counts) held c.flow.ensures.once c.flow.ensures.held)
+    (pairs_listed net valid c.exact_pairs.ensures c.self.inside.pairs.origins (keys_of c.self.inside.pairs.counts) held c.flow.ensures.once c.flow.ensures.held)
 
 pub returns-clause-each : goal.returns-clause-each
-returns-clause-each c net valid gate stands =
+returns-clause-each c net valid stands =
     let held = subst (λ (n : North). HaveSame (flows_of unit_order n.pairs.origins) (pairs_of_unit net)) (sym c.self.view_is) stands.pairs in
     subst (λ (n : North). AreListed (IsPairOf net) (keys_of n.pairs.counts)) c.self.view_is
-    (pairs_listed net valid gate c.exact_pairs.ensures c.self.inside.pairs.origins (keys_of c.self.inside.pairs.counts) held c.flow.ensures.once c.flow.ensures.held)
+    (pairs_listed net valid c.exact_pairs.ensures c.self.inside.pairs.origins (keys_of c.self.inside.pairs.counts) held c.flow.ensures.once c.flow.ensures.held)

@@ -42,7 +42,7 @@ returns-clause-left g c =
 pub returns-clause-planned : goal.returns-clause-planned
 returns-clause-planned g c =
     let keys = c.put_units-2.new.units.keys in
-    is_plan c.args.records.now c.args.plan.now.after c.requires.before c.requires.after c.requires.gate_before c.requires.gate_after c.exact_flow.ensures c.exact_pairs.ensures c.exact_units.ensures
+    is_plan c.args.records.now c.args.plan.now.after c.requires.before c.requires.after c.exact_flow.ensures c.exact_pairs.ensures c.exact_units.ensures
     c.new-units.result.keys c.put_units.new.units.keys keys c.in_ok-put_units.ensures (subst (λ (n : Network). HaveJoined (units_of n) c.put_units.new.units.keys keys) c.after.ensures c.in_ok-put_units-2.ensures)
     c.args.self.now (record { flows = c.prepare.new.self; pairs = c.prepare-2.new.self }) (record { flows = c.in_ok-flows-2.flows; pairs = c.in_ok-pairs.pairs })
     c.in_ok-flows.field-0.flows c.in_ok-flows.field-0.pairs

@@ -10,9 +10,8 @@ use Rattle.physical_flows.specs.Compiling.{basis_of}
 use Rattle.physical_flows.specs.Numbers.{datapath_number}
 use Rattle.physical_flows.specs.PlacedList.{placed_among, rows_placed}
 use Rattle.physical_flows.specs.Stages.{Basis}
-use Rattle.physical_flows.specs.TableList.{rows_among, group_among}
 use Rattle.physical_flows.specs.Units.{switch_here}
-use Rattle.physical_flows.proofs.Members.{groups_are}
+use Rattle.physical_flows.proofs.Members.{rows_among, group_among, groups_are}
 use Rattle.physical_flows.proofs.PlacedMembers.{same_rows}
 use Rattle.physical_flows.proofs.SwitchLists.{found_record, listed_ports}
 use Rattle.physical_flows.proofs.compile.Maps.push_switch_here.Goals as goal
