@@ -51,6 +51,7 @@ may_still m waiting next x w = record {
   aim_key = w.aim_key;
   in_live = w.in_live;
   aim_live = w.aim_live;
+  no_router = w.no_router;
   no_return = w.no_return;
 }
 

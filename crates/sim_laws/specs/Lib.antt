@@ -2,6 +2,7 @@
 pub mod journeys
 pub mod passes
 pub mod pipelines
+pub mod routers
 pub mod Effects
 pub mod EndNames
 pub mod Held

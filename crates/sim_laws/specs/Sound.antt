@@ -17,9 +17,11 @@ use Rattle.tunnel_keys.specs.declared.owner.Identity.{Identity}
 use Rattle.net_model.specs.declared.crossing.Crossing.{Crossing}
 use Rattle.net_model.specs.declared.crossing.Aim.{Aim}
 use Rattle.net_model.specs.declared.crossing.Aim.TheVariants.{ToPort, ToGroup}
+use Rattle.net_model.specs.Config.{router_identity}
 use Rattle.net_model.specs.State.{State, event_count}
 use Rattle.std.proofs.Math.Dec.{eqb as nat_eq}
 use Rattle.ovn_base.specs.names.ByName.{at}
+use Rattle.nb_records.specs.declared.router.Router.{Router}
 use Rattle.nb_records.specs.declared.switch.Switch.{Switch}
 use Rattle.ovn_base.specs.declared.address.Birth.{Birth}
 
@@ -52,7 +54,11 @@ abbrev pub IsAimOnLive : State → Identity → Aim → Type 0
 IsAimOnLive m datapath (ToPort id) = IsOnLive m datapath id
 IsAimOnLive m datapath (ToGroup g) = Unit {0}
 
--- a crossing may wait: its packet is whole, who it names has or had keys, and it doesn't go back to its port of entry
+-- no router has the identity
+abbrev pub IsNoRouter : Network → Identity → Type 0
+IsNoRouter net id = (router : Router) → at net.routers id.name ≡ Some router → router_identity router ≢ id
+
+-- A crossing may wait: its packet is whole, who it names has or had keys, it was sent in a switch, and it doesn't go back to its port of entry.
 pub record MayWait (m : State) (x : Crossing) : Type 0 where
   pub whole : IsWhole x.packet
   pub datapath_key : (h : HeldDatapath) × Among h (held_datapaths m.keys) × (h.owner ≡ x.datapath)
@@ -60,6 +66,7 @@ pub record MayWait (m : State) (x : Crossing) : Type 0 where
   pub aim_key : HasAimKey m.keys x.aim
   pub in_live : IsOnLive m x.datapath x.in_port
   pub aim_live : IsAimOnLive m x.datapath x.aim
+  pub no_router : IsNoRouter m.config.net x.datapath
   pub no_return : x.aim ≢ ToPort x.in_port
 
 -- the crossings that wait have numbers below the next one, each of its own

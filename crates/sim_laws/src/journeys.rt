@@ -1,21 +1,38 @@
 //! What the simulated chassis do with packets is what the network does, over rows and connection lists. Each function does nothing: call it, and
 //! its clauses are facts of the call.
 ghost use Rattle.sim_laws.specs.journeys.AtRest.{BeginsLaw, FinishesLaw};
-ghost use Rattle.sim_laws.specs.journeys.Events.{AllArriveLaw, DrainLaw, EnterAndDrainLaw, GoesThroughLaw, TravelLaw};
+ghost use Rattle.sim_laws.specs.journeys.Events.{AllArriveLaw, DrainLaw, EnterAndDrainLaw, GoesThroughLaw, RoutedThroughLaw, TravelLaw};
 ghost use Rattle.sim_laws.specs.journeys.Filling.{FillingLaw};
 ghost use Rattle.sim_laws.specs.journeys.First.{FirstLaw};
 ghost use Rattle.sim_laws.specs.journeys.Premises.{ReadyLaw, SoundOnLaw};
-ghost use Rattle.sim_laws.specs.journeys.Refining.{ArrivalJourneyLaw, EntryJourneyLaw, LossJourneyLaw};
+ghost use Rattle.sim_laws.specs.journeys.Refining.{ArrivalJourneyLaw, EntryJourneyLaw, LossJourneyLaw, RoutedEntryLaw};
 ghost use Rattle.sim_laws.specs.journeys.SeenLists.{SeenListsLaw};
 ghost use Rattle.sim_laws.specs.journeys.Ticking.{TickLaw};
 ghost use Rattle.sim_laws.specs.journeys.Turning.{DeltaLaw, TurnLaw};
 ghost use Rattle.sim_laws.specs.journeys.TurnedZones.{BindingLaw, ComingChassisLaw, EditingLaw, KeepingLaw, TurnedAtHomeLaw};
+ghost use Rattle.sim_laws.specs.routers.Passing.{IntoSwitchLaw, PassingLaw};
+ghost use Rattle.sim_laws.specs.routers.Visits.{RoutedArrivalLaw, RoutedVisitLaw};
 ghost use Rattle.flow_table.specs.declared.flow.Flow.{Flow};
-ghost use Rattle.std.specs.Prelude.{List};
+ghost use Rattle.std.specs.Prelude.{List, ℕ};
 
-use crate::switches::switch_passes;
+use crate::routers::router_passes;
+use crate::switches::{switch_passes, switches_lead_on};
 use flow_table::exact::exact_flow;
+use row_laws::routers::router_stages_are_the_way;
 use row_laws::rows::rows_can_be_lowered;
+
+/// Where each router is distributed, whatever walk takes on a copy that leaves a datapath for another, or comes into a switch from there, does what the
+/// network says of its whole way, whatever passes are left. So what becomes of a packet that comes in at a port is its visit, and of one
+/// that comes out of a tunnel its arrival.
+pub fn routed_passes()
+    ensures passes { (left : ℕ) → PassingLaw left }
+    ensures enters { (left : ℕ) → IntoSwitchLaw left }
+    ensures visits { RoutedVisitLaw }
+    ensures arrives { RoutedArrivalLaw }
+{
+    router_passes();
+    switches_lead_on();
+}
 
 /// A sound state of the network gives what the laws of passes ask of keys, zones and crossings, on each of its chassis; and each chassis that is
 /// held has all that they ask.
@@ -27,16 +44,21 @@ pub fn premises_of_sound()
 }
 
 /// What the simulated chassis do with a packet, and with a frame that arrives, is a journey of the network, with the effects and the choices of
-/// which its ends tell; they hold the state that it leaves. So they do with a packet and all frames that wait, one after another.
+/// which its ends tell; they hold the state that it leaves, in networks of switches and distributed routers. So they do with a packet and all frames that
+/// wait, one after another. Where no port of its switch leads to a router a packet is sent to at most 64 chassis.
 pub fn journeys_refine()
     ensures enters { EntryJourneyLaw }
+    ensures enters_routed { RoutedEntryLaw }
     ensures arrives { ArrivalJourneyLaw }
     ensures loses { LossJourneyLaw }
     ensures all_arrive { AllArriveLaw }
     ensures goes_through { GoesThroughLaw }
+    ensures goes_routed { RoutedThroughLaw }
 {
     tables_filled();
     switch_passes();
+    routed_passes();
+    router_stages_are_the_way();
 }
 
 /// Moves of packets in a state are the network's travels, and come one after another.

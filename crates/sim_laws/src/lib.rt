@@ -4,4 +4,5 @@
 pub mod end_names;
 pub mod journeys;
 pub mod one_count;
+pub mod routers;
 pub mod switches;

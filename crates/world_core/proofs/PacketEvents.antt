@@ -159,7 +159,7 @@ pub under_way_most : (w : WorldView) → IsTaken w → IsUnderWay w.state w.zone
 under_way_most w t =
     let u = under_way_of w t in
     let sent = u.few_sent in
-    record { valid = u.valid; no_router = u.no_router; keys = u.keys; bound = u.bound; at_home = u.at_home; born = u.born; crossings = u.crossings; few = u.few; few_sent = omega (arith, sent) }
+    record { valid = u.valid; distributed = u.distributed; bound_virtual = u.bound_virtual; keys = u.keys; bound = u.bound; at_home = u.at_home; born = u.born; crossings = u.crossings; few = u.few; few_sent = omega (arith, sent) }
 
 -- ---- a frame is lost
 

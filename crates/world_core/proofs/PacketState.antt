@@ -77,7 +77,7 @@ module _ (old : WorldView) (more : ℕ) (s : sim.SimState) (before after : SimOu
 pub arrived_passed : ArrivalJourneyLaw → (old : WorldView) (n : ℕ) (keep : Bool) (before after : SimOut) (s : sim.SimState) (waiting : List (ℕ × Crossing)) → IsUnderWay old.state old.zones most_sent → IsBuilt old.state.config.net → AreHeld old.state old.zones old.sim
     → passing.IsArrived any_legal old.sim n keep old.state.clock before after s → waiting ≡ waiting_on keep n old.state.waiting → HasArrived old n keep before after (world_with old waiting s)
 arrived_passed law old n keep before after s waiting u built h arrives kept =
-    let came = law old.state old.zones (sets_of old.state.config.net) most_sent old.sim s any_legal n keep before after u h (λ x waits. virtual_ports old.state.config.net built x.datapath.name) arrives in
+    let came = law old.state old.zones (sets_of old.state.config.net) most_sent old.sim s any_legal n keep before after u h arrives in
     passed_at old most_sent s before after (arrive_one n keep) came.journey waiting (kept ∙ sym came.waiting) (λ s b a t. passing.IsArrived any_legal s n keep old.state.clock b a t) arrives refl
 
 -- the crossings that are left then are those of the names that are left

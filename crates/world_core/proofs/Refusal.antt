@@ -28,6 +28,7 @@ may_wait m x w = record {
   aim_key = w.aim_key;
   in_live = w.in_live;
   aim_live = w.aim_live;
+  no_router = w.no_router;
   no_return = w.no_return;
 }
 
@@ -49,7 +50,8 @@ rests_on m zones now room =
     let sent = now.on_the_way.few in
     record {
       valid = now.valid;
-      no_router = now.no_router;
+      distributed = now.distributed;
+      bound_virtual = now.bound_virtual;
       keys = now.keys;
       bound = now.bound;
       at_home = now.at_home;

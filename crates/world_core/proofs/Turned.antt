@@ -112,7 +112,7 @@ compiled_then : (mid : State) (zones : Zoned) → IsConsistent (finished mid) zo
 compiled_then mid zones consistent keys have = record {
   valid = consistent.at_rest.valid;
   hold = have.hold;
-  live = owners_live mid.config.net keys consistent.at_rest.valid have consistent.at_rest.no_router;
+  live = owners_live mid.config.net keys consistent.at_rest.valid have;
 }
 
 -- ---- as it is prepared

@@ -20,9 +20,9 @@ ghost use Rattle.net_model.specs.State.{event_count, finished};
 
 use crate::crossing_names::CrossingNames;
 use crate::packet_event::PacketEvent;
-use event_lines::lines::{accepted, refused};
 use chassis_sim::sim::Sim;
 use edit_reader::event::Event;
+use event_lines::lines::{accepted, refused};
 use event_lines::refusal::{Refusal, StepFault};
 use flow_table::exact::exact_flow;
 use flow_table::flow::Flow;

@@ -1,6 +1,6 @@
--- Who has a key by records that are built has a live one, and their rows can be lowered.
+-- Who has a key by the records has a live one, and their rows can be lowered; records that are built have no router.
 use Rattle.std.specs.Prelude.{◌≡◌, ◌≤◌, length, true, [], Option, Some, None, IsSome, is_some, option_map}
-use Rattle.std.proofs.Common.{ap, arith}
+use Rattle.std.proofs.Common.{ap, arith, sym, ◌∙◌}
 use Rattle.nb_records.specs.Network.{Network, records_of}
 use Rattle.nb_records.specs.declared.record.Record.{Record}
 use Rattle.nb_records.specs.declared.record.Record.TheVariants as row
@@ -21,21 +21,26 @@ use Rattle.sim_laws.specs.journeys.UnderWay.{HasNoRouter}
 use Rattle.tunnel_keys.specs.Keys.{Keys}
 use Rattle.world_setup.specs.Built.{IsBuilt}
 use Rattle.world_setup.proofs.EditedKeys.{owner_lives}
+use Rattle.sim_laws.specs.routers.Patches.{AreDistributed}
+use Rattle.std.proofs.lemmas.Option.{none-some}
 
 module _ (net : Network) (built : IsBuilt net) where
   pub no_router : HasNoRouter net
   no_router = record { routers = ap (λ (w : Network). w.routers) built.others; router_ports = ap (λ (w : Network). w.router_ports) built.others }
 
-  module _ (keys : Keys) (valid : IsValid net) (have : HaveKeys net keys) where
-    pub keyed : IsKeyed net keys
-    keyed = record { valid = valid; keyed = have }
+  pub distributed : AreDistributed net
+  distributed a router is = absurd (none-some router (ap (λ l. at l a) (sym no_router.routers) ∙ is))
 
-    pub can_compile : CanCompile (record { net = net; keys = keys })
-    can_compile = record {
-      valid = valid;
-      hold = have.hold;
-      live = owner_lives net keys have valid.in_order;
-    }
+module _ (net : Network) (keys : Keys) (valid : IsValid net) (have : HaveKeys net keys) where
+  pub keyed : IsKeyed net keys
+  keyed = record { valid = valid; keyed = have }
+
+  pub can_compile : CanCompile (record { net = net; keys = keys })
+  can_compile = record {
+    valid = valid;
+    hold = have.hold;
+    live = owner_lives net keys have valid.in_order;
+  }
 
 -- the switch of a port is there
 there_some : (o : Option Switch) → is_some (option_map row.Switch o) ≡ true → IsSome o

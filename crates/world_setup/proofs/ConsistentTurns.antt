@@ -31,7 +31,8 @@ module _ (m : State) (zones : Zoned) (old : IsConsistent m zones) (room : event_
         lists = turned_keep (add_chassis m.config c) m old.lists;
         at_rest = record {
           valid = old.at_rest.valid;
-          no_router = old.at_rest.no_router;
+          distributed = old.at_rest.distributed;
+          bound_virtual = old.at_rest.bound_virtual;
           at_home = turned_at_home m (add_chassis m.config c);
           keys = old.at_rest.keys;
           bound = bound_kept m n zones old.at_rest.bound refl (λ q h. h) (λ d h. name_kept m.config.chassis c d h) (names_sorted m.config.chassis c old.at_rest.bound.chassis_sorted) (omega (arith, few, more));
@@ -53,7 +54,8 @@ module _ (m : State) (zones : Zoned) (old : IsConsistent m zones) (room : event_
         lists = turned_keep (bind m.config p c) m old.lists;
         at_rest = record {
           valid = old.at_rest.valid;
-          no_router = old.at_rest.no_router;
+          distributed = old.at_rest.distributed;
+          bound_virtual = λ q chassis port bound is. old.built.ports q port is;
           at_home = turned_at_home m (bind m.config p c);
           keys = old.at_rest.keys;
           bound = bound_fresh m n zones after p c old.at_rest.bound refl refl refl there known rezoned;

@@ -38,7 +38,7 @@ use Rattle.sim_laws.proofs.journey_laws.Finishing.{begins}
 use Rattle.sim_laws.proofs.turn_laws.KeepingTurns.{edits_keep}
 use Rattle.sim_laws.proofs.turn_laws.KeptHomes.{keeps_homes}
 use Rattle.sim_laws.proofs.turn_laws.TurnedLists.{turned_at_home}
-use Rattle.world_setup.proofs.BuiltTables.{no_router, on_switch}
+use Rattle.world_setup.proofs.BuiltTables.{distributed, on_switch}
 use Rattle.sim_laws.specs.Sound.{AreBorn}
 use Rattle.switch_engine.specs.declared.effect.NetEffect.{NetEffect}
 use Rattle.tunnel_keys.proofs.Births.{born_later}
@@ -191,7 +191,8 @@ module _ (m : State) (zones : Zoned) (old : IsConsistent m zones) (room : event_
     lists = turned_keep (edit m.config next) m old.lists;
     at_rest = record {
       valid = sound.valid;
-      no_router = no_router next next_built;
+      distributed = distributed next next_built;
+      bound_virtual = λ q chassis port bound is. next_built.ports q port is;
       at_home = turned_at_home m (edit m.config next);
       keys = have;
       bound = bound_kept m (counted mid) zones old.at_rest.bound bindings_are (λ q h. port_there q h) (λ c h. h) old.at_rest.bound.chassis_sorted old.at_rest.bound.few_chassis;
@@ -222,7 +223,7 @@ module _ (m : State) (zones : Zoned) (old : IsConsistent m zones) (room : event_
   under = begins m zones old.at_rest
 
   lists_then : (emptied : List (Name × ℕ)) → emptied ≡ [] → IsTurnOfZones m (edit m.config next) zones.numbers zones.numbers emptied
-  lists_then emptied none = subst (λ l. IsTurnOfZones m (edit m.config next) zones.numbers zones.numbers l) (sym none) (keeps_homes m zones 0 (edit m.config next) under (edits_keep m zones 0 next under (no_router next next_built) still)).1
+  lists_then emptied none = subst (λ l. IsTurnOfZones m (edit m.config next) zones.numbers zones.numbers l) (sym none) (keeps_homes m zones 0 (edit m.config next) under (edits_keep m zones 0 next under sound.valid (distributed next next_built) still)).1
 
   -- ---- nothing is refused
 

@@ -2,7 +2,7 @@
 use Rattle.std.specs.Prelude.{◌≡◌, ◌≤◌, ◌<◌, ℕ, true, List, [], Option, Some, None, IsTrue, option_map, refl}
 use Rattle.std.proofs.Common.{arith, sym, ap, subst, ◌∙◌, inl, inr}
 use Rattle.std.proofs.lemmas.Bool.{false≢true}
-use Rattle.std.proofs.lemmas.Option.{none-some}
+use Rattle.std.proofs.lemmas.Option.{none-some, same_Some}
 use Rattle.ovn_base.specs.lists.Among.{Among}
 use Rattle.ovn_base.specs.names.ByName.{at}
 use Rattle.ovn_base.proofs.AmongLaws.{among_all, among_none}
@@ -21,9 +21,11 @@ use Rattle.tunnel_keys.specs.declared.owner.Identity.{Identity}
 use Rattle.tunnel_keys.specs.declared.owner.KeyOwner.{KeyOwner}
 use Rattle.tunnel_keys.specs.declared.owner.KeyOwner.TheVariants.{Datapath}
 use Rattle.tunnel_keys.proofs.KeyStays.{datapaths_stay, ports_stay}
-use Rattle.sim_laws.specs.Sound.{has_birth, is_switch}
+use Rattle.sim_laws.specs.Sound.{has_birth, is_switch, IsNoRouter}
 use Rattle.world_setup.proofs.EditedKeys.{HasRecordsFrom}
 use Rattle.world_setup.proofs.WaitingFrames.{AreKept}
+use Rattle.net_model.specs.Config.{router_identity}
+use Rattle.nb_records.specs.declared.router.Router.{Router}
 
 -- ---- the switch of a name and birth
 
@@ -65,11 +67,26 @@ module _ (m mid : State) (added : List KeyOwner) (next : Network) (after : Keys)
           | inr new ↦ absurd (omega (arith, early, later, new))
         ]
 
-    -- no key is lost, and no older switch is there that wasn't
+    -- nor was a router there that isn't as young
+    was_router : (id : Identity) (r : Router) → IsNoRouter m.config.net id → at next.routers id.name ≡ Some r → router_identity r ≡ id → ¬ IsDatapath m.config.net id.name id.birth
+    was_router id r none now is (inl was) =
+        let stays = from.switches id.name was.0 was.1 in
+        let apart : at next.routers id.name ≡ None = among_all (λ (e : Name × Switch). at next.routers e.0 ≡ None) (id.name, was.0) next.switches from.after.datapaths (at_among next.switches id.name was.0 stays) in
+        none-some r (sym apart ∙ now)
+    was_router id r none now is (inr was) = none was.0 was.1 (ap router_identity (same_Some was.0 r (sym (from.routers id.name was.0 was.1) ∙ now)) ∙ is)
+
+    no_router_comes : (id : Identity) → id.birth.0 ≤ event_count m → IsNoRouter m.config.net id → IsNoRouter next id
+    no_router_comes id early none r now is = elim (come (Datapath id.name id.birth) (datapath_among next id.name id.birth (inr (r, now, ap (λ (o : Identity). o.birth) is)))) [
+      | inl old ↦ was_router id r none now is (among_owns m.config.net from.before.in_order (Datapath id.name id.birth) old)
+      | inr new ↦ absurd (omega (arith, early, later, new))
+    ]
+
+    -- no key is lost, and no older switch or router is there that wasn't
     pub edit_kept : mid.config.net ≡ next → mid.keys ≡ after → AreKept m mid
     edit_kept net keys = record {
       hold = subst (λ k. IsKeys k) (sym keys) also;
       datapaths = λ h among. subst (λ k. Among h (held_datapaths k)) (sym keys) (datapaths_stay m.keys added [] after hold gives h among);
       ports = λ h among. subst (λ k. Among h (held_ports k)) (sym keys) (port_stays h among);
       switches = λ id early is. switch_was id early (subst (λ w. IsTrue (is_switch w id)) net is);
+      routers = λ id early none. subst (λ w. IsNoRouter w id) (sym net) (no_router_comes id early none);
     }

@@ -31,7 +31,7 @@ use Rattle.world_setup.specs.Setup.{lowering_in}
 use Rattle.world_setup.specs.Touched.{row_unit, rules_touched, touched_by}
 use Rattle.world_setup.specs.Turning.{IsPlannedEdit, MayTurn}
 use Rattle.world_setup.specs.Consistent.{IsConsistent}
-use Rattle.world_setup.proofs.EditedStates.{gives, have, next_built, same_beside, sound}
+use Rattle.world_setup.proofs.EditedStates.{gives, have, same_beside, sound}
 use Rattle.world_setup.proofs.BuiltTables.{can_compile}
 use Rattle.world_setup.proofs.NewKeys.{given_beside}
 use Rattle.world_setup.proofs.ReadiedChanges.{edit_leaves, planned_here}
@@ -103,8 +103,8 @@ module _ (m : State) (zones : Zoned) (old : IsConsistent m zones) (room : event_
     edit_stay_lowered : TouchedLaw → StayLowered before later (touched_rows net next (filter_map row_unit units) (rules_touched net ops))
     edit_stay_lowered law =
         law before later
-        (can_compile net old.built m.keys old.at_rest.valid old.at_rest.keys)
-        (can_compile next (next_built m zones old room ops grammar plan keys planned) keys (sound m zones old room ops grammar plan keys planned).valid have_then)
+        (can_compile net m.keys old.at_rest.valid old.at_rest.keys)
+        (can_compile next keys (sound m zones old room ops grammar plan keys planned).valid have_then)
         (filter_map row_unit units) (rules_touched net ops) same_but_for
 
 -- ---- in the terms in which the setup has it

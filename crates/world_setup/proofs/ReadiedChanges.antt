@@ -59,7 +59,7 @@ use Rattle.world_setup.specs.Built.{is_built_edit}
 use Rattle.world_setup.specs.KeyCauses.{datapath_keys, key_lack, port_keys}
 use Rattle.world_setup.proofs.KeyLacks.{IsLack}
 use Rattle.world_setup.proofs.RefusedTurns.{bind_allowed, bind_no_chassis, chassis_allowed, chassis_full, edit_faulty, edit_lacks}
-use Rattle.world_setup.proofs.EditedStates.{after, edit_fits, edit_lack, edit_turned, fits, have, next_built, same_beside, sound}
+use Rattle.world_setup.proofs.EditedStates.{after, edit_fits, edit_lack, edit_turned, fits, have, same_beside, sound}
 use Rattle.world_setup.proofs.SetupTurns.{units_once}
 use Rattle.world_setup.proofs.PortHomes.{can_come, homes_after}
 use Rattle.world_setup.proofs.Refusals.{chassis_new}
@@ -74,8 +74,8 @@ pub record AreTables (g : GroundView) : Type 0 where
 
 tables_of_state : (m : State) (zones : Zoned) → IsConsistent m zones → AreTables (ground_of m zones)
 tables_of_state m zones now = record {
-  keyed = keyed m.config.net now.built m.keys now.at_rest.valid now.at_rest.keys;
-  compiled = can_compile m.config.net now.built m.keys now.at_rest.valid now.at_rest.keys;
+  keyed = keyed m.config.net m.keys now.at_rest.valid now.at_rest.keys;
+  compiled = can_compile m.config.net m.keys now.at_rest.valid now.at_rest.keys;
 }
 
 -- what `prepare` asks of a change of the ground, and of the units that it touches
@@ -120,8 +120,8 @@ module _ (m : State) (zones : Zoned) (old : IsConsistent m zones) (room : event_
 
   pub edit_tables_then : AreTables (changed (edit_change plan keys) (ground_of m zones))
   edit_tables_then = subst (λ g. AreTables g) (sym edit_ground) (record {
-    keyed = keyed next (next_built m zones old room ops grammar plan keys planned) keys (sound m zones old room ops grammar plan keys planned).valid (have m zones old room ops grammar plan keys planned);
-    compiled = can_compile next (next_built m zones old room ops grammar plan keys planned) keys (sound m zones old room ops grammar plan keys planned).valid (have m zones old room ops grammar plan keys planned);
+    keyed = keyed next keys (sound m zones old room ops grammar plan keys planned).valid (have m zones old room ops grammar plan keys planned);
+    compiled = can_compile next keys (sound m zones old room ops grammar plan keys planned).valid (have m zones old room ops grammar plan keys planned);
   })
 
   pub edit_is_readied : (units : List FlowUnit) → EachOnce units → ((u : FlowUnit) → Among u units ↔ Among u (touched_by m.config.net next ops)) → IsReadied (ground_of m zones) (edit_change plan keys) units

@@ -46,7 +46,7 @@ module _ (m : State) (zones : Zoned) (old : IsConsistent m zones) where
   pub chassis_units : (c : Name) → ¬ Among c m.config.chassis → (d : Name)
       → ChangeOnly [] (rows_on now d) (rows_on (record { config = record m.config { chassis = insert_key (slice_cmp nat_cmp) m.config.chassis c }; keys = m.keys; zones = zones }) d)
   chassis_units c new d =
-      around_chassis (basis_in now d) (basis_in (record { config = record m.config { chassis = insert_key (slice_cmp nat_cmp) m.config.chassis c }; keys = m.keys; zones = zones }) d) c refl new old.at_rest.bound.chassis_there (λ a r is. absurd (none-some r (ap (λ l. at l a) (sym old.at_rest.no_router.routers) ∙ is)))
+      around_chassis (basis_in now d) (basis_in (record { config = record m.config { chassis = insert_key (slice_cmp nat_cmp) m.config.chassis c }; keys = m.keys; zones = zones }) d) c refl new old.at_rest.bound.chassis_there (λ a r is waits. none-some c (sym (old.at_rest.distributed a r is) ∙ waits))
 
   -- a port is bound: itself and its switch
   pub binding_units : (p c : Name) → refusal m (event_of.Bind p c) ≡ None → (after : Zoned) → IsRezoned zones (home_change p c) after → (d : Name)

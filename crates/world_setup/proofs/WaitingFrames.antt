@@ -16,16 +16,17 @@ use Rattle.net_model.specs.declared.crossing.Aim.{Aim}
 use Rattle.net_model.specs.declared.crossing.Aim.TheVariants.{ToPort, ToGroup}
 use Rattle.sim_laws.specs.Effects.{datapath_key, port_key, aim_key, spelled}
 use Rattle.sim_laws.specs.Held.{frame_of_crossing}
-use Rattle.sim_laws.specs.Sound.{AreBorn, AreOnTheWay, HasAimKey, IsAimOnLive, IsOnLive, MayWait, is_switch}
+use Rattle.sim_laws.specs.Sound.{AreBorn, AreOnTheWay, HasAimKey, IsAimOnLive, IsOnLive, MayWait, is_switch, IsNoRouter}
 use Rattle.net_model.specs.State.{State, event_count}
 use Rattle.sim_laws.proofs.KeyLookups.{datapath_key_is, port_key_is}
 
--- no key is lost, and a switch that is there then, and isn't younger than the last event before, was there before
+-- no key is lost, and a switch or a router that is there then, and isn't younger than the last event before, was there before
 pub record AreKept (m n : State) : Type 0 where
   pub hold : IsKeys n.keys
   pub datapaths : (h : HeldDatapath) → Among h (held_datapaths m.keys) → Among h (held_datapaths n.keys)
   pub ports : (h : HeldPort) → Among h (held_ports m.keys) → Among h (held_ports n.keys)
   pub switches : (id : Identity) → id.birth.0 ≤ event_count m → IsTrue (is_switch n.config.net id) → IsTrue (is_switch m.config.net id)
+  pub routers : (id : Identity) → id.birth.0 ≤ event_count m → IsNoRouter m.config.net id → IsNoRouter n.config.net id
 
 module _ (m n : State) (born : AreBorn m) (kept : AreKept m n) where
   live_on : (datapath port : Identity) → (h : HeldDatapath) × Among h (held_datapaths m.keys) × (h.owner ≡ datapath) → (h : HeldPort) × Among h (held_ports m.keys) × (h.owner ≡ port) → IsOnLive m datapath port → IsOnLive n datapath port
@@ -51,6 +52,7 @@ module _ (m n : State) (born : AreBorn m) (kept : AreKept m n) where
     aim_key = aim_key_on x.aim w.aim_key;
     in_live = live_on x.datapath x.in_port w.datapath_key w.in_key w.in_live;
     aim_live = aim_live_on x.datapath x.aim w.datapath_key w.aim_key w.aim_live;
+    no_router = kept.routers x.datapath (subst (λ (o : Identity). o.birth.0 ≤ event_count m) w.datapath_key.2 (born.keys.datapaths w.datapath_key.0 w.datapath_key.1)) w.no_router;
     no_return = w.no_return;
   }
 
@@ -100,4 +102,5 @@ same_kept m n net keys hold = record {
   datapaths = λ h among. subst (λ k. Among h (held_datapaths k)) (sym keys) among;
   ports = λ h among. subst (λ k. Among h (held_ports k)) (sym keys) among;
   switches = λ id early is. subst (λ w. IsTrue (is_switch w id)) net is;
+  routers = λ id early none. subst (λ w. IsNoRouter w id) (sym net) none;
 }

@@ -32,21 +32,21 @@ use Rattle.tunnel_keys.specs.declared.owner.PortKey.{PortKey}
 use Rattle.sim_laws.proofs.counts.AroundAgree.{entries, spreads, homes, backs, outputs}
 use Rattle.sim_laws.proofs.journey_laws.Premises.{on_switch_port}
 use Rattle.sim_laws.specs.journeys.Tables.{ChassisFlow, AreTablesOf}
-use Rattle.sim_laws.specs.journeys.UnderWay.{IsUnderWay}
+use Rattle.sim_laws.specs.journeys.UnderWay.{HasNoRouter, IsUnderWay}
 
-module _ (m : State) (zones : Zoned) (more : ℕ) (u : IsUnderWay m zones more) (sets : Sets) (members : AreSameMembers (roster_of m.config.net).members (members_of sets)) (chassis : Name) (flows : List Flow)
+module _ (m : State) (zones : Zoned) (more : ℕ) (u : IsUnderWay m zones more) (plain : HasNoRouter m.config.net) (sets : Sets) (members : AreSameMembers (roster_of m.config.net).members (members_of sets)) (chassis : Name) (flows : List Flow)
     (exact : AreExactly (ChassisFlow m zones.numbers sets chassis) flows) (tables : AreTablesOf m zones.numbers sets chassis flows) where
   abbrev b : Basis
   b = basis_at m zones.numbers chassis
 
   owned : (q : Name) (k : PortKey) → at m.keys.ports q ≡ Some k → (i : SwitchPort) × (at m.config.net.switch_ports q ≡ Some i) × (i.switch ≡ k.datapath)
   owned q k is =
-      let i = found (at m.config.net.switch_ports q) (on_switch_port m.config.net m.keys u.keys u.no_router q k is) in
+      let i = found (at m.config.net.switch_ports q) (on_switch_port m.config.net m.keys u.keys plain q k is) in
       let own = u.keys.port_has q i.0 i.1 in
       (i.0, i.1, sym own.3 ∙ ap (λ (x : PortKey). x.datapath) (same_Some own.0 k (sym own.1 ∙ is)))
 
   holds : (s : Stage) → HoldsRows m.config.net m.keys sets flows (stage_table s) → HoldsSwitchRows m.config.net m.keys sets flows s
-  holds s h = record { valid = u.valid; no_router = u.no_router.routers; holds = h; members = members; owned = owned }
+  holds s h = record { valid = u.valid; no_router = plain.routers; holds = h; members = members; owned = owned }
 
   module _ (regs : Regs) (packet : Packet) (f g : Flow) where
     abbrev Agree : ℕ → Type 0

@@ -21,8 +21,8 @@ use Rattle.flow_table.specs.declared.flow.Flow.{Flow}
 use Rattle.match_cubes.specs.declared.sets.Sets.{Sets}
 use Rattle.nb_records.specs.Switches.{is_virtual}
 use Rattle.nb_records.specs.declared.switch.SwitchPort.{SwitchPort}
-use Rattle.net_model.specs.Arrival.{is_switch, arrival}
-use Rattle.net_model.specs.Config.{is_chassis, port_identity}
+use Rattle.net_model.specs.Arrival.{is_reached, arrival}
+use Rattle.net_model.specs.Config.{is_chassis}
 use Rattle.net_model.specs.Entry.{Scene}
 use Rattle.net_model.specs.Journey.{joined_by, kept_or_not, arrive_at, comes_as, arrive_one, scene_at, scenes_of, go, numbered_from}
 use Rattle.net_model.specs.Leads.{list_owners}
@@ -36,7 +36,6 @@ use Rattle.ovn_base.specs.declared.name.Name.{Name}
 use Rattle.ovn_base.specs.lists.Among.{Among}
 use Rattle.ovn_base.specs.names.SameName.{same_name, bytes_decides}
 use Rattle.physical_flows.proofs.FlowSearch.{is_some_of}
-use Rattle.row_laws.proofs.records.ValidPorts.{on_switch, own_place}
 use Rattle.switch_engine.specs.Outcome.{Choosing}
 use Rattle.switch_engine.specs.Walk.{start}
 use Rattle.switch_engine.specs.Zones.{ZoneLists}
@@ -47,14 +46,12 @@ use Rattle.switch_engine.specs.declared.effect.Entry.TheVariants.{Tunnel}
 use Rattle.switch_engine.specs.declared.walk.Start.TheVariants as start_of
 use Rattle.switch_engine.specs.declared.walk.Step.{Step}
 use Rattle.tunnel_keys.proofs.HeldKeys.{found}
-use Rattle.tunnel_keys.specs.Same.{identity_exact}
-use Rattle.tunnel_keys.specs.declared.owner.Identity.{Identity}
-use Rattle.sim_laws.proofs.KeyLookups.{key_on}
 use Rattle.sim_laws.proofs.EffectNames.{AreEndsOn}
 use Rattle.sim_laws.proofs.WaitingCrossings.{crossings_kept}
 use Rattle.sim_laws.proofs.WaitingLists.{numbered_among, removed_map}
+use Rattle.sim_laws.proofs.router_passes.Everywhere.{reached_virtual}
 use Rattle.sim_laws.proofs.journey_laws.Entering.{scene_there}
-use Rattle.sim_laws.proofs.journey_laws.Premises.{born_so, may_arrive}
+use Rattle.sim_laws.proofs.journey_laws.Premises.{may_arrive}
 use Rattle.sim_laws.proofs.journey_laws.ReadFrames.{read_so, crossing_of}
 use Rattle.sim_laws.proofs.journey_laws.Ready.{is_ready}
 use Rattle.sim_laws.proofs.journey_laws.Rezoning.{rezoned_hold, zoned_still}
@@ -64,13 +61,14 @@ use Rattle.sim_laws.proofs.journey_laws.VisitWays.{IsAimed, arrival_on}
 use Rattle.sim_laws.proofs.journey_laws.Walked.{IsWalked, walked}
 use Rattle.sim_laws.specs.Held.{frame_of_crossing}
 use Rattle.sim_laws.specs.Naming.{IsNumbered}
-use Rattle.sim_laws.specs.Sound.{AreCrossings, MayWait, IsAimOnLive}
-use Rattle.sim_laws.specs.passes.Arriving.{tunnel_entry_of, ArrivingLaw}
+use Rattle.sim_laws.specs.Sound.{AreCrossings, MayWait}
+use Rattle.sim_laws.specs.passes.Arriving.{tunnel_entry_of}
+use Rattle.sim_laws.specs.routers.Visits.{RoutedArrivalLaw}
 use Rattle.sim_laws.specs.journeys.Filling.{FillingLaw}
 use Rattle.sim_laws.specs.journeys.Holding.{HoldsNetwork}
 use Rattle.sim_laws.specs.journeys.InState.{chassis_at, zones_on}
 use Rattle.sim_laws.specs.journeys.Moves.{journey_in}
-use Rattle.sim_laws.specs.journeys.Premises.{HasVirtualPorts, IsReady}
+use Rattle.sim_laws.specs.journeys.Premises.{IsReady}
 use Rattle.sim_laws.specs.journeys.Refining.{IsComing, IsJourney, ArrivalJourneyLaw, waiting_on}
 use Rattle.sim_laws.specs.journeys.UnderWay.{IsUnderWay}
 use Rattle.sim_laws.specs.passes.Whole.{WholeWalkLaw}
@@ -145,7 +143,7 @@ module _ (m : State) (zones : Zoned) (sets : Sets) (more : ℕ) (s new : sim.Sim
 
   -- ---- through the tables
 
-  module _ (fills : FillingLaw) (arrives : ArrivingLaw) (whole_walk : WholeWalkLaw) (by : Choosing) (x : Crossing) (waits : sim.numbered m.waiting n ≡ Some x) (virtual : HasVirtualPorts m.config.net x.datapath.name) (flows : List Flow) (there : at_name s.chassis x.home ≡ Some flows)
+  module _ (fills : FillingLaw) (arrives : RoutedArrivalLaw) (whole_walk : WholeWalkLaw) (by : Choosing) (x : Crossing) (waits : sim.numbered m.waiting n ≡ Some x) (flows : List Flow) (there : at_name s.chassis x.home ≡ Some flows)
       (lists left : ZoneLists) (listed : at_name s.zones x.home ≡ Some lists) (steps : List Step) (effects : List Effect) (walk : IsWalkBy by flows (tunnel_entry_of m.keys x) m.clock x.packet lists steps effects left)
       (told : IsTold (record (arrived s n keep) { zones = with_lists s.zones x.home left }) x.home (start_of.Frame n) steps effects before after new) where
     abbrev k : Chassis
@@ -163,24 +161,19 @@ module _ (m : State) (zones : Zoned) (sets : Sets) (more : ℕ) (s new : sim.Sim
     may_wait : MayWait m x
     may_wait = u.crossings.may n x (numbered_among m.waiting n x waits)
 
-    -- a port to which it goes is one of its switch
-    aimed_virtual : is_switch m.config.net x.datapath ≡ true → (aim : Aim) → IsAimOnLive m x.datapath aim → (q : SwitchPort) → IsAimed scene n x aim q → is_virtual q ≡ true
-    aimed_virtual is (ToPort id) live q aimed =
-        let w = on_switch m.config.net u.valid id.name q aimed.0 in
-        let own = own_place m.config.net u.valid id.name q aimed.0 in
-        let key = key_on m u.keys q.name q.switch q w.0 own refl w.1 in
-        let together = live (born_so m.config.net x.datapath is) key.held key.among (key.owner ∙ identity_exact (port_identity q) id aimed.1) in
-        virtual q.name q own (ap (λ (i : Identity). i.name) (sym key.on ∙ together))
-    aimed_virtual is (ToGroup g) live q among = let e = member_enabled m.config.net u.valid x.datapath.name g q among in virtual q.name q e.there e.on
+    -- a port that is reached is virtual: those that lead to routers are at home everywhere
+    aimed_virtual : (aim : Aim) → (q : SwitchPort) → IsAimed scene n x aim q → is_reached scene q ≡ true → is_virtual q ≡ true
+    aimed_virtual (ToPort id) q aimed at_home = reached_virtual m.config u.valid u.distributed x.home id.name q aimed.0 at_home
+    aimed_virtual (ToGroup g) q among at_home = let e = member_enabled m.config.net u.valid x.datapath.name g q among in reached_virtual m.config u.valid u.distributed x.home q.name q e.there at_home
 
     abbrev Such : List Crossing → Type 0
     Such xs = xs ≡ []
 
     w : IsWalked k n Such way m.lists effects left
     w =
-        let may = may_arrive m zones.numbers sets by flows (tunnel_entry_of m.keys x) x.home u.no_router x may_wait in
-        walked k n Such whole_walk way m.lists lists (start (tunnel_entry_of m.keys x) x.packet ∷ []) (arrives k ready.laid zones.numbers ready.wired ready.owned n x may virtual refl m.lists lists (h.zones x.home lists listed))
-        (λ choices legal. record { crossings = []; such = refl; way = arrival_on scene n x (λ is q aimed. aimed_virtual is x.aim may_wait.aim_live q aimed) (trail_with m.lists choices []) }) steps effects left walk
+        let may = may_arrive m zones.numbers sets by flows (tunnel_entry_of m.keys x) x.home x may_wait in
+        walked k n Such whole_walk way m.lists lists (start (tunnel_entry_of m.keys x) x.packet ∷ []) (arrives k zones.numbers ready.around ready.distributed ready.owned n x may refl m.lists lists (h.zones x.home lists listed))
+        (λ choices legal. record { crossings = []; such = refl; way = arrival_on scene n x (λ is q aimed at_home. aimed_virtual x.aim q aimed at_home) (trail_with m.lists choices []) }) steps effects left walk
 
     pub comes_through : IsArrival
     comes_through =
@@ -195,17 +188,17 @@ module _ (m : State) (zones : Zoned) (sets : Sets) (more : ℕ) (s new : sim.Sim
       came x waits (is_lost n ∷ []) m.lists s.zones h.zones h.zoned [] (effect.Lost ∷ []) refl (IsNumbered.lost, tt) (refl, tt) refl
       (λ choices. ap (λ o. arrive_at o n x (trail_with m.lists choices [])) (no_scene m x.home gone)) told
 
-  pub arrives_by : FillingLaw → ArrivingLaw → WholeWalkLaw → (by : Choosing) → ((x : Crossing) → sim.numbered m.waiting n ≡ Some x → HasVirtualPorts m.config.net x.datapath.name) → passing.IsArrived by s n keep m.clock before after new → IsArrival
-  arrives_by fills arrives whole_walk by virtual (passing.IsArrived.through frame flows lists left vni in_key out_key packet steps effects waits held listed carries walk told) =
+  pub arrives_by : FillingLaw → RoutedArrivalLaw → WholeWalkLaw → (by : Choosing) → passing.IsArrived by s n keep m.clock before after new → IsArrival
+  arrives_by fills arrives whole_walk by (passing.IsArrived.through frame flows lists left vni in_key out_key packet steps effects waits held listed carries walk told) =
       let c = crossing_of m zones.numbers sets s h n frame waits in
       let x = c.crossing in
       let may = u.crossings.may n x (numbered_among m.waiting n x c.waits) in
       let home : frame.to ≡ x.home = ap (λ (f : WaitingFrame). f.to) c.is in
       let read = read_so m u.keys x may vni in_key out_key packet (subst (λ (f : WaitingFrame). Carries f.bytes vni in_key out_key packet) c.is carries) in
-      comes_through fills arrives whole_walk by x c.waits (virtual x c.waits) flows (ap (at_name s.chassis) (sym home) ∙ held) lists left (ap (at_name s.zones) (sym home) ∙ listed) steps effects
+      comes_through fills arrives whole_walk by x c.waits flows (ap (at_name s.chassis) (sym home) ∙ held) lists left (ap (at_name s.zones) (sym home) ∙ listed) steps effects
       (subst (λ (e : Entry). IsWalkBy by flows e m.clock x.packet lists steps effects left) read.0 (subst (λ p. IsWalkBy by flows (Tunnel vni in_key out_key) m.clock p lists steps effects left) read.1 walk))
       (subst (λ d. IsTold (record (arrived s n keep) { zones = with_lists s.zones d left }) d (start_of.Frame n) steps effects before after new) home told)
-  arrives_by fills arrives whole_walk by virtual (passing.IsArrived.gone frame waits none told) =
+  arrives_by fills arrives whole_walk by (passing.IsArrived.gone frame waits none told) =
       let c = crossing_of m zones.numbers sets s h n frame waits in
       let x = c.crossing in
       let home : frame.to ≡ x.home = ap (λ (f : WaitingFrame). f.to) c.is in
@@ -214,5 +207,5 @@ module _ (m : State) (zones : Zoned) (sets : Sets) (more : ℕ) (s new : sim.Sim
       none-some f.0 (sym (ap (at_name s.chassis) (sym home) ∙ none) ∙ f.1))
       (subst (λ d. IsTold (arrived s n keep) d (start_of.Frame n) [] (effect.Lost ∷ []) before after new) home told)
 
-pub arrives_so : FillingLaw → ArrivingLaw → WholeWalkLaw → ArrivalJourneyLaw
-arrives_so fills arrives whole_walk m zones sets more s new by n keep before after u h virtual told = arrives_by m zones sets more s new n keep before after u h fills arrives whole_walk by virtual told
+pub arrives_so : FillingLaw → RoutedArrivalLaw → WholeWalkLaw → ArrivalJourneyLaw
+arrives_so fills arrives whole_walk m zones sets more s new by n keep before after u h told = arrives_by m zones sets more s new n keep before after u h fills arrives whole_walk by told

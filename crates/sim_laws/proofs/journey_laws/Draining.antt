@@ -6,7 +6,7 @@ use Rattle.chassis_sim.specs.declared.out.SimOut.{SimOut}
 use Rattle.chassis_sim.specs.declared.underlay.WaitingFrame.{WaitingFrame}
 use Rattle.conn_zones.specs.Zoning.{Zoned}
 use Rattle.match_cubes.specs.declared.sets.Sets.{Sets}
-use Rattle.nb_records.specs.Network.{Network}
+use Rattle.net_model.specs.Journey.{enter_one, enter_and_arrive}
 use Rattle.net_model.specs.State.{State}
 use Rattle.net_model.specs.Trail.{End, leaves, is_dropped, crosses, picks_backend, picks_port, is_lost, crossings_in}
 use Rattle.net_model.specs.declared.crossing.Crossing.{Crossing}
@@ -14,15 +14,15 @@ use Rattle.switch_engine.specs.Outcome.{any_legal}
 use Rattle.switch_engine.specs.declared.effect.NetEffect.{NetEffect}
 use Rattle.switch_engine.specs.declared.effect.NetEffect.TheVariants as net
 use Rattle.tunnel_keys.specs.Keys.{Keys}
+use Rattle.ovn_base.specs.declared.name.Name.{Name}
 use Rattle.sim_laws.proofs.journey_laws.Moving.{all_drain, enters_and_drains}
 use Rattle.sim_laws.specs.Effects.{effects_of, spelled}
 use Rattle.sim_laws.specs.Held.{frame_of_crossing}
-use Rattle.sim_laws.specs.Passing.{most_arrivals, AreDrained, no_out}
-use Rattle.sim_laws.specs.journeys.Events.{AllArriveLaw, GoesThroughLaw}
+use Rattle.sim_laws.specs.Passing.{most_arrivals, AreDrained, no_out, GoesThrough}
+use Rattle.sim_laws.specs.journeys.Events.{AllArriveLaw, GoesThroughLaw, RoutedThroughLaw}
 use Rattle.sim_laws.specs.journeys.Holding.{HoldsNetwork}
 use Rattle.sim_laws.specs.journeys.Moves.{AreMoved}
-use Rattle.sim_laws.specs.journeys.Premises.{HaveVirtualPorts}
-use Rattle.sim_laws.specs.journeys.Refining.{EntryJourneyLaw, ArrivalJourneyLaw}
+use Rattle.sim_laws.specs.journeys.Refining.{IsJourney, RoutedEntryLaw, EntryJourneyLaw, ArrivalJourneyLaw}
 use Rattle.sim_laws.specs.journeys.UnderWay.{IsUnderWay}
 
 -- ---- effects
@@ -87,8 +87,8 @@ behind_effects m mid own more first second third keys next is also =
     ∙ ap (λ es. first ++ es) (sym (effects_append m.keys m.next own more))
 
 module _ (entry : EntryJourneyLaw) (arrival : ArrivalJourneyLaw) (zones : Zoned) (sets : Sets) (more : ℕ) where
-  drained : (k : ℕ) (m : State) (s new : SimState) (before after : SimOut) → IsUnderWay m zones more → HaveVirtualPorts m.config.net → HoldsNetwork m zones.numbers sets s → AreDrained m.clock k s before after new → IsDrained k m zones sets more before after new
-  drained zero m s new before after u virtual h d = record {
+  drained : (k : ℕ) (m : State) (s new : SimState) (before after : SimOut) → IsUnderWay m zones more → HoldsNetwork m zones.numbers sets s → AreDrained m.clock k s before after new → IsDrained k m zones sets more before after new
+  drained zero m s new before after u h d = record {
     ends = [];
     effects = ap (λ (o : SimOut). o.effects) d.0 ∙ sym (append-nil before.effects);
     left = m;
@@ -96,7 +96,7 @@ module _ (entry : EntryJourneyLaw) (arrival : ArrivalJourneyLaw) (zones : Zoned)
     sound = u;
     held = subst (λ (z : SimState). HoldsNetwork m zones.numbers sets z) (sym d.1) h;
   }
-  drained (suc k) m s new before after u virtual h (inl d) = record {
+  drained (suc k) m s new before after u h (inl d) = record {
     ends = [];
     effects = ap (λ (o : SimOut). o.effects) d.1 ∙ sym (append-nil before.effects);
     left = m;
@@ -104,12 +104,12 @@ module _ (entry : EntryJourneyLaw) (arrival : ArrivalJourneyLaw) (zones : Zoned)
     sound = u;
     held = subst (λ (z : SimState). HoldsNetwork m zones.numbers sets z) (sym d.2) h;
   }
-  drained (suc k) m s new before after u virtual h (inr f) =
+  drained (suc k) m s new before after u h (inr f) =
       let first = first_of m f.n f.frame f.behind (sym h.waiting ∙ f.first) in
-      let a = (arrival m zones sets more s f.mid any_legal f.n false before f.between u h (λ x waits. virtual x.datapath.name) f.arrives).journey in
+      let a = (arrival m zones sets more s f.mid any_legal f.n false before f.between u h f.arrives).journey in
       let still = a.moves.rest in
       let r =
-      drained k a.left f.mid new f.between after a.sound (subst (λ (n : Network). HaveVirtualPorts n) (sym (ap (λ (l : State). l.config.net) still)) virtual) a.held (subst (λ t. AreDrained t k f.mid f.between after new) (sym (ap (λ (l : State). l.clock) still)) f.others) in
+      drained k a.left f.mid new f.between after a.sound a.held (subst (λ t. AreDrained t k f.mid f.between after new) (sym (ap (λ (l : State). l.clock) still)) f.others) in
       record {
         ends = a.ends ++ r.ends;
         effects = behind_effects m a.left a.ends r.ends before.effects f.between.effects after.effects (ap (λ (l : State). l.keys) still) (ap (λ (l : State). l.next) still) a.effects r.effects;
@@ -119,26 +119,37 @@ module _ (entry : EntryJourneyLaw) (arrival : ArrivalJourneyLaw) (zones : Zoned)
         held = r.held;
       }
 
-  pub all_arrive : (m : State) (s new : SimState) (before after : SimOut) → IsUnderWay m zones more → HaveVirtualPorts m.config.net → HoldsNetwork m zones.numbers sets s → AreDrained m.clock most_arrivals s before after new → IsDrained most_arrivals m zones sets more before after new
-  all_arrive m s new before after u virtual h d = drained most_arrivals m s new before after u virtual h d
+  pub all_arrive : (m : State) (s new : SimState) (before after : SimOut) → IsUnderWay m zones more → HoldsNetwork m zones.numbers sets s → AreDrained m.clock most_arrivals s before after new → IsDrained most_arrivals m zones sets more before after new
+  all_arrive m s new before after u h d = drained most_arrivals m s new before after u h d
 
 pub all_arrives : EntryJourneyLaw → ArrivalJourneyLaw → AllArriveLaw
-all_arrives entry arrival m zones sets more s new before after u virtual h d =
-    let r = all_arrive entry arrival zones sets more m s new before after u virtual h d in
+all_arrives entry arrival m zones sets more s new before after u h d =
+    let r = all_arrive entry arrival zones sets more m s new before after u h d in
     record { ends = r.ends; effects = r.effects; left = r.left; moves = all_drain m r.ends r.left r.moved; sound = r.sound; held = r.held }
 
-pub goes_through : EntryJourneyLaw → ArrivalJourneyLaw → GoesThroughLaw
-goes_through entry arrival m zones sets more s new port frame after u virtual h through =
-    let g = through.goes_in in
-    let a = (entry m zones sets more s through.mid any_legal port g.packet no_out through.between u h (λ i there. virtual i.switch) g.whole g.injected).journey in
+-- what a packet left that went in, and what all left that waited then
+then_drained : EntryJourneyLaw → ArrivalJourneyLaw → (m : State) (zones : Zoned) (sets : Sets) (more : ℕ) (s new : SimState) (port : Name) (frame : List ℕ) (after : SimOut) (through : GoesThrough m.clock s port frame after new)
+    → IsJourney m zones sets more (enter_one port through.goes_in.packet) no_out through.between through.mid → IsJourney m zones sets more (enter_and_arrive port through.goes_in.packet) no_out after new
+then_drained entry arrival m zones sets more s new port frame after through a =
     let still = a.moves.rest in
     let r =
-    all_arrive entry arrival zones sets (more + 64) a.left through.mid new through.between after a.sound (subst (λ (n : Network). HaveVirtualPorts n) (sym (ap (λ (l : State). l.config.net) still)) virtual) a.held (subst (λ t. AreDrained t most_arrivals through.mid through.between after new) (sym (ap (λ (l : State). l.clock) still)) through.drained) in
+    all_arrive entry arrival zones sets more a.left through.mid new through.between after a.sound a.held (subst (λ t. AreDrained t most_arrivals through.mid through.between after new) (sym (ap (λ (l : State). l.clock) still)) through.drained) in
     record {
       ends = a.ends ++ r.ends;
       effects = behind_effects m a.left a.ends r.ends no_out.effects through.between.effects after.effects (ap (λ (l : State). l.keys) still) (ap (λ (l : State). l.next) still) a.effects r.effects;
       left = r.left;
-      moves = enters_and_drains m port g.packet a.ends r.ends a.left r.left a.moves r.moved;
+      moves = enters_and_drains m port through.goes_in.packet a.ends r.ends a.left r.left a.moves r.moved;
       sound = r.sound;
       held = r.held;
     }
+
+pub goes_through : EntryJourneyLaw → ArrivalJourneyLaw → GoesThroughLaw
+goes_through entry arrival m zones sets more s new port frame after u h virtual through =
+    let g = through.goes_in in
+    then_drained entry arrival m zones sets (more + 64) s new port frame after through (entry m zones sets more s through.mid any_legal port g.packet no_out through.between u h virtual g.whole g.injected).journey
+
+pub goes_routed : EntryJourneyLaw → RoutedEntryLaw → ArrivalJourneyLaw → RoutedThroughLaw
+goes_routed entry routed arrival m zones sets more s new port frame after u h through =
+    let g = through.goes_in in
+    let r = routed m zones sets more s through.mid any_legal port g.packet no_out through.between u h g.whole g.injected in
+    (r.sent, then_drained entry arrival m zones sets (more + r.sent) s new port frame after through r.journey)

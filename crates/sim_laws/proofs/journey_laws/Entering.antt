@@ -85,7 +85,7 @@ module _ (fills : FillingLaw) (visits : VisitLaw) (whole_walk : WholeWalkLaw) (m
 
     good : IsGoodList (list_of m.lists (of_port i.name))
     good =
-        let z = found (k.number (of_port i.name)) (ready.wired.zoned i.name home) in
+        let z = found (k.number (of_port i.name)) (ready.around.wired.zoned i.name home) in
         let own = hold (of_port i.name) z.0 z.1 in
         subst IsGoodList (sym (list_is m.lists (of_port i.name) own.list own.has)) own.good
 
@@ -94,7 +94,7 @@ module _ (fills : FillingLaw) (visits : VisitLaw) (whole_walk : WholeWalkLaw) (m
 
     w : IsWalked k 0 Such way m.lists effects left
     w =
-        walked k 0 Such whole_walk way m.lists lists (start (Vif i.name) packet ∷ []) (visits k ready.laid zones.numbers ready.wired i there home virtual refl packet whole m.lists lists hold)
+        walked k 0 Such whole_walk way m.lists lists (start (Vif i.name) packet ∷ []) (visits k ready.around.laid zones.numbers ready.around.wired i there home virtual refl packet whole m.lists lists hold)
         (λ choices legal.
         let first : Trail = trail_with m.lists choices [] in
         let x = visit_sends m u.valid u.keys i there (λ q found on. virtual q.name q found on) chassis home first packet (enter_whole scene u.valid i there first (λ is. good) packet whole) legal in
@@ -134,7 +134,7 @@ module _ (fills : FillingLaw) (visits : VisitLaw) (whole_walk : WholeWalkLaw) (m
       absurd (none-some flows.0 (sym none ∙ flows.1))
 
 -- the port is bound
-bound_of : (by : Choosing) (s new : sim.SimState) (p : Name) (now : ℕ) (packet : Packet) (before after : SimOut) → passing.IsInjected by s p now packet before after new → (chassis : Name) × (at_name s.bindings p ≡ Some chassis)
+pub bound_of : (by : Choosing) (s new : sim.SimState) (p : Name) (now : ℕ) (packet : Packet) (before after : SimOut) → passing.IsInjected by s p now packet before after new → (chassis : Name) × (at_name s.bindings p ≡ Some chassis)
 bound_of by s new p now packet before after (passing.IsInjected.through chassis flows lists left steps effects bound held listed walk told) = (chassis, bound)
 bound_of by s new p now packet before after (passing.IsInjected.nowhere chassis bound none told) = (chassis, bound)
 

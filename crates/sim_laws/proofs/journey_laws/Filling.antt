@@ -208,4 +208,4 @@ module _ (m : State) (zones : Zoned) (sets : Sets) (chassis : Name) (flows : Lis
   }
 
 pub fills_so : CanLowerLaw → FillingLaw
-fills_so law m zones more sets chassis flows u all = fills m zones sets chassis flows (law m.config.net m.keys u.valid u.keys.hold (owners_live m.config.net m.keys u.valid u.keys u.no_router)) all
+fills_so law m zones more sets chassis flows u all = fills m zones sets chassis flows (law m.config.net m.keys u.valid u.keys.hold (owners_live m.config.net m.keys u.valid u.keys)) all

@@ -43,6 +43,7 @@ may_then m x w = record {
   aim_key = w.aim_key;
   in_live = w.in_live;
   aim_live = w.aim_live;
+  no_router = w.no_router;
   no_return = w.no_return;
 }
 
@@ -76,9 +77,10 @@ module _ (m : State) (zones : Zoned) (sets : Sets) (more : ℕ) (s : SimState) (
   kept = (
     record {
       valid = u.valid;
-      no_router = u.no_router;
+      distributed = u.distributed;
       keys = u.keys;
       bound = u.bound;
+      bound_virtual = u.bound_virtual;
       at_home = u.at_home;
       born = births_then m u.born;
       on_the_way = record {
@@ -125,9 +127,10 @@ module _ (m : State) (zones : Zoned) (sets : Sets) (more : ℕ) (s : SimState) (
       let b = births_then m u.born in (
         record {
           valid = u.valid;
-          no_router = u.no_router;
+          distributed = u.distributed;
           keys = keys_settled;
           bound = u.bound;
+          bound_virtual = u.bound_virtual;
           at_home = u.at_home;
           born = record { records = b.records; keys = settled_born m.keys (event_count (counted m m.keys)) b.keys; none = b.none };
           on_the_way = record {
@@ -160,9 +163,10 @@ finishes m zones sets more s u few events h = over m zones sets more s u few eve
 pub begins : BeginsLaw
 begins m zones r = record {
   valid = r.valid;
-  no_router = r.no_router;
+  distributed = r.distributed;
   keys = r.keys;
   bound = r.bound;
+  bound_virtual = r.bound_virtual;
   at_home = r.at_home;
   born = r.born;
   crossings = r.on_the_way.crossings;

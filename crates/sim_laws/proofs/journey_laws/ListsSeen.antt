@@ -1,6 +1,6 @@
 -- The zones of the chassis have the connection lists of the network.
 use Rattle.std.specs.Prelude.{◌≡◌, Bool, List, [], ◌∷◌, map, Option, Some, None, IsSome, is_some, option_map, unwrap_or, refl}
-use Rattle.std.specs.List.{filter, list_any}
+use Rattle.std.specs.List.{list_any}
 use Rattle.std.specs.BTreeMap.{is_at}
 use Rattle.std.specs.Cmp.Lexicographic.{slice_cmp}
 use Rattle.std.specs.List.Sorted.{IsStrictlySortedBy}
@@ -15,8 +15,6 @@ use Rattle.conn_table.specs.Connections.{ConnectionList}
 use Rattle.conn_zones.specs.Zoning.{Zoned, KnownHomes, number_on}
 use Rattle.conn_zones.specs.declared.numbers.ZoneUse.{ZoneUse}
 use Rattle.conn_zones.specs.declared.numbers.ZoneUse.TheVariants as zone
-use Rattle.nb_records.specs.declared.router.Router.{Router}
-use Rattle.net_model.specs.Config.{home_of_router, is_on_one}
 use Rattle.net_model.specs.ListOwners.{homed_routers}
 use Rattle.net_model.specs.Trail.{of_port}
 use Rattle.ovn_base.proofs.ByNameLaws.{one_or_two, at_head, at_tail}
@@ -26,6 +24,7 @@ use Rattle.ovn_base.specs.names.ByName.{at, IsByName}
 use Rattle.physical_flows.proofs.FlowSearch.{is_some_of}
 use Rattle.switch_engine.specs.Zones.{ZoneLists}
 use Rattle.tunnel_keys.proofs.HeldKeys.{found}
+use Rattle.sim_laws.proofs.Homes.{no_homed}
 use Rattle.sim_laws.specs.journeys.SeenLists.{list_in, lists_at, SeenListsLaw}
 
 -- ---- entries
@@ -105,7 +104,7 @@ lists_are_seen m zones sets more s u h = λ i. record { ports = ports_seen i; dn
 
     -- no router is at home
     nobody : homed_routers m.config ≡ []
-    nobody = ap (λ (rs : List (Name × Router)). keys_of (filter (λ (e : Name × Router). is_on_one (home_of_router m.config e.1)) rs)) u.no_router.routers
+    nobody = no_homed m.config u.valid u.distributed
 
     routers_seen : (whose : Name → ZoneUse) (lists : List (Name × ConnectionList)) → keys_of lists ≡ homed_routers m.config → lists ≡ lists_at zones.numbers s.zones whose zones.homes.routers
     routers_seen whose lists owners = none_listed lists (owners ∙ nobody) ∙ sym (ap (λ (k : KnownHomes). lists_at zones.numbers s.zones whose k.routers) u.bound.homes)

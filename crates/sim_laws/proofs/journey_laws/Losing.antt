@@ -20,9 +20,10 @@ loses_so m zones sets more s n u h = (
   },
   record {
     valid = u.valid;
-    no_router = u.no_router;
+    distributed = u.distributed;
     keys = u.keys;
     bound = u.bound;
+    bound_virtual = u.bound_virtual;
     at_home = u.at_home;
     born = record { records = u.born.records; keys = u.born.keys; none = u.born.none };
     crossings = crossings_kept false m n u.crossings;

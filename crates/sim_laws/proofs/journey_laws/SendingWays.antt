@@ -72,7 +72,7 @@ module _ (s : Scene) (n : ℕ) where
         (copies_on came qs (λ r m. virtual r (there m)) (λ r m. home r (there m)) first p)
 
     module _ (from : SentFrom) (p : Packet) (P : Crossing → Type 0) where
-      cross_on : (g : Group) (homes : List Name) (t : Trail) → OnWay (map (λ home. crossing_to from (ToGroup g) home p) homes) t (cross_to_each s.here from g p homes t)
+      pub cross_on : (g : Group) (homes : List Name) (t : Trail) → OnWay (map (λ home. crossing_to from (ToGroup g) home p) homes) t (cross_to_each s.here from g p homes t)
       cross_on g [] t = stays s.config s.here n t
       cross_on g (home ∷ homes) t =
           let x = crossing_to from (ToGroup g) home p in

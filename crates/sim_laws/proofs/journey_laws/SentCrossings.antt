@@ -41,11 +41,12 @@ use Rattle.tunnel_keys.specs.Keys.{held_datapath, held_datapaths}
 use Rattle.tunnel_keys.specs.declared.owner.HeldDatapath.{HeldDatapath}
 use Rattle.tunnel_keys.specs.declared.owner.Identity.{Identity}
 use Rattle.sim_laws.proofs.KeyLookups.{HasKeyOn, key_on, on_live}
+use Rattle.sim_laws.proofs.journey_laws.Premises.{not_both}
 use Rattle.sim_laws.proofs.journey_laws.SendingWays.{Suits}
 use Rattle.sim_laws.proofs.pipelines.TargetKeys.{IsFoundTarget, found_so}
 use Rattle.sim_laws.specs.Effects.{spelled}
 use Rattle.sim_laws.specs.SentFrames.{IsSentFrom}
-use Rattle.sim_laws.specs.Sound.{HasAimKey, IsAimOnLive}
+use Rattle.sim_laws.specs.Sound.{HasAimKey, IsAimOnLive, IsNoRouter}
 use Rattle.net_model.specs.Entry.{Onward}
 
 -- ---- targets
@@ -110,6 +111,10 @@ module _ (m : State) (valid : IsValid m.config.net) (have : HaveKeys m.config.ne
       let k = have.datapath_has i.switch w.0 w.1 in
       (held_datapath (i.switch, k.0), datapath_held net m.keys have i.switch k.0 k.1, (λ j. record { name = i.switch; birth = k.2 j }) ∙ switch_is)
 
+  -- no router is the switch
+  not_router : IsNoRouter net from.switch
+  not_router = let w = its_switch in subst (IsNoRouter net) switch_is (λ router there same. not_both net valid i.switch w.0 router w.1 there)
+
   -- the crossing is one of a packet from the port
   abbrev pub IsOwn : Crossing → Type 0
   IsOwn x = IsSentFrom m i.name x.home (spelled m.keys x) x
@@ -131,32 +136,39 @@ module _ (m : State) (valid : IsValid m.config.net) (have : HaveKeys m.config.ne
           aim_key = key;
           in_live = on_live m have from.switch (port_identity i) own;
           aim_live = live;
+          no_router = not_router;
           no_return = other;
         };
         home = refl;
         spelled_so = refl;
       }
 
+  -- to another port, and to a group
+  pub to_port_but : (o : SwitchPort) → IsEnabled net valid i.switch o → (to : Name) (p : Packet) → IsWhole p → ¬ (o.name ≡ i.name) → IsOwn (crossing_to from (ToPort (port_identity o)) to p)
+  to_port_but o e to p whole apart =
+      let k = port_key_on o e.there e.on in
+      sent (ToPort (port_identity o)) to p whole (k.held, k.among, k.owner) (on_live m have from.switch (port_identity o) k) (λ same. apart (same_Some o.name i.name (ap aim_name same)))
+    where
+      aim_name : Aim → Option Name
+      aim_name (ToPort id) = Some id.name
+      aim_name (ToGroup g) = None
+
+  pub to_all : (g : Group) (to : Name) (p : Packet) → IsWhole p → IsOwn (crossing_to from (ToGroup g) to p)
+  to_all g to p whole = sent (ToGroup g) to p whole tt tt (λ same. no_group g same)
+    where
+      no_group : (g : Group) → ToGroup g ≡ ToPort (port_identity i) → ⊥
+      no_group g e = cc e
+
   -- it is sent from where it is bound
   module _ (chassis : Name) (home : at m.config.bindings i.name ≡ Some chassis) (p : Packet) (whole : IsWhole p) where
-    abbrev aim_name : Aim → Option Name
-    aim_name (ToPort id) = Some id.name
-    aim_name (ToGroup g) = None
-
     pub to_port : (o : SwitchPort) → IsEnabled net valid i.switch o → (to : Name) → at m.config.bindings o.name ≡ Some to → same_name to chassis ≡ false → IsOwn (crossing_to from (ToPort (port_identity o)) to p)
     to_port o e to bound apart =
-        let k = port_key_on o e.there e.on in
-        sent (ToPort (port_identity o)) to p whole (k.held, k.among, k.owner) (on_live m have from.switch (port_identity o) k)
-        (λ same.
-        let name : o.name ≡ i.name = same_Some o.name i.name (ap aim_name same) in
-        let one : to ≡ chassis = same_Some to chassis (sym bound ∙ ap (λ a. at m.config.bindings a) name ∙ home) in
+        to_port_but o e to p whole (λ same.
+        let one : to ≡ chassis = same_Some to chassis (sym bound ∙ ap (λ a. at m.config.bindings a) same ∙ home) in
         false≢true (sym apart ∙ (bytes_decides to chassis).1 one))
 
     pub to_members : (g : Group) (to : Name) → IsOwn (crossing_to from (ToGroup g) to p)
-    to_members g to = sent (ToGroup g) to p whole tt tt (λ same. no_group g same)
-      where
-        no_group : (g : Group) → ToGroup g ≡ ToPort (port_identity i) → ⊥
-        no_group g e = cc e
+    to_members g to = to_all g to p whole
 
   -- ---- the target suits
 

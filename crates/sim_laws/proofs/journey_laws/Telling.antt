@@ -56,6 +56,7 @@ may_still m lists waiting next x w = record {
   aim_key = w.aim_key;
   in_live = w.in_live;
   aim_live = w.aim_live;
+  no_router = w.no_router;
   no_return = w.no_return;
 }
 
@@ -73,9 +74,10 @@ pub led_sound : (m : State) (zones : Zoned) (more most : ℕ) (lists : Lists) (w
     → m.next + length (crossings_in ends) ≤ 1 + 2 ^ 64 * event_count m + most → IsUnderWay (led m lists waiting ends) zones most
 led_sound m zones more most lists waiting ends u at_home c may few = record {
   valid = u.valid;
-  no_router = u.no_router;
+  distributed = u.distributed;
   keys = u.keys;
   bound = u.bound;
+  bound_virtual = u.bound_virtual;
   at_home = at_home;
   born = record { records = u.born.records; keys = u.born.keys; none = u.born.none };
   crossings = crossings_behind k ends (record { in_order = c.in_order; below = c.below; may = λ n x w. still x (c.may n x w) }) (λ x w. may_still m lists waiting m.next x (may x w));
@@ -94,6 +96,7 @@ led_sound m zones more most lists waiting ends u at_home c may few = record {
       aim_key = w.aim_key;
       in_live = w.in_live;
       aim_live = w.aim_live;
+      no_router = w.no_router;
       no_return = w.no_return;
     }
 

@@ -74,6 +74,7 @@ may_then m seconds x w = record {
   aim_key = w.aim_key;
   in_live = w.in_live;
   aim_live = w.aim_live;
+  no_router = w.no_router;
   no_return = w.no_return;
 }
 
@@ -81,9 +82,10 @@ pub ticks : TickLaw
 ticks m zones sets more s seconds u h = (
   record {
     valid = u.valid;
-    no_router = u.no_router;
+    distributed = u.distributed;
     keys = u.keys;
     bound = u.bound;
+    bound_virtual = u.bound_virtual;
     at_home = record {
       ports = owners_then (m.clock + seconds) m.lists.ports ∙ u.at_home.ports;
       dnats = owners_then (m.clock + seconds) m.lists.dnats ∙ u.at_home.dnats;

@@ -75,28 +75,29 @@ module _ (s : Scene) (n : ℕ) (x : Crossing) where
   lost_on : (t : Trail) → OnWay s n [] t (tell (is_lost n) t)
   lost_on t = told s.config s.here n (is_lost n) t refl
 
-  port_on : (id : Identity) → ((q : SwitchPort) → IsAimed (ToPort id) q → is_virtual q ≡ true) → (o : Option SwitchPort) → at s.config.net.switch_ports id.name ≡ o → (t : Trail) → OnWay s n [] t (reach_port s n x (port_reached s id o) t)
+  port_on : (id : Identity) → ((q : SwitchPort) → IsAimed (ToPort id) q → is_reached s q ≡ true → is_virtual q ≡ true) → (o : Option SwitchPort) → at s.config.net.switch_ports id.name ≡ o → (t : Trail) → OnWay s n [] t (reach_port s n x (port_reached s id o) t)
   port_on id virtual None e t = lost_on t
   port_on id virtual (Some q) e t = by (same_identity (port_identity q) id && is_reached s q) refl
     where
       by : (b : Bool) → (same_identity (port_identity q) id && is_reached s q) ≡ b → OnWay s n [] t (reach_port s n x (cond b (Some q) None) t)
       by true h =
           let parts = and_parts (same_identity (port_identity q) id) (is_reached s q) h in
-          let is = virtual q (e, parts.0) in
+          let is = virtual q (e, parts.0) parts.1 in
           leave_on s n (passing_on s) x.in_port q is (reached_here q is parts.1) t x.packet
       by false h = lost_on t
 
-  aim_on : (aim : Aim) → ((q : SwitchPort) → IsAimed aim q → is_virtual q ≡ true) → (t : Trail) → OnWay s n [] t (reach s n x aim t)
+  aim_on : (aim : Aim) → ((q : SwitchPort) → IsAimed aim q → is_reached s q ≡ true → is_virtual q ≡ true) → (t : Trail) → OnWay s n [] t (reach s n x aim t)
   aim_on (ToPort id) virtual t = port_on id virtual (at s.config.net.switch_ports id.name) refl t
   aim_on (ToGroup g) virtual t =
       let qs = members s.config.net x.datapath.name g in
       let test : SwitchPort → Bool = λ q. is_reached s q && not (same_identity (port_identity q) x.in_port) in
-      let member : (q : SwitchPort) → Among q (members_reached s x.in_port qs) → is_virtual q ≡ true = λ q among. virtual q (filter_among test q qs among).0 in
-      copies_on s n (passing_on s) x.in_port (members_reached s x.in_port qs) member
-      (λ q among. reached_here q (member q among) (and_parts (is_reached s q) (not (same_identity (port_identity q) x.in_port)) (filter_among test q qs among).1).0) t x.packet
+      let is_there : (q : SwitchPort) → Among q (members_reached s x.in_port qs) → is_reached s q ≡ true =
+      λ q among. (and_parts (is_reached s q) (not (same_identity (port_identity q) x.in_port)) (filter_among test q qs among).1).0 in
+      let member : (q : SwitchPort) → Among q (members_reached s x.in_port qs) → is_virtual q ≡ true = λ q among. virtual q (filter_among test q qs among).0 (is_there q among) in
+      copies_on s n (passing_on s) x.in_port (members_reached s x.in_port qs) member (λ q among. reached_here q (member q among) (is_there q among)) t x.packet
 
   -- an arrival
-  pub arrival_on : (is_switch s.config.net x.datapath ≡ true → (q : SwitchPort) → IsAimed x.aim q → is_virtual q ≡ true) → (t : Trail) → OnWay s n [] t (arrival s n x t)
+  pub arrival_on : (is_switch s.config.net x.datapath ≡ true → (q : SwitchPort) → IsAimed x.aim q → is_reached s q ≡ true → is_virtual q ≡ true) → (t : Trail) → OnWay s n [] t (arrival s n x t)
   arrival_on virtual t = by (is_switch s.config.net x.datapath) refl
     where
       by : (b : Bool) → is_switch s.config.net x.datapath ≡ b → OnWay s n [] t (reach_if b s n x t)

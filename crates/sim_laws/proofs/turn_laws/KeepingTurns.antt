@@ -5,9 +5,9 @@ use Rattle.std.specs.Map.{keys_of, values_of}
 use Rattle.std.proofs.Common.{sym, ap, ◌∙◌, subst}
 use Rattle.std.proofs.lemmas.Bool.{cond-true, false_from_ne_true, false≢true}
 use Rattle.nb_records.specs.Switches.{is_named}
-use Rattle.nb_records.specs.declared.router.Router.{Router}
 use Rattle.nb_records.specs.declared.switch.SwitchPort.{SwitchPort}
-use Rattle.net_model.specs.Config.{Config, home_of_router, is_on_one, port_identity}
+use Rattle.nb_rules.specs.Valid.{IsValid}
+use Rattle.net_model.specs.Config.{Config, port_identity}
 use Rattle.net_model.specs.ListOwners.{homed_routers, names_of}
 use Rattle.net_model.specs.Transition.{add_chassis, gone_ports, identity_at, is_still_port, is_still_there}
 use Rattle.ovn_base.proofs.AmongLaws.{among_none, any_among, filter_among, map_among}
@@ -18,15 +18,13 @@ use Rattle.ovn_base.specs.names.ByName.{at}
 use Rattle.ovn_base.specs.names.SameName.{bytes_decides, same_name}
 use Rattle.row_laws.proofs.records.ValidPorts.{own_place}
 use Rattle.tunnel_keys.specs.declared.owner.Identity.{Identity}
+use Rattle.sim_laws.proofs.Homes.{no_homed}
 use Rattle.sim_laws.specs.journeys.TurnedZones.{ComingChassisLaw, EditingLaw}
-use Rattle.sim_laws.specs.journeys.UnderWay.{HasNoRouter}
+use Rattle.sim_laws.specs.routers.Patches.{AreDistributed}
 
--- where no router is there, none is at home
-no_homed : (c : Config) → HasNoRouter c.net → homed_routers c ≡ []
-no_homed c none = ap (λ (rs : List (Name × Router)). keys_of (filter (λ (e : Name × Router). is_on_one (home_of_router c e.1)) rs)) none.routers
-
-none_homed : (c : Config) → HasNoRouter c.net → (r : Name) → ¬ Among r (homed_routers c)
-none_homed c none r among = among_none r (subst (λ rs. Among r rs) (no_homed c none) among)
+-- where all routers are distributed, none is at home
+none_homed : (c : Config) → IsValid c.net → AreDistributed c.net → (r : Name) → ¬ Among r (homed_routers c)
+none_homed c valid distributed r among = among_none r (subst (λ rs. Among r rs) (no_homed c valid distributed) among)
 
 -- where all pass, all are kept
 all_pass : {X : Type 0} (test : X → Bool) (xs : List X) → ((x : X) → Among x xs → test x ≡ true) → filter test xs ≡ xs
@@ -34,12 +32,12 @@ all_pass test [] h = refl
 all_pass test (x ∷ xs) h = cond-true (test x) (x ∷ filter test xs) (filter test xs) (h x here) ∙ ap (λ ys. x ∷ ys) (all_pass test xs (λ y m. h y (there m)))
 
 pub edits_keep : EditingLaw
-edits_keep m zones more net u none stay = record {
+edits_keep m zones more net u valid distributed stay = record {
   bindings = all_pass (λ (e : Name × Name). is_still_there net (identity_at m.config.net e.0)) m.config.bindings
       (λ e among. stay e.0 e.1 (among_at e.0 e.1 m.config.bindings u.bound.bindings_sorted among));
-  routers = no_homed (record m.config { net = net; bindings = filter (λ (e : Name × Name). is_still_there net (identity_at m.config.net e.0)) m.config.bindings }) none ∙ sym (no_homed m.config u.no_router);
+  routers = no_homed (record m.config { net = net; bindings = filter (λ (e : Name × Name). is_still_there net (identity_at m.config.net e.0)) m.config.bindings }) valid distributed ∙ sym (no_homed m.config u.valid u.distributed);
   ports_kept = λ q among. false_from_ne_true (is_named q (names_of (gone_ports m.config.net net))) (not_gone q among);
-  routers_kept = λ r among. absurd (none_homed m.config u.no_router r among);
+  routers_kept = λ r among. absurd (none_homed m.config u.valid u.distributed r among);
 }
   where
     -- a port that is gone isn't bound
@@ -66,7 +64,7 @@ edits_keep m zones more net u none stay = record {
 pub chassis_keep : ComingChassisLaw
 chassis_keep m zones more chassis u = record {
   bindings = refl;
-  routers = no_homed (add_chassis m.config chassis).next u.no_router ∙ sym (no_homed m.config u.no_router);
+  routers = no_homed (add_chassis m.config chassis).next u.valid u.distributed ∙ sym (no_homed m.config u.valid u.distributed);
   ports_kept = λ q among. refl;
   routers_kept = λ r among. refl;
 }

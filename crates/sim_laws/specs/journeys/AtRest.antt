@@ -10,14 +10,16 @@ use Rattle.physical_flows.specs.RecordKeys.{HaveKeys}
 use Rattle.sim_laws.specs.Sound.{AreBorn, AreOnTheWay}
 use Rattle.sim_laws.specs.journeys.AtHome.{AreAtHome}
 use Rattle.sim_laws.specs.journeys.Holding.{HoldsNetwork}
-use Rattle.sim_laws.specs.journeys.UnderWay.{HasNoRouter, IsUnderWay}
+use Rattle.sim_laws.specs.journeys.UnderWay.{BoundAreVirtual, IsUnderWay}
+use Rattle.sim_laws.specs.routers.Patches.{AreDistributed}
 
 -- the state is one that events can leave
 pub record IsAtRest (m : State) (zones : Zoned) : Type 0 where
   pub valid : IsValid m.config.net
-  pub no_router : HasNoRouter m.config.net
+  pub distributed : AreDistributed m.config.net
   pub keys : HaveKeys m.config.net m.keys
   pub bound : AreBound m.config zones
+  pub bound_virtual : BoundAreVirtual m.config
   pub at_home : AreAtHome m.config m.lists
   pub born : AreBorn m
   pub on_the_way : AreOnTheWay m

@@ -1,9 +1,10 @@
 -- What the laws of passes ask of a chassis, soundness and what is held give.
-use Rattle.std.specs.Prelude.{◌≡◌, ◌≤◌, ℕ, true, List, Some, IsSome}
+use Rattle.std.specs.Prelude.{◌≡◌, ◌≤◌, ℕ, true, false, List, Some, None, IsSome}
 use Rattle.chassis_sim.specs.State as sim
 use Rattle.chassis_sim.specs.State.{at_name}
 use Rattle.conn_zones.specs.Zoning.{Zoned, GivenNumbers, number_on}
 use Rattle.conn_zones.specs.declared.numbers.TheConstants.{MAX_ZONE}
+use Rattle.conn_zones.specs.declared.numbers.ZoneUse.{ZoneUse}
 use Rattle.conn_zones.specs.declared.numbers.ZoneUse.TheVariants.{Port}
 use Rattle.flow_table.specs.declared.flow.Flow.{Flow}
 use Rattle.match_cubes.specs.declared.sets.Sets.{Sets}
@@ -25,19 +26,20 @@ use Rattle.sim_laws.specs.journeys.Holding.{HoldsNetwork}
 use Rattle.sim_laws.specs.journeys.InState.{chassis_at}
 use Rattle.sim_laws.specs.journeys.UnderWay.{IsUnderWay}
 use Rattle.sim_laws.specs.passes.Arriving.{AreOwned, MayArrive}
-use Rattle.sim_laws.specs.passes.Physical.{IsWired}
 use Rattle.sim_laws.specs.pipelines.HeldLists.{AreApart}
-use Rattle.sim_laws.specs.pipelines.Standing.{Chassis, net_of, IsLaidOut}
+use Rattle.sim_laws.specs.pipelines.Standing.{Chassis, net_of}
+use Rattle.sim_laws.specs.routers.Patches.{IsLaidAround, AreDistributed}
 
--- Who has a key by the records has a live one, and on switches nobody else does; who is at home has a zone, each of its own; and each crossing that
--- waits may arrive.
+-- Who has a key by the records has a live one, and on switches nobody else does; who is at home has a zone, each of its own; no port that leads to a
+-- router is bound; and each crossing that waits may arrive.
 pub record IsSoundOn (m : State) (numbers : GivenNumbers) (s : Chassis) : Type 0 where
   pub live : (owner : KeyOwner) → Among owner (owners_of (net_of s)) → IsLive s.keys owner
   pub owned : AreOwned s
   pub apart : AreApart s.number
   pub number : (q : Name) → s.number (of_port q) ≡ number_on numbers s.scene.here (Port q)
   pub zoned : (q : Name) → at s.scene.config.bindings q ≡ Some s.scene.here → IsSome (s.number (of_port q))
-  pub in_range : (q : Name) (z : ℕ) → s.number (of_port q) ≡ Some z → z ≤ MAX_ZONE
+  pub in_range : (zone : ZoneUse) (n : ℕ) → number_on numbers s.scene.here zone ≡ Some n → n ≤ MAX_ZONE
+  pub unbound : (q : SwitchPort) → at (net_of s).switch_ports q.name ≡ Some q → is_virtual q ≡ false → at s.scene.config.bindings q.name ≡ None
   pub arrive : (n : ℕ) (x : Crossing) → Among (n, x) m.waiting → MayArrive s x
 
 -- A sound state is so on each of its chassis.
@@ -56,8 +58,8 @@ HaveVirtualPorts net = (switch : Name) → HasVirtualPorts net switch
 
 -- the chassis has what the laws of passes ask
 pub record IsReady (s : Chassis) (numbers : GivenNumbers) : Type 0 where
-  pub laid : IsLaidOut s
-  pub wired : IsWired s numbers
+  pub around : IsLaidAround s numbers
+  pub distributed : AreDistributed (net_of s)
   pub owned : AreOwned s
 
 -- Each chassis that is held has it.

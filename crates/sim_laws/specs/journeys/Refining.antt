@@ -1,10 +1,10 @@
 -- What the simulated chassis do with packets is what the network does with them.
-use Rattle.std.specs.Prelude.{◌≡◌, ◌++◌, ◌+◌, ℕ, Bool, true, false, List, [], Some}
+use Rattle.std.specs.Prelude.{◌≡◌, ◌++◌, ◌+◌, ℕ, Bool, true, false, List, [], length, Some}
 use Rattle.std.specs.BTreeMap.{is_at}
 use Rattle.std.specs.Map.{remove_entry}
 use Rattle.std.specs.Ordering.{nat_cmp}
 use Rattle.chassis_sim.specs.Passing.{IsInjected, IsArrived}
-use Rattle.chassis_sim.specs.State.{SimState, numbered, without}
+use Rattle.chassis_sim.specs.State.{SimState, without}
 use Rattle.chassis_sim.specs.declared.out.SimOut.{SimOut}
 use Rattle.conn_zones.specs.Zoning.{Zoned}
 use Rattle.inet_packet.specs.Whole.{IsWhole}
@@ -21,6 +21,7 @@ use Rattle.nb_records.specs.declared.switch.SwitchPort.{SwitchPort}
 use Rattle.switch_engine.specs.Outcome.{Choosing}
 use Rattle.sim_laws.specs.Effects.{effects_of, spelled}
 use Rattle.sim_laws.specs.SentFrames.{IsSentFrom}
+use Rattle.sim_laws.specs.Sound.{MayWait}
 use Rattle.sim_laws.specs.journeys.Holding.{HoldsNetwork}
 use Rattle.sim_laws.specs.journeys.Moves.{MovesFor}
 use Rattle.sim_laws.specs.journeys.Premises.{HasVirtualPorts}
@@ -40,6 +41,14 @@ pub record IsJourney (m : State) (zones : Zoned) (sets : Sets) (more : ℕ) (tra
 pub record IsEntry (m : State) (zones : Zoned) (sets : Sets) (more : ℕ) (port : Name) (packet : Packet) (before after : SimOut) (new : SimState) : Type 0 where
   pub journey : IsJourney m zones sets (more + 64) (enter_one port packet) before after new
   pub sent : (x : Crossing) → Among x (crossings_in journey.ends) → IsSentFrom m port x.home (spelled m.keys x) x
+  pub waiting : journey.left.waiting ≡ m.waiting ++ numbered_from m.next (crossings_in journey.ends)
+
+-- A packet entered at the port, and went on through switches and routers. So many frames were sent, each from the switch in which the packet was.
+pub record IsRoutedEntry (m : State) (zones : Zoned) (sets : Sets) (more : ℕ) (port : Name) (packet : Packet) (before after : SimOut) (new : SimState) : Type 0 where
+  pub sent : ℕ
+  pub journey : IsJourney m zones sets (more + sent) (enter_one port packet) before after new
+  pub count : length (crossings_in journey.ends) ≡ sent
+  pub may : (x : Crossing) → Among x (crossings_in journey.ends) → MayWait m x
   pub waiting : journey.left.waiting ≡ m.waiting ++ numbered_from m.next (crossings_in journey.ends)
 
 -- the crossings that wait on where that of the number arrives
@@ -62,12 +71,20 @@ EntryJourneyLaw =
     → IsWhole packet → IsInjected by s port m.clock packet before after new
     → IsEntry m zones sets more port packet before after new
 
--- A frame that arrives is its crossing, that arrives, and waits on where it is kept; no frame is sent for it. No port of its switch leads to a router.
+-- So it is where ports lead to routers: the packet goes on through them.
+abbrev pub RoutedEntryLaw : Type 0
+RoutedEntryLaw =
+    (m : State) (zones : Zoned) (sets : Sets) (more : ℕ) (s new : SimState) (by : Choosing) (port : Name) (packet : Packet) (before after : SimOut)
+    → IsUnderWay m zones more → HoldsNetwork m zones.numbers sets s
+    → IsWhole packet → IsInjected by s port m.clock packet before after new
+    → IsRoutedEntry m zones sets more port packet before after new
+
+-- A frame that arrives is its crossing, that arrives, and waits on where it is kept; no frame is sent for it, since a distributed router is entered where
+-- the packet was sent.
 abbrev pub ArrivalJourneyLaw : Type 0
 ArrivalJourneyLaw =
     (m : State) (zones : Zoned) (sets : Sets) (more : ℕ) (s new : SimState) (by : Choosing) (n : ℕ) (keep : Bool) (before after : SimOut)
     → IsUnderWay m zones more → HoldsNetwork m zones.numbers sets s
-    → ((x : Crossing) → numbered m.waiting n ≡ Some x → HasVirtualPorts m.config.net x.datapath.name)
     → IsArrived by s n keep m.clock before after new
     → IsComing m zones sets more n keep before after new
 

@@ -7,6 +7,7 @@ use Rattle.conn_zones.specs.declared.change.HomeChange.{HomeChange}
 use Rattle.conn_zones.specs.declared.numbers.ZoneUse.TheVariants.{Port}
 use Rattle.nb_records.specs.Network.{Network}
 use Rattle.nb_records.specs.Switches.{is_named}
+use Rattle.nb_rules.specs.Valid.{IsValid}
 use Rattle.net_model.specs.ListOwners.{homed_routers, names_of}
 use Rattle.net_model.specs.State.{State}
 use Rattle.net_model.specs.Trail.{ListOwner}
@@ -18,8 +19,9 @@ use Rattle.tunnel_keys.specs.Keys.{Keys}
 use Rattle.sim_laws.specs.journeys.AtHome.{AreAtHome}
 use Rattle.sim_laws.specs.journeys.InState.{zones_on}
 use Rattle.physical_flows.specs.Bindings.{AreBound}
-use Rattle.sim_laws.specs.journeys.UnderWay.{HasNoRouter, IsUnderWay}
+use Rattle.sim_laws.specs.journeys.UnderWay.{IsUnderWay}
 use Rattle.sim_laws.specs.pipelines.HeldLists.{list_there}
+use Rattle.sim_laws.specs.routers.Patches.{AreDistributed}
 
 -- the state after the turn, with these keys
 abbrev pub turned_with : Turn → Keys → State → State
@@ -65,11 +67,11 @@ KeepingLaw =
     → IsUnderWay m zones more → KeepsHomes m turn
     → ((turned_by turn m).lists ≡ m.lists) × IsTurnOfZones m turn zones.numbers zones.numbers []
 
--- An edit is such a turn where each bound port stays and no router comes,
+-- An edit is such a turn where each bound port stays and each router is distributed,
 abbrev pub EditingLaw : Type 0
 EditingLaw =
     (m : State) (zones : Zoned) (more : ℕ) (net : Network)
-    → IsUnderWay m zones more → HasNoRouter net → ((q c : Name) → at m.config.bindings q ≡ Some c → is_still_there net (identity_at m.config.net q) ≡ true)
+    → IsUnderWay m zones more → IsValid net → AreDistributed net → ((q c : Name) → at m.config.bindings q ≡ Some c → is_still_there net (identity_at m.config.net q) ≡ true)
     → KeepsHomes m (edit m.config net)
 
 -- and so is the coming of a chassis.

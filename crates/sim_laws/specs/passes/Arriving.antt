@@ -2,9 +2,7 @@
 use Rattle.std.specs.Prelude.{◌≡◌, ◌≢◌, ℕ, true, [], ◌∷◌, Some, IsSome}
 use Rattle.conn_zones.specs.Zoning.{GivenNumbers}
 use Rattle.inet_packet.specs.Whole.{IsWhole}
-use Rattle.nb_records.specs.declared.router.Router.{Router}
 use Rattle.net_model.specs.Arrival.{is_switch, arrival}
-use Rattle.net_model.specs.Config.{router_identity}
 use Rattle.net_model.specs.Trail.{Lists}
 use Rattle.net_model.specs.Visit.{passing_on}
 use Rattle.net_model.specs.declared.crossing.Aim.{Aim}
@@ -20,7 +18,7 @@ use Rattle.tunnel_keys.specs.declared.owner.HeldDatapath.{HeldDatapath}
 use Rattle.tunnel_keys.specs.declared.owner.HeldPort.{HeldPort}
 use Rattle.tunnel_keys.specs.declared.owner.Identity.{Identity}
 use Rattle.tunnel_keys.specs.declared.owner.PortKey.{PortKey}
-use Rattle.sim_laws.specs.Sound.{HasAimKey}
+use Rattle.sim_laws.specs.Sound.{HasAimKey, IsNoRouter}
 use Rattle.sim_laws.specs.passes.Onward.{LeadsOn}
 use Rattle.sim_laws.specs.passes.Physical.{IsWired, AreVirtual}
 use Rattle.sim_laws.specs.passes.ToEnd.{EndsAs}
@@ -55,7 +53,7 @@ pub record MayArrive (s : Chassis) (x : Crossing) : Type 0 where
   pub aim_key : HasAimKey s.keys x.aim
   pub in_on : IsOnSwitch s x.datapath x.in_port
   pub aim_on : IsAimOnSwitch s x.datapath x.aim
-  pub no_router : (router : Router) → at (net_of s).routers x.datapath.name ≡ Some router → router_identity router ≢ x.datapath
+  pub no_router : IsNoRouter (net_of s) x.datapath
   pub no_return : x.aim ≢ ToPort x.in_port
 
 -- Whatever walk the packet of a crossing takes from its frame, it does what the network says of its arrival. It is lost where its switch is

@@ -9,7 +9,7 @@ ghost use Rattle.chassis_sim.specs.State.{numbered, without};
 ghost use Rattle.inet_packet.specs.Whole.{IsWhole};
 ghost use Rattle.sim_laws.specs.Passing.{most_arrivals};
 ghost use Rattle.sim_laws.specs.journeys.Refining.{without_crossing};
-ghost use Rattle.sim_laws.specs.journeys.UnderWay.{HasNoRouter, IsUnderWay};
+ghost use Rattle.sim_laws.specs.journeys.UnderWay.{IsUnderWay};
 ghost use Rattle.world_setup.specs.Built.{IsBuilt};
 ghost use Rattle.world_core.specs.WorldView.{AreHeld};
 ghost use Rattle.sim_laws.specs.Sound.{AreCrossings};
@@ -76,7 +76,7 @@ impl World {
     // Whom the crossing of a frame names that was sent for a packet from the port.
     fn crossing(&self, port: &Name, bytes: &[u8]) -> CrossingNames
         requires keys { HaveKeys self.now.state.config.net self.now.state.keys }
-        requires no_router { HasNoRouter self.now.state.config.net }
+        requires built { IsBuilt self.now.state.config.net }
         requires sent { (to : Name) × (x : Crossing) × IsSentFrom self.now.state port.now to bytes.now x }
         ensures { (to : Name) (x : Crossing) → IsSentFrom self.now.state port.now to bytes.now x → result ≡ names_of x }
     {
@@ -134,7 +134,7 @@ impl World {
     fn keep_crossings(&mut self, port: &Name, effects: &[NetEffect]) -> Result<(), NoMemory>
         requires taken { self.old.whole ≡ false }
         requires keys { HaveKeys self.old.state.config.net self.old.state.keys }
-        requires no_router { HasNoRouter self.old.state.config.net }
+        requires built { IsBuilt self.old.state.config.net }
         requires sent { (ws : List (ℕ × Crossing)) × CanBeKept self.old.state port.now effects.now ws }
         requires waiting { AreWaiting self.old.sim (frames_sent effects.now) }
         ensures { OnOk result ((ws : List (ℕ × Crossing)) → CanBeKept self.old.state port.now effects.now ws

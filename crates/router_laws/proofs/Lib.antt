@@ -1,3 +1,0 @@
--- Lemmas.
-pub mod router_passes
-pub mod router_stages

@@ -1,0 +1,145 @@
+-- A packet that goes in on the simulated chassis is a journey of the network, through switches and routers.
+use Rattle.std.specs.Prelude.{◌≡◌, ◌+◌, ◌++◌, ℕ, true, List, [], ◌∷◌, length, Some, refl}
+use Rattle.std.specs.Option.{option_and_then}
+use Rattle.std.proofs.Common.{sym, ap, ◌∙◌, subst, arith}
+use Rattle.std.proofs.lemmas.Option.{none-some}
+use Rattle.chassis_sim.specs.Holding.{IsWalkBy, with_lists}
+use Rattle.chassis_sim.specs.Passing as passing
+use Rattle.chassis_sim.specs.Passing.{IsTold, rezoned}
+use Rattle.chassis_sim.specs.State as sim
+use Rattle.chassis_sim.specs.State.{at_name}
+use Rattle.chassis_sim.specs.declared.out.SimOut.{SimOut}
+use Rattle.conn_zones.specs.Zoning.{Zoned}
+use Rattle.flow_table.specs.declared.flow.Flow.{Flow}
+use Rattle.inet_packet.specs.Whole.{IsWhole}
+use Rattle.inet_packet.specs.declared.packet.Packet.{Packet}
+use Rattle.match_cubes.specs.declared.sets.Sets.{Sets}
+use Rattle.nb_records.specs.Switches.{is_virtual}
+use Rattle.nb_records.specs.declared.switch.SwitchPort.{SwitchPort}
+use Rattle.net_model.specs.Entry.{Scene}
+use Rattle.net_model.specs.Journey.{joined_by, enter_by, enter_on, scene_at, scenes_of}
+use Rattle.net_model.specs.State.{State}
+use Rattle.net_model.specs.Trail.{Trail, of_port, list_of, choices_in, crossings_in}
+use Rattle.net_model.specs.Visit.{visit}
+use Rattle.net_model.specs.declared.crossing.Crossing.{Crossing}
+use Rattle.ovn_base.specs.declared.name.Name.{Name}
+use Rattle.ovn_base.specs.lists.Among.{Among}
+use Rattle.ovn_base.specs.names.ByName.{at}
+use Rattle.row_laws.proofs.records.ValidPorts.{port_named, own_place}
+use Rattle.row_laws.specs.routers.RouterThrough.{IntakeLaw}
+use Rattle.switch_engine.specs.Outcome.{Choosing}
+use Rattle.switch_engine.specs.Walk.{start}
+use Rattle.switch_engine.specs.Zones.{ZoneLists}
+use Rattle.switch_engine.specs.declared.effect.Effect.{Effect}
+use Rattle.switch_engine.specs.declared.effect.Entry.TheVariants.{Vif}
+use Rattle.switch_engine.specs.declared.walk.Start.TheVariants as start_of
+use Rattle.switch_engine.specs.declared.walk.Step.{Step}
+use Rattle.tunnel_keys.proofs.HeldKeys.{found}
+use Rattle.sim_laws.proofs.journey_laws.Ready.{is_ready}
+use Rattle.sim_laws.proofs.journey_laws.Rezoning.{rezoned_hold, zoned_still}
+use Rattle.sim_laws.proofs.journey_laws.Entering.{bound_of, scene_there}
+use Rattle.sim_laws.proofs.journey_laws.Telling.{at_home_still, led, led_sound, told_effects, told_held}
+use Rattle.sim_laws.proofs.journey_laws.RoutedWays.{visit_left}
+use Rattle.sim_laws.proofs.journey_laws.Walked.{IsWalked, walked}
+use Rattle.sim_laws.proofs.journey_laws.WholePackets.{enter_whole}
+use Rattle.sim_laws.proofs.pipelines.HeldLists.{list_is}
+use Rattle.sim_laws.specs.journeys.Filling.{FillingLaw}
+use Rattle.sim_laws.specs.journeys.Holding.{HoldsNetwork}
+use Rattle.sim_laws.specs.journeys.InState.{chassis_at, zones_on}
+use Rattle.sim_laws.specs.journeys.Moves.{journey_in}
+use Rattle.sim_laws.specs.journeys.Premises.{IsReady}
+use Rattle.sim_laws.specs.journeys.Refining.{IsRoutedEntry, RoutedEntryLaw}
+use Rattle.sim_laws.specs.journeys.UnderWay.{IsUnderWay}
+use Rattle.sim_laws.specs.routers.Visits.{RoutedVisitLaw}
+use Rattle.sim_laws.specs.Sound.{MayWait}
+use Rattle.sim_laws.specs.passes.Whole.{WholeWalkLaw}
+use Rattle.sim_laws.specs.pipelines.HeldLists.{IsGoodList, HoldLists}
+use Rattle.sim_laws.specs.pipelines.Pieces.{trail_with}
+use Rattle.sim_laws.specs.pipelines.Standing.{Chassis}
+
+module _ (intake_law : IntakeLaw) (fills : FillingLaw) (visits : RoutedVisitLaw) (whole_walk : WholeWalkLaw) (m : State) (zones : Zoned) (sets : Sets) (more : ℕ) (s new : sim.SimState) (by : Choosing) (before after : SimOut) (u : IsUnderWay m zones more) (h : HoldsNetwork m zones.numbers sets s)
+    (i : SwitchPort) (there : at m.config.net.switch_ports i.name ≡ Some i) (packet : Packet) (whole : IsWhole packet) where
+  abbrev Entry : Type 0
+  Entry = IsRoutedEntry m zones sets more i.name packet before after new
+
+  module _ (chassis : Name) (home : at m.config.bindings i.name ≡ Some chassis) (flows : List Flow) (held : at_name s.chassis chassis ≡ Some flows) (lists left : ZoneLists) (listed : at_name s.zones chassis ≡ Some lists)
+      (steps : List Step) (effects : List Effect) (walk : IsWalkBy by flows (Vif i.name) m.clock packet lists steps effects left) (told : IsTold (rezoned s chassis left) chassis (start_of.Port i.name) steps effects before after new) where
+    abbrev k : Chassis
+    k = chassis_at m zones.numbers sets by flows (Vif i.name) chassis
+
+    abbrev scene : Scene
+    scene = scene_at m chassis
+
+    abbrev way : Trail → Trail
+    way t = visit scene i t packet
+
+    ready : IsReady k zones.numbers
+    ready = is_ready fills m zones more sets s u h chassis flows held by (Vif i.name)
+
+    hold : HoldLists k.number lists m.lists
+    hold = h.zones chassis lists listed
+
+    good : IsGoodList (list_of m.lists (of_port i.name))
+    good =
+        let z = found (k.number (of_port i.name)) (ready.around.wired.zoned i.name home) in
+        let own = hold (of_port i.name) z.0 z.1 in
+        subst IsGoodList (sym (list_is m.lists (of_port i.name) own.list own.has)) own.good
+
+    abbrev Such : List Crossing → Type 0
+    Such xs = (x : Crossing) → Among x xs → MayWait m x
+
+    is_one : is_virtual i ≡ true
+    is_one = u.bound_virtual i.name chassis i home there
+
+    w : IsWalked k 0 Such way m.lists effects left
+    w =
+        walked k 0 Such whole_walk way m.lists lists (start (Vif i.name) packet ∷ []) (visits k zones.numbers ready.around ready.distributed i there is_one home refl packet whole m.lists lists hold)
+        (λ choices legal.
+        let first : Trail = trail_with m.lists choices [] in
+        let x = visit_left m u.valid u.keys u.distributed u.bound_virtual chassis intake_law i there is_one home first packet (enter_whole scene u.valid i there first (λ is. good) packet whole) in
+        record { crossings = x.crossings; such = x.may legal; way = x.way }) steps effects left walk
+
+    abbrev sent : ℕ
+    sent = length (crossings_in w.own)
+
+    hold_after : (c : Name) (lists : ZoneLists) → at_name (with_lists s.zones chassis left) c ≡ Some lists → HoldLists (zones_on zones.numbers c) lists w.after
+    hold_after = rezoned_hold m zones u.bound sets s h chassis lists listed w.after left w.hold w.others
+
+    entered : Entry
+    entered =
+        let few = u.few_sent in
+        let bound = ap (option_and_then (scenes_of m)) home ∙ scene_there m chassis (u.bound.chassis_there i.name chassis home) in
+        record {
+          sent = sent;
+          journey = record {
+            ends = w.own;
+            effects = told_effects m zones.numbers sets s h w.after m.waiting (with_lists s.zones chassis left) s.waiting hold_after h.waiting chassis (start_of.Port i.name) steps w.own effects w.numbered w.on before after new told;
+            left = led m w.after m.waiting w.own;
+            moves = record {
+              is = λ choices ends.
+                  let j = journey_in m (choices_in w.own ++ choices) ends in
+                  ap (λ o. enter_on o i.name packet j) bound ∙ ap (λ o. enter_by scene o packet j) there ∙ ap (joined_by j) (w.is choices []);
+              rest = refl;
+            };
+            sound = led_sound m zones more (more + sent) w.after m.waiting w.own u (at_home_still m.config m.lists w.after w.owners u.at_home) u.crossings w.crossings (omega (arith, few));
+            held = told_held m zones.numbers sets s h w.after m.waiting (with_lists s.zones chassis left) s.waiting hold_after h.waiting chassis (start_of.Port i.name) steps w.own effects w.numbered w.on before after new told (zoned_still s.chassis s.zones chassis left h.zoned);
+          };
+          count = refl;
+          may = w.crossings;
+          waiting = refl;
+        }
+
+  enters_at : passing.IsInjected by s i.name m.clock packet before after new → Entry
+  enters_at (passing.IsInjected.through chassis flows lists left steps effects bound held listed walk told) = entered chassis (sym (h.bindings i.name) ∙ bound) flows held lists left listed steps effects walk told
+  enters_at (passing.IsInjected.nowhere chassis bound none told) =
+      let home : at m.config.bindings i.name ≡ Some chassis = sym (h.bindings i.name) ∙ bound in
+      let flows = found (at_name s.chassis chassis) ((h.held chassis).1 (u.bound.chassis_there i.name chassis home)) in
+      absurd (none-some flows.0 (sym none ∙ flows.1))
+
+pub enters_anywhere : IntakeLaw → FillingLaw → RoutedVisitLaw → WholeWalkLaw → RoutedEntryLaw
+enters_anywhere intake_law fills visits whole_walk m zones sets more s new by p packet before after u h whole injected =
+    let b = bound_of by s new p m.clock packet before after injected in
+    let i = found (at m.config.net.switch_ports p) (u.bound.port_there p b.0 (sym (h.bindings p) ∙ b.1)) in
+    let named = port_named m.config.net u.valid p i.0 i.1 in
+    subst (λ q. passing.IsInjected by s q m.clock packet before after new → IsRoutedEntry m zones sets more q packet before after new) named
+    (enters_at intake_law fills visits whole_walk m zones sets more s new by before after u h i.0 (own_place m.config.net u.valid p i.0 i.1) packet whole) injected
