@@ -18,6 +18,9 @@ invariant_of-self-in_err-push-in-Some c = record {
   stores = subst (HaveStores c.self.inside.ground) (sym c.reserve.ensures.entries) c.prepare_each.ensures.kept;
 }
 
+pub returns-in_err-flows-in-Some-clause-patch : goal.returns-in_err-flows-in-Some-clause-patch
+returns-in_err-flows-in-Some-clause-patch c = let failed = err_from_is_err_and c.from_residual-in_err-flows-in-Some.result c.from_residual-in_err-flows-in-Some.ensures.1 in rw failed.1 tt
+
 pub returns-in_err-push-in-Some-clause-patch : goal.returns-in_err-push-in-Some-clause-patch
 returns-in_err-push-in-Some-clause-patch c = let failed = err_from_is_err_and c.from_residual-in_err-push-in-Some.result c.from_residual-in_err-push-in-Some.ensures.1 in rw failed.1 tt
 
