@@ -34,7 +34,7 @@ fn dash() -> Name
 }
 
 // The name of the pair of keys.
-fn name_at(names: &Names, vni: u32, port: u16) -> Name
+pub(crate) fn name_at(names: &Names, vni: u32, port: u16) -> Name
     ensures { result ≡ name_of names.now.entries vni port }
 {
     match names.get(&(vni, port)) {

@@ -7,6 +7,7 @@ ghost use Rattle.inet_packet.specs.Whole.{IsWhole};
 ghost use Rattle.flow_table.specs.declared.flow.Flow.{Flow};
 ghost use Rattle.chassis_sim.specs.Changing.{AllAreDeltas, IsApplied, IsPrepared, IsProperChange, StaysPrepared};
 ghost use Rattle.chassis_sim.specs.Holding.{IsSimState};
+ghost use Rattle.chassis_sim.specs.InNames.{name_of};
 ghost use Rattle.chassis_sim.specs.Passing.{AnswersInject, AnswersArrive, AnswersLose};
 ghost use Rattle.chassis_sim.specs.State.{nothing_held, at_name, flow_at};
 ghost use Rattle.chassis_sim.specs.Tables.{rooms_held, seen_by, zones_held};
@@ -15,7 +16,7 @@ ghost use Rattle.switch_engine.specs.Zones.{all_expired};
 use crate::change::SimChange;
 use crate::chassis::{add_each, bind_each, make_ready, name_each, remove_each, replace_each};
 use crate::frames::opened;
-use crate::names::{Names, tell};
+use crate::names::{Names, name_at, tell};
 use crate::out::{SimFault, SimOut};
 use crate::passing::pass;
 use crate::underlay::Underlay;
@@ -87,6 +88,14 @@ impl<T: Lookup + Drop> Sim<T> {
         ensures { result ≡ self.now.state.next }
     {
         self.underlay.next()
+    }
+
+    /// The name of the datapath that has the key, for the port key 0, or of its port that has the port key; `-` where the pair of
+    /// keys was given none. No memory is taken.
+    pub fn name(&self, datapath: u32, port: u16) -> Name
+        ensures { result ≡ name_of self.now.state.names datapath port }
+    {
+        name_at(&self.names, datapath, port)
     }
 
     /// Each flow of the chassis at exactly one index below their number; `None` past the last, and where no such chassis is

@@ -1,3 +1,5 @@
+mod routing;
+
 use crate::top::ovnsim;
 use chassis_sim::sim::Sim;
 use ovn_base::memory::NoMemory;

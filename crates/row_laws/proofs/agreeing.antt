@@ -5,5 +5,10 @@ pub mod StateRows
 pub mod StateStages
 pub mod ArpStage
 pub mod LookupStage
+pub mod TwoRouterRows
+pub mod GradedRouterStages
+pub mod RouterAnswers
+pub mod RouterRoutes
+pub mod RouterNeighbours
 pub mod FlowsAgree
 pub mod EachAgrees

@@ -1,5 +1,5 @@
--- Rows that agree wherever a packet is: at a port of the switch or not, and whatever stands in its registers.
-use Rattle.std.specs.Prelude.{◌≡◌, List, [], Some, IsSome}
+-- Rows that agree wherever a packet is: at a port of the switch or router or not, and whatever stands in its registers.
+use Rattle.std.specs.Prelude.{◌≡◌, ◌⊎◌, List, Some, None, IsSome}
 use Rattle.ovn_base.specs.declared.name.Name.{Name}
 use Rattle.ovn_base.specs.names.ByName.{at}
 use Rattle.inet_packet.specs.declared.packet.Packet.{Packet}
@@ -10,6 +10,8 @@ use Rattle.match_cubes.specs.Points.{members_of}
 use Rattle.match_cubes.specs.Suited.{HasFieldsInRange}
 use Rattle.match_cubes.specs.declared.sets.Sets.{Sets}
 use Rattle.nb_records.specs.Network.{Network}
+use Rattle.nb_records.specs.declared.router.Router.{Router}
+use Rattle.nb_records.specs.declared.router.RouterPort.{RouterPort}
 use Rattle.nb_records.specs.declared.switch.SwitchPort.{SwitchPort}
 use Rattle.nb_rules.specs.Valid.{IsValid}
 use Rattle.logical_flows.specs.Stages.{stage_table}
@@ -19,8 +21,10 @@ use Rattle.tunnel_keys.specs.Keys.{Keys}
 use Rattle.tunnel_keys.specs.declared.owner.PortKey.{PortKey}
 use Rattle.net_model.specs.Sights.{Sight, roster_of}
 use Rattle.row_laws.specs.BestRow.{HoldsRows}
+use Rattle.row_laws.specs.Distributed.{AreDistributed}
 use Rattle.row_laws.specs.Numbers.{AreSameMembers}
 use Rattle.row_laws.specs.Rows.{IsBestRow}
+use Rattle.row_laws.specs.routers.RouterCopies.{router_roster}
 
 -- Two unbeaten rows of the stage that hold of one packet on the switch have equal actions, whatever the registers, the port of entry and the target.
 abbrev pub AgreeAnywhereLaw : Stage → Type 0
@@ -29,19 +33,30 @@ AgreeAnywhereLaw s =
     → (row other : LFlow) → IsBestRow net (roster_of net) (stage_table s) switch regs sight row → IsBestRow net (roster_of net) (stage_table s) switch regs sight other
     → row.actions ≡ other.actions
 
+-- So it is on a distributed router, whatever the port of entry and the one by which the packet leaves.
+abbrev pub RouterAgreeAnywhereLaw : Stage → Type 0
+RouterAgreeAnywhereLaw s =
+    (net : Network) → IsValid net → (d : Name) (router : Router) → at net.routers d ≡ Some router → router.chassis ≡ None → (regs : Regs) (sight : Sight) → HasFieldsInRange sight.packet
+    → (row other : LFlow) → IsBestRow net (router_roster net) (stage_table s) d regs sight row → IsBestRow net (router_roster net) (stage_table s) d regs sight other
+    → row.actions ≡ other.actions
+
 -- ---- in numbers
 
--- The stage's table holds the rows of a network without routers, with the sets of the network; and each live key of a port is that of a port of the
--- records, on its switch.
-pub record HoldsSwitchRows (net : Network) (keys : Keys) (sets : Sets) (flows : List Flow) (s : Stage) : Type 0 where
+-- the key of a port is one of the datapath that the port's record names, be the port a switch's or a router's
+abbrev pub IsOwnKey : Network → Name → PortKey → Type 0
+IsOwnKey net q k = ((i : SwitchPort) × (at net.switch_ports q ≡ Some i) × (i.switch ≡ k.datapath)) ⊎ ((i : RouterPort) × (at net.router_ports q ≡ Some i) × (i.router ≡ k.datapath))
+
+-- The stage's table holds the rows of a network whose routers are all distributed, with the sets of the network; and each live key of a port is that of
+-- a port of the records, on its datapath.
+pub record HoldsStageRows (net : Network) (keys : Keys) (sets : Sets) (flows : List Flow) (s : Stage) : Type 0 where
   pub valid : IsValid net
-  pub no_router : net.routers ≡ []
+  pub distributed : AreDistributed net
   pub holds : HoldsRows net keys sets flows (stage_table s)
   pub members : AreSameMembers (roster_of net).members (members_of sets)
-  pub owned : (q : Name) (k : PortKey) → at keys.ports q ≡ Some k → (i : SwitchPort) × (at net.switch_ports q ≡ Some i) × (i.switch ≡ k.datapath)
+  pub owned : (q : Name) (k : PortKey) → at keys.ports q ≡ Some k → IsOwnKey net q k
 
 -- Two flows of the table that may be taken have equal actions, whatever the packet and whatever the registers.
 abbrev pub FlowsAgreeLaw : Stage → Type 0
 FlowsAgreeLaw s =
-    (net : Network) (keys : Keys) (sets : Sets) (flows : List Flow) → HoldsSwitchRows net keys sets flows s → (regs : Regs) (packet : Packet)
+    (net : Network) (keys : Keys) (sets : Sets) (flows : List Flow) → HoldsStageRows net keys sets flows s → (regs : Regs) (packet : Packet)
     → (f g : Flow) → IsBest flows (stage_table s) regs packet f → IsBest flows (stage_table s) regs packet g → f.ops ≡ g.ops

@@ -4,6 +4,7 @@ pub mod Numbers
 pub mod CanLower
 pub mod ProperRows
 pub mod BestRow
+pub mod Distributed
 pub mod AgreeAnywhere
 pub mod Copies
 pub mod StageActions

@@ -1,6 +1,7 @@
-//! Rows that agree wherever a packet is, on a function that does nothing: call it, and its clause is a fact of the call.
-ghost use Rattle.row_laws.specs.AgreeAnywhere.{AgreeAnywhereLaw, FlowsAgreeLaw};
+//! Rows that agree wherever a packet is, on functions that do nothing: call one, and its clause is a fact of the call.
+ghost use Rattle.row_laws.specs.AgreeAnywhere.{AgreeAnywhereLaw, FlowsAgreeLaw, RouterAgreeAnywhereLaw};
 ghost use Rattle.row_laws.specs.StageLaws.{OfEachStage};
+ghost use Rattle.row_laws.specs.routers.RouterLaws.{OfEachRouterStage};
 
 /// In each stage of a switch two unbeaten rows that hold of one packet have equal actions, whatever its registers, the port at which it came in and
 /// its target.
@@ -8,8 +9,13 @@ pub fn rows_agree()
     ensures { OfEachStage AgreeAnywhereLaw }
 {}
 
-/// So in numbers: two flows of a stage's table that may be taken have equal actions, whatever the packet and whatever the registers. No cube asks for a
-/// bit above its field.
+/// So they have in each stage of a distributed router.
+pub fn rows_of_routers_agree()
+    ensures { OfEachRouterStage RouterAgreeAnywhereLaw }
+{}
+
+/// So in numbers, in networks of switches and distributed routers: two flows of a stage's table that may be taken have equal actions, whatever the
+/// packet and whatever the registers. No cube asks for a bit above its field.
 pub fn flows_agree()
     ensures { OfEachStage FlowsAgreeLaw }
 {}

@@ -13,7 +13,7 @@ use Rattle.ovn_base.specs.names.SameName.{bytes_decides}
 use Rattle.ovn_base.specs.declared.name.Name.{Name}
 use Rattle.ovn_base.specs.lists.Among.{Among, here, there}
 use Rattle.physical_flows.specs.Homes.{is_reached_at}
-use Rattle.sim_laws.specs.routers.Patches.{AreDistributed}
+use Rattle.row_laws.specs.Distributed.{AreDistributed}
 
 -- ---- what is bound to the chassis is at home there
 

@@ -11,7 +11,6 @@ pub mod EffectNames
 pub mod GroupNumbers
 pub mod Homes
 pub mod KeyLookups
-pub mod NoRouters
 pub mod Places
 pub mod WaitingCrossings
 pub mod WaitingLists

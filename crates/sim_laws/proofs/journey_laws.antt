@@ -7,12 +7,11 @@ pub mod SendingWays
 pub mod SentCrossings
 pub mod WholePackets
 pub mod VisitWays
-pub mod RoutedWays
+pub mod ArrivalWays
 pub mod Telling
 pub mod Rezoning
 pub mod Walked
 pub mod Entering
-pub mod RoutedEntering
 pub mod ReadFrames
 pub mod ArrivingFrames
 pub mod Losing

@@ -8,5 +8,4 @@ pub mod EndNames
 pub mod Held
 pub mod Naming
 pub mod Passing
-pub mod SentFrames
 pub mod Sound

@@ -1,11 +1,11 @@
 //! What the simulated chassis do with packets is what the network does, over rows and connection lists. Each function does nothing: call it, and
 //! its clauses are facts of the call.
 ghost use Rattle.sim_laws.specs.journeys.AtRest.{BeginsLaw, FinishesLaw};
-ghost use Rattle.sim_laws.specs.journeys.Events.{AllArriveLaw, DrainLaw, EnterAndDrainLaw, GoesThroughLaw, RoutedThroughLaw, TravelLaw};
+ghost use Rattle.sim_laws.specs.journeys.Events.{AllArriveLaw, DrainLaw, EnterAndDrainLaw, GoesThroughLaw, TravelLaw};
 ghost use Rattle.sim_laws.specs.journeys.Filling.{FillingLaw};
 ghost use Rattle.sim_laws.specs.journeys.First.{FirstLaw};
 ghost use Rattle.sim_laws.specs.journeys.Premises.{ReadyLaw, SoundOnLaw};
-ghost use Rattle.sim_laws.specs.journeys.Refining.{ArrivalJourneyLaw, EntryJourneyLaw, LossJourneyLaw, RoutedEntryLaw};
+ghost use Rattle.sim_laws.specs.journeys.Refining.{ArrivalJourneyLaw, EntryJourneyLaw, LossJourneyLaw};
 ghost use Rattle.sim_laws.specs.journeys.SeenLists.{SeenListsLaw};
 ghost use Rattle.sim_laws.specs.journeys.Ticking.{TickLaw};
 ghost use Rattle.sim_laws.specs.journeys.Turning.{DeltaLaw, TurnLaw};
@@ -45,15 +45,13 @@ pub fn premises_of_sound()
 
 /// What the simulated chassis do with a packet, and with a frame that arrives, is a journey of the network, with the effects and the choices of
 /// which its ends tell; they hold the state that it leaves, in networks of switches and distributed routers. So they do with a packet and all frames that
-/// wait, one after another. Where no port of its switch leads to a router a packet is sent to at most 64 chassis.
+/// wait, one after another.
 pub fn journeys_refine()
     ensures enters { EntryJourneyLaw }
-    ensures enters_routed { RoutedEntryLaw }
     ensures arrives { ArrivalJourneyLaw }
     ensures loses { LossJourneyLaw }
     ensures all_arrive { AllArriveLaw }
     ensures goes_through { GoesThroughLaw }
-    ensures goes_routed { RoutedThroughLaw }
 {
     tables_filled();
     switch_passes();

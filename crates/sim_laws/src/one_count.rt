@@ -1,4 +1,5 @@
-//! How many flows packets match is determined by the network. Each function does nothing: call it, and its clauses are facts of the call.
+//! How many flows packets match is determined by the network, of switches and distributed routers. Each function does nothing: call it, and its
+//! clauses are facts of the call.
 ghost use Rattle.sim_laws.specs.journeys.Counts.{ChassisAgreeLaw, ChassisWalksLaw, EntryCountLaw, ArrivalCountLaw, DrainCountLaw, ThroughCountLaw};
 
 use crate::journeys::{journeys_refine, tables_filled};
@@ -10,6 +11,7 @@ pub fn flows_agree()
     ensures agree { ChassisAgreeLaw }
     ensures walks { ChassisWalksLaw }
 {
+    row_laws::anywhere::flows_agree();
     tables_filled();
 }
 

@@ -18,8 +18,7 @@ use Rattle.switch_engine.specs.declared.effect.NetEffect.{NetEffect}
 use Rattle.switch_engine.specs.declared.effect.NetEffect.TheVariants as net
 use Rattle.net_model.specs.declared.crossing.Crossing.{Crossing}
 use Rattle.sim_laws.specs.Effects.{spelled}
-use Rattle.world_core.specs.Packets.{CanBeKept}
-use Rattle.sim_laws.specs.SentFrames.{IsSentFrom}
+use Rattle.world_core.specs.Packets.{CanBeKept, IsSentAs}
 use Rattle.world_core.specs.Waiting.{AreWaiting, crossing_of, frame_under, names_of}
 use Rattle.world_core.specs.WorldView.{WorldView}
 use Rattle.world_core.specs.declared.crossing_names.CrossingNames.{CrossingNames}
@@ -58,8 +57,8 @@ pub record IsKeeping (old : WorldView) (left : List NetEffect) (ws : List (ℕ �
   pub frames : frames_sent left ≡ map (frame_of_crossing old.state.keys) rest
   pub now_is : now ≡ record old { state = record old.state { waiting = old.state.waiting ++ done } }
 
-pub keeping_begins : (old : WorldView) (p : Name) (effects : List NetEffect) (ws : List (ℕ × Crossing)) → CanBeKept old.state p effects ws → IsKeeping old effects ws old
-keeping_begins old p effects ws k = record {
+pub keeping_begins : (old : WorldView) (effects : List NetEffect) (ws : List (ℕ × Crossing)) → CanBeKept old.state effects ws → IsKeeping old effects ws old
+keeping_begins old effects ws k = record {
   done = [];
   rest = ws;
   all = refl;
@@ -106,43 +105,33 @@ next_of old n from to bytes left ws now k = by k.rest k.all k.frames
         }
 
 -- it is sent, in the state as it is by then
-sent_still : (m : State) (waiting : List (ℕ × Crossing)) (p to : Name) (bytes : List ℕ) (x : Crossing) → IsSentFrom m p to bytes x → IsSentFrom (record m { waiting = waiting }) p to bytes x
-sent_still m waiting p to bytes x f = record {
-  port = f.port;
-  there = f.there;
-  switch = f.switch;
-  on = f.on;
-  datapath = f.datapath;
-  in_port = f.in_port;
-  may = may_still m waiting m.next x f.may;
-  home = f.home;
-  spelled_so = f.spelled_so;
-}
+sent_still : (m : State) (waiting : List (ℕ × Crossing)) (to : Name) (bytes : List ℕ) (x : Crossing) → IsSentAs m to bytes x → IsSentAs (record m { waiting = waiting }) to bytes x
+sent_still m waiting to bytes x f = record { may = may_still m waiting m.next x f.may; home = f.home; spelled_so = f.spelled_so }
 
-pub next_sent : (old : WorldView) (p : Name) (effects : List NetEffect) (n : ℕ) (to : Name) (bytes : List ℕ) (left : List NetEffect) (ws done : List (ℕ × Crossing)) (now : WorldView) → CanBeKept old.state p effects ws → (h : IsNext old.state ws done n to bytes left)
-    → now ≡ record old { state = record old.state { waiting = old.state.waiting ++ done } } → IsSentFrom now.state p to bytes h.crossing
-next_sent old p effects n to bytes left ws done now k h is =
-    let f = k.sent.from n h.crossing (subst (λ l. Among (n, h.crossing) l) (sym h.all) (split_among (n, h.crossing) done h.behind)) in
-    let g : IsSentFrom old.state p to bytes h.crossing = subst (λ d. IsSentFrom old.state p d bytes h.crossing) h.home (subst (λ bs. IsSentFrom old.state p h.crossing.home bs h.crossing) h.bytes_are f) in
-    subst (λ (w : WorldView). IsSentFrom w.state p to bytes h.crossing) (sym is) (sent_still old.state (old.state.waiting ++ done) p to bytes h.crossing g)
+pub next_sent : (old : WorldView) (effects : List NetEffect) (n : ℕ) (to : Name) (bytes : List ℕ) (left : List NetEffect) (ws done : List (ℕ × Crossing)) (now : WorldView) → CanBeKept old.state effects ws → (h : IsNext old.state ws done n to bytes left)
+    → now ≡ record old { state = record old.state { waiting = old.state.waiting ++ done } } → IsSentAs now.state to bytes h.crossing
+next_sent old effects n to bytes left ws done now k h is =
+    let f = k.sent.sent n h.crossing (subst (λ l. Among (n, h.crossing) l) (sym h.all) (split_among (n, h.crossing) done h.behind)) in
+    let g : IsSentAs old.state to bytes h.crossing = subst (λ d. IsSentAs old.state d bytes h.crossing) h.home (subst (λ bs. IsSentAs old.state h.crossing.home bs h.crossing) h.bytes_are f) in
+    subst (λ (w : WorldView). IsSentAs w.state to bytes h.crossing) (sym is) (sent_still old.state (old.state.waiting ++ done) to bytes h.crossing g)
 
 -- its names and its frame, which waits, give it back
-pub next_back : (old : WorldView) (p : Name) (effects : List NetEffect) (n : ℕ) (to : Name) (bytes : List ℕ) (left : List NetEffect) (ws done : List (ℕ × Crossing)) (now : WorldView) → CanBeKept old.state p effects ws → AreWaiting old.sim (frames_sent effects)
+pub next_back : (old : WorldView) (effects : List NetEffect) (n : ℕ) (to : Name) (bytes : List ℕ) (left : List NetEffect) (ws done : List (ℕ × Crossing)) (now : WorldView) → CanBeKept old.state effects ws → AreWaiting old.sim (frames_sent effects)
     → (h : IsNext old.state ws done n to bytes left) → now ≡ record old { state = record old.state { waiting = old.state.waiting ++ done } } → (names : CrossingNames) → names ≡ names_of h.crossing → crossing_of names (frame_under now.sim.waiting n) ≡ h.crossing
-next_back old p effects n to bytes left ws done now k waits h is names are =
+next_back old effects n to bytes left ws done now k waits h is names are =
     let x = h.crossing in
     let keys = old.state.keys in
     let frame = (frame_of_crossing keys (n, x)).1 in
     let among : Among (n, x) ws = subst (λ l. Among (n, x) l) (sym h.all) (split_among (n, x) done h.behind) in
     let found : numbered old.sim.waiting n ≡ Some frame = waits n frame (subst (λ l. Among (n, frame) l) (sym k.sent.frames) (among_map (frame_of_crossing keys) (n, x) ws among)) in
     let there' : frame_under now.sim.waiting n ≡ frame = ap (λ (v : WorldView). frame_under v.sim.waiting n) is ∙ ap (λ o. unwrap_or o (record { to = []; bytes = [] })) found in
-    (λ i. crossing_of (are i) (there' i)) ∙ crossing_back keys x frame (k.sent.from n x among).may.whole refl refl
+    (λ i. crossing_of (are i) (there' i)) ∙ crossing_back keys x frame (k.sent.sent n x among).may.whole refl refl
 
 -- and it is put behind the others
-pub keeping_goes_on : (old : WorldView) (p : Name) (effects : List NetEffect) (n : ℕ) (to : Name) (bytes : List ℕ) (left : List NetEffect) (ws done : List (ℕ × Crossing)) (now next : WorldView) (x : Crossing) → CanBeKept old.state p effects ws
+pub keeping_goes_on : (old : WorldView) (effects : List NetEffect) (n : ℕ) (to : Name) (bytes : List ℕ) (left : List NetEffect) (ws done : List (ℕ × Crossing)) (now next : WorldView) (x : Crossing) → CanBeKept old.state effects ws
     → (h : IsNext old.state ws done n to bytes left) → now ≡ record old { state = record old.state { waiting = old.state.waiting ++ done } } → x ≡ h.crossing
     → next ≡ record now { state = record now.state { waiting = insert_entry nat_cmp now.state.waiting n x } } → IsKeeping old left ws next
-keeping_goes_on old p effects n to bytes left ws done now next x k h is same then =
+keeping_goes_on old effects n to bytes left ws done now next x k h is same then =
     let all : old.state.waiting ++ ws ≡ (old.state.waiting ++ done) ++ (n, h.crossing) ∷ h.behind = ap (λ l. old.state.waiting ++ l) h.all ∙ sym (append_assoc old.state.waiting done ((n, h.crossing) ∷ h.behind)) in
     let sorted = subst (λ l. IsStrictlySortedBy nat_cmp (keys_of l)) all k.behind in
     let put : insert_entry nat_cmp (old.state.waiting ++ done) n h.crossing ≡ (old.state.waiting ++ done) ++ (n, h.crossing) ∷ [] =

@@ -18,7 +18,7 @@ use Rattle.world_core.specs.WorldView.{IsSound}
 use Rattle.world_core.specs.declared.crossing_names.CrossingNames.{CrossingNames}
 
 new_built : IsBuilt empty.config.net
-new_built = record { others = refl; ports = λ q port e. absurd (none-some port e) }
+new_built = record { nats = refl; balancers = refl; offline = refl; distributed = λ a router e. absurd (none-some router e) }
 
 pub new_sound : IsSound new_world
 new_sound = record { whole = refl; consistent = record { at_rest = nothing_first.0; built = new_built; clock = omega arith; lists = empty_keep }; held = nothing_first.1 }

@@ -1,6 +1,5 @@
 -- Lemmas.
 pub mod AcceptedTurns
-pub mod Aims
 pub mod ClockEvents
 pub mod CrossingStore
 pub mod DecidedFlows
@@ -12,13 +11,14 @@ pub mod FrameFaults
 pub mod FramePackets
 pub mod HeaderParts
 pub mod KeptLists
-pub mod OneCrossing
+pub mod NumberedNames
 pub mod OneStep
 pub mod PacketEvents
 pub mod PacketState
 pub mod Refusal
 pub mod SameLists
 pub mod SameZones
+pub mod SmallKeys
 pub mod Turned
 pub mod TurnedLists
 pub mod WaitingNames

@@ -29,6 +29,7 @@ use Rattle.switch_engine.specs.declared.effect.NetEffect.{NetEffect}
 use Rattle.switch_engine.specs.declared.walk.Walk.{Walk}
 use Rattle.world_setup.proofs.FreedKeys.{clock_still}
 use Rattle.world_core.proofs.KeptLists.{does_keep}
+use Rattle.world_core.proofs.PacketState.{as_many}
 use Rattle.world_core.proofs.Refusal.{taken_of}
 use Rattle.world_setup.specs.Built.{IsBuilt}
 use Rattle.world_core.specs.EventPasses.{Passes}
@@ -156,10 +157,7 @@ pub under_way_of : (w : WorldView) → IsTaken w → IsUnderWay w.state w.zones 
 under_way_of w t = begins w.state w.zones t.consistent.at_rest
 
 pub under_way_most : (w : WorldView) → IsTaken w → IsUnderWay w.state w.zones most_sent
-under_way_most w t =
-    let u = under_way_of w t in
-    let sent = u.few_sent in
-    record { valid = u.valid; distributed = u.distributed; bound_virtual = u.bound_virtual; keys = u.keys; bound = u.bound; at_home = u.at_home; born = u.born; crossings = u.crossings; few = u.few; few_sent = omega (arith, sent) }
+under_way_most w t = as_many w.state w.zones 0 most_sent (omega arith) (under_way_of w t)
 
 -- ---- a frame is lost
 

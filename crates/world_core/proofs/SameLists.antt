@@ -22,7 +22,7 @@ use Rattle.physical_flows.proofs.FlowSearch.{is_some_of}
 use Rattle.sim_laws.proofs.journey_laws.Finishing.{begins}
 use Rattle.sim_laws.specs.Passing.{most_arrivals, no_out, GoesIn}
 use Rattle.sim_laws.specs.journeys.Counts.{ArrivalCountLaw, AreAlike, BothHold, CountsAlike, DrainCountLaw, EntryCountLaw, HaveSameZones, ThroughCountLaw, choices_told, matched_on}
-use Rattle.sim_laws.specs.journeys.UnderWay.{IsUnderWay, HasNoRouter}
+use Rattle.sim_laws.specs.journeys.UnderWay.{IsUnderWay}
 use Rattle.switch_engine.specs.Outcome.{any_legal}
 use Rattle.switch_engine.specs.Zones.{ZoneLists, zone_at}
 use Rattle.switch_engine.specs.declared.effect.NetEffect.{NetEffect}
@@ -31,7 +31,6 @@ use Rattle.world_core.specs.EventPasses.{Passes}
 use Rattle.world_core.specs.Outcome.{IsAccepted, matched, moves_packets}
 use Rattle.world_core.specs.WorldView.{AreHeld, IsSound, WorldView}
 use Rattle.world_setup.specs.Zones.{Relists, emptied_by, left_by, list_on}
-use Rattle.world_setup.proofs.BuiltTables.{no_router}
 
 -- ---- how many flows were matched
 
@@ -105,13 +104,13 @@ alike_from after later new end c same =
     record { count = ap matched_on c.one.all_walks ∙ a.count ∙ sym (ap matched_on c.other.all_walks); zones = a.zones }
 
 module _ (enters : EntryCountLaw) (arrives : ArrivalCountLaw) (drains : DrainCountLaw) (through : ThroughCountLaw) where
-  module _ (m : State) (zones : Zoned) (sets : Sets) (u : IsUnderWay m zones 0) (none : HasNoRouter m.config.net) (s t : SimState) (both : BothHold m zones sets s t) (out other : SimOut) (same : out.effects ≡ other.effects) (new end : SimState) where
+  module _ (m : State) (zones : Zoned) (sets : Sets) (u : IsUnderWay m zones 0) (s t : SimState) (both : BothHold m zones sets s t) (out other : SimOut) (same : out.effects ≡ other.effects) (new end : SimState) where
     -- a packet goes in
     entries_alike : (p : Name) (frame : List ℕ) → GoesIn m.clock s p frame no_out out new → GoesIn m.clock t p frame no_out other end → AreAlike out.walks other.walks new end
     entries_alike p frame h k =
         let packet : k.packet ≡ h.packet = one_packet_at_most k.packet h.packet k.whole h.whole (k.frame_is ∙ sym h.frame_is) in
         let also = subst (λ (x : inet.Packet). IsInjected any_legal t p m.clock x no_out other end) packet k.injected in
-        alike_from out other new end (enters m zones sets 0 s t new end p h.packet no_out out no_out other u none both h.injected also) same
+        alike_from out other new end (enters m zones sets 0 s t new end p h.packet no_out out no_out other u both h.injected also) same
 
     -- so it is with each event that moves packets
     passes_alike : (event : Event) → moves_packets event ≡ true → Passes m.clock s event out new → Passes m.clock t event other end → AreAlike out.walks other.walks new end
@@ -124,11 +123,11 @@ module _ (enters : EntryCountLaw) (arrives : ArrivalCountLaw) (drains : DrainCou
     passes_alike (Health balancer backend online) moves h k = absurd (false≢true moves)
     passes_alike (Clock seconds) moves h k = absurd (false≢true moves)
     passes_alike (Inject p frame) moves h k = entries_alike p frame h k
-    passes_alike (Deliver n) moves h k = alike_from out other new end (arrives m zones sets 0 s t new end n false no_out out no_out other u none both h k) same
+    passes_alike (Deliver n) moves h k = alike_from out other new end (arrives m zones sets 0 s t new end n false no_out out no_out other u both h k) same
     passes_alike (Lose n) moves h k = absurd (false≢true moves)
-    passes_alike (Repeat n) moves h k = alike_from out other new end (arrives m zones sets 0 s t new end n true no_out out no_out other u none both h k) same
-    passes_alike Drain moves h k = alike_from out other new end (drains m zones sets 0 most_arrivals s t new end no_out out no_out other u none both h k) same
-    passes_alike (Packet p frame) moves h k = alike_from out other new end (through m zones sets 0 s t new end p frame out other u none both h k) same
+    passes_alike (Repeat n) moves h k = alike_from out other new end (arrives m zones sets 0 s t new end n true no_out out no_out other u both h k) same
+    passes_alike Drain moves h k = alike_from out other new end (drains m zones sets 0 most_arrivals s t new end no_out out no_out other u both h k) same
+    passes_alike (Packet p frame) moves h k = alike_from out other new end (through m zones sets 0 s t new end p frame out other u both h k) same
     passes_alike (Unread fault) moves h k = absurd h
 
   -- ---- both
@@ -158,7 +157,7 @@ module _ (enters : EntryCountLaw) (arrives : ArrivalCountLaw) (drains : DrainCou
 
       by : (b : Bool) → moves_packets event ≡ b → AreAlike mid.walks after.walks mid.sim after.sim
       by true moves =
-          passes_alike m one.zones (sets_of m.config.net) (begins m one.zones sound.consistent.at_rest) (no_router m.config.net sound.consistent.built) one.sim two.sim both
+          passes_alike m one.zones (sets_of m.config.net) (begins m one.zones sound.consistent.at_rest) one.sim two.sim both
           (out mid h.effects) (out after k.effects) effects mid.sim after.sim event moves h.passed passed
       by false none = record {
         count = ap matched_on (none_matched event m.clock one.sim (out mid h.effects) mid.sim none h.passed ∙ sym (none_matched event m.clock two.sim (out after k.effects) after.sim none passed));

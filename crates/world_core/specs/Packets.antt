@@ -2,25 +2,24 @@
 use Rattle.inet_packet.specs.Frame.{frame_of}
 use Rattle.inet_packet.specs.Whole.{IsWhole}
 use Rattle.inet_packet.specs.declared.packet.Packet as inet
-use Rattle.std.specs.Prelude.{◌≡◌, ◌++◌, ◌+◌, ℕ, Bool, List, [], ◌∷◌, cond, length, map, Option, Some, None}
-use Rattle.std.proofs.Math.Dec.{eqb as nat_eq}
+use Rattle.std.specs.Prelude.{◌≡◌, ◌++◌, ◌+◌, ◌^◌, ℕ, Bool, List, length, map, Some}
 use Rattle.std.specs.List.Sorted.{IsStrictlySortedBy}
 use Rattle.std.specs.Map.{keys_of}
 use Rattle.std.specs.Ordering.{nat_cmp}
 use Rattle.ovn_base.specs.lists.Among.{Among}
 use Rattle.ovn_base.specs.names.ByName.{at}
 use Rattle.ovn_base.specs.declared.name.Name.{Name}
-use Rattle.ovn_base.specs.declared.limits.TheConstants.{MAX_CHASSIS}
 use Rattle.switch_engine.specs.Outcome.{any_legal}
 use Rattle.chassis_sim.specs.InNames.{frames_sent}
 use Rattle.chassis_sim.specs.Passing as sim
 use Rattle.chassis_sim.specs.State as held
 use Rattle.chassis_sim.specs.declared.out.SimOut.{SimOut}
+use Rattle.nb_records.specs.declared.switch.Switch.{Switch}
 use Rattle.nb_records.specs.declared.switch.SwitchPort.{SwitchPort}
 use Rattle.switch_engine.specs.declared.effect.NetEffect.{NetEffect}
 use Rattle.physical_flows.specs.GroupKeys.{group_key}
 use Rattle.sim_laws.specs.Effects.{effects_of, spelled}
-use Rattle.sim_laws.specs.Naming.{HasPortKey}
+use Rattle.sim_laws.specs.Naming.{HasDatapathKey, HasPortKey}
 use Rattle.sim_laws.specs.Passing.{AreDrained}
 use Rattle.sim_laws.specs.journeys.Moves.{MovesFor, AreMoved}
 use Rattle.sim_laws.specs.journeys.UnderWay.{IsUnderWay}
@@ -32,7 +31,8 @@ use Rattle.net_model.specs.Trail.{End, Lists, crossings_in}
 use Rattle.net_model.specs.declared.crossing.Aim.{Aim}
 use Rattle.net_model.specs.declared.crossing.Aim.TheVariants.{ToPort, ToGroup}
 use Rattle.net_model.specs.declared.crossing.Crossing.{Crossing}
-use Rattle.sim_laws.specs.SentFrames.{IsSentFrom}
+use Rattle.sim_laws.specs.Sound.{MayWait}
+use Rattle.tunnel_keys.specs.declared.owner.Identity.{Identity}
 
 -- the whole packet of a frame
 pub record IsPacketOf (packet : inet.Packet) (frame : List ℕ) : Type 0 where
@@ -41,7 +41,7 @@ pub record IsPacketOf (packet : inet.Packet) (frame : List ℕ) : Type 0 where
 
 -- how many frames an event may send, beside those for which its number of events leaves room
 abbrev pub most_sent : ℕ
-most_sent = MAX_CHASSIS
+most_sent = 2 ^ 64
 
 -- the state with other connection lists and crossings
 abbrev pub state_with : State → Lists → List (ℕ × Crossing) → ℕ → State
@@ -71,22 +71,33 @@ HasArrived old n keep before after new = HasPassed old before after new (λ s b 
 abbrev pub AreGone : ℕ → WorldView → SimOut → SimOut → WorldView → Type 0
 AreGone most old before after new = HasPassed old before after new (λ s b a t. AreDrained old.state.clock most s b a t) (λ m ends k. AreMoved most m ends k)
 
--- these crossings, each with its number, are those of the frames among the effects of a packet from the port
-pub record AreSentBy (m : State) (p : Name) (effects : List NetEffect) (crossings : List (ℕ × Crossing)) : Type 0 where
+-- the crossing is one that may wait, and goes where its frame goes, which spells it under the keys
+pub record IsSentAs (m : State) (to : Name) (bytes : List ℕ) (x : Crossing) : Type 0 where
+  pub may : MayWait m x
+  pub home : x.home ≡ to
+  pub spelled_so : bytes ≡ spelled m.keys x
+
+-- these crossings, each with its number, are those of the frames among the effects
+pub record AreSentBy (m : State) (effects : List NetEffect) (crossings : List (ℕ × Crossing)) : Type 0 where
   pub frames : frames_sent effects ≡ map (frame_of_crossing m.keys) crossings
-  pub from : (n : ℕ) (x : Crossing) → Among (n, x) crossings → IsSentFrom m p x.home (spelled m.keys x) x
+  pub sent : (n : ℕ) (x : Crossing) → Among (n, x) crossings → IsSentAs m x.home (spelled m.keys x) x
 
--- the number is that of whom a packet in the switch goes to
-abbrev pub IsNumberOf : State → Name → ℕ → Aim → Type 0
-IsNumberOf m switch key (ToGroup g) = key ≡ group_key g
-IsNumberOf m switch key (ToPort id) = HasPortKey m.keys switch id.name key × ((port : SwitchPort) × (at m.config.net.switch_ports id.name ≡ Some port) × (port.birth ≡ id.birth))
-
--- these crossings of a packet from the port can be put behind those that wait
-pub record CanBeKept (m : State) (p : Name) (effects : List NetEffect) (crossings : List (ℕ × Crossing)) : Type 0 where
-  pub sent : AreSentBy m p effects crossings
+-- these crossings can be put behind those that wait
+pub record CanBeKept (m : State) (effects : List NetEffect) (crossings : List (ℕ × Crossing)) : Type 0 where
+  pub sent : AreSentBy m effects crossings
   pub behind : IsStrictlySortedBy nat_cmp (keys_of (m.waiting ++ crossings))
 
--- the first of the ports that has the key
-abbrev pub port_of_key : List (Name × ℕ) → ℕ → Option Name
-port_of_key [] key = None
-port_of_key (e ∷ es) key = cond (nat_eq e.1 key) (Some e.0) (port_of_key es key)
+-- ---- whom numbers name
+
+-- the number is that of the switch, which the records have
+abbrev pub IsSwitchNumber : State → ℕ → Identity → Type 0
+IsSwitchNumber m key id = HasDatapathKey m.keys id.name key × ((switch : Switch) × (at m.config.net.switches id.name ≡ Some switch) × (switch.birth ≡ id.birth))
+
+-- the number is that of the port in the datapath, and the records have the port as one of a switch
+abbrev pub IsPortNumber : State → Name → ℕ → Identity → Type 0
+IsPortNumber m datapath key id = HasPortKey m.keys datapath id.name key × ((port : SwitchPort) × (at m.config.net.switch_ports id.name ≡ Some port) × (port.birth ≡ id.birth))
+
+-- the number is that of whom a packet in the datapath goes to
+abbrev pub IsNumberOf : State → Name → ℕ → Aim → Type 0
+IsNumberOf m datapath key (ToGroup g) = key ≡ group_key g
+IsNumberOf m datapath key (ToPort id) = IsPortNumber m datapath key id

@@ -1,6 +1,6 @@
--- Who has a key by the records has a live one, and their rows can be lowered; records that are built have no router.
+-- Who has a key by the records has a live one, and their rows can be lowered; the switch of a port is there, and there are not too many ports.
 use Rattle.std.specs.Prelude.{◌≡◌, ◌≤◌, length, true, [], Option, Some, None, IsSome, is_some, option_map}
-use Rattle.std.proofs.Common.{ap, arith, sym, ◌∙◌}
+use Rattle.std.proofs.Common.{arith}
 use Rattle.nb_records.specs.Network.{Network, records_of}
 use Rattle.nb_records.specs.declared.record.Record.{Record}
 use Rattle.nb_records.specs.declared.record.Record.TheVariants as row
@@ -17,19 +17,8 @@ use Rattle.ovn_base.specs.names.ByName.{at}
 use Rattle.northd_core.specs.Lowering.{CanCompile}
 use Rattle.physical_flows.specs.RecordKeys.{HaveKeys}
 use Rattle.physical_flows.specs.Switched.{IsKeyed}
-use Rattle.sim_laws.specs.journeys.UnderWay.{HasNoRouter}
 use Rattle.tunnel_keys.specs.Keys.{Keys}
-use Rattle.world_setup.specs.Built.{IsBuilt}
 use Rattle.world_setup.proofs.EditedKeys.{owner_lives}
-use Rattle.sim_laws.specs.routers.Patches.{AreDistributed}
-use Rattle.std.proofs.lemmas.Option.{none-some}
-
-module _ (net : Network) (built : IsBuilt net) where
-  pub no_router : HasNoRouter net
-  no_router = record { routers = ap (λ (w : Network). w.routers) built.others; router_ports = ap (λ (w : Network). w.router_ports) built.others }
-
-  pub distributed : AreDistributed net
-  distributed a router is = absurd (none-some router (ap (λ l. at l a) (sym no_router.routers) ∙ is))
 
 module _ (net : Network) (keys : Keys) (valid : IsValid net) (have : HaveKeys net keys) where
   pub keyed : IsKeyed net keys

@@ -33,11 +33,12 @@ use Rattle.physical_flows.proofs.KeyLaws.{no_datapath_key, no_port_key}
 use Rattle.world_setup.proofs.ComingOwners.{one_of, only_in, in_only}
 use Rattle.world_setup.proofs.NewKeys.{given_beside}
 
--- no record goes: each switch and each router stays as it is, and each of their ports with its birth and datapath; and the records are valid, before and after
+-- no record goes: each switch and each router stays as it is, and each of their ports with its birth and datapath, a switch's of its kind; and the records are
+-- valid, before and after
 pub record HasRecordsFrom (net next : Network) : Type 0 where
   pub switches : (a : Name) (s : Switch) → at net.switches a ≡ Some s → at next.switches a ≡ Some s
   pub routers : (a : Name) (r : Router) → at net.routers a ≡ Some r → at next.routers a ≡ Some r
-  pub ports : (q : Name) (p : SwitchPort) → at net.switch_ports q ≡ Some p → (r : SwitchPort) × (at next.switch_ports q ≡ Some r) × (r.birth ≡ p.birth) × (r.switch ≡ p.switch)
+  pub ports : (q : Name) (p : SwitchPort) → at net.switch_ports q ≡ Some p → (r : SwitchPort) × (at next.switch_ports q ≡ Some r) × (r.birth ≡ p.birth) × (r.switch ≡ p.switch) × (r.kind ≡ p.kind)
   pub router_ports : (q : Name) (p : RouterPort) → at net.router_ports q ≡ Some p → (r : RouterPort) × (at next.router_ports q ≡ Some r) × (r.birth ≡ p.birth) × (r.router ≡ p.router)
   pub before : IsValid net
   pub after : IsValid next

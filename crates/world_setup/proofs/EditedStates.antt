@@ -1,6 +1,7 @@
 -- A planned edit: what it does to the state, and that the state stays consistent.
 use Rattle.std.specs.Prelude.{◌≡◌, ◌<◌, ◌+◌, ◌^◌, ◌↔◌, ℕ, List, [], None, Some, IsSome, map, option_map, true, refl, false}
 use Rattle.std.proofs.Common.{arith, sym, ap, subst, ◌∙◌, inl, inr}
+use Rattle.std.proofs.lemmas.Option.{same_Some}
 use Rattle.chassis_sim.specs.Settings.{set_in_turn}
 use Rattle.chassis_sim.specs.declared.change.SimChange.{SimChange}
 use Rattle.conn_zones.specs.Zoning.{Zoned}
@@ -12,6 +13,8 @@ use Rattle.nb_edits.specs.OpFaults.{fault_of}
 use Rattle.nb_edits.proofs.EditSoundness.{edit_sound}
 use Rattle.nb_edits.proofs.KeyEdits.{key_edit}
 use Rattle.nb_records.specs.Network.{Network}
+use Rattle.nb_records.specs.Switches.{is_virtual_kind}
+use Rattle.nb_records.specs.declared.switch.SwitchPort.{SwitchPort}
 use Rattle.nb_records.specs.declared.change.Op.{Op}
 use Rattle.nb_edits.specs.declared.plan.EditPlan.{EditPlan}
 use Rattle.nb_rules.specs.Valid as rules
@@ -33,12 +36,12 @@ use Rattle.physical_flows.specs.declared.unit.FlowUnit.TheVariants as unit
 use Rattle.world_setup.specs.Consistent.{IsConsistent}
 use Rattle.net_model.specs.Transition.{edit, identity_at, is_still_there}
 use Rattle.sim_laws.specs.journeys.TurnedZones.{IsTurnOfZones}
-use Rattle.sim_laws.specs.journeys.UnderWay.{IsUnderWay}
+use Rattle.sim_laws.specs.journeys.UnderWay.{BoundAreVirtual, IsUnderWay}
 use Rattle.sim_laws.proofs.journey_laws.Finishing.{begins}
 use Rattle.sim_laws.proofs.turn_laws.KeepingTurns.{edits_keep}
 use Rattle.sim_laws.proofs.turn_laws.KeptHomes.{keeps_homes}
 use Rattle.sim_laws.proofs.turn_laws.TurnedLists.{turned_at_home}
-use Rattle.world_setup.proofs.BuiltTables.{distributed, on_switch}
+use Rattle.world_setup.proofs.BuiltTables.{on_switch}
 use Rattle.sim_laws.specs.Sound.{AreBorn}
 use Rattle.switch_engine.specs.declared.effect.NetEffect.{NetEffect}
 use Rattle.tunnel_keys.proofs.Births.{born_later}
@@ -191,8 +194,8 @@ module _ (m : State) (zones : Zoned) (old : IsConsistent m zones) (room : event_
     lists = turned_keep (edit m.config next) m old.lists;
     at_rest = record {
       valid = sound.valid;
-      distributed = distributed next next_built;
-      bound_virtual = λ q chassis port bound is. next_built.ports q port is;
+      distributed = next_built.distributed;
+      bound_virtual = still_virtual;
       at_home = turned_at_home m (edit m.config next);
       keys = have;
       bound = bound_kept m (counted mid) zones old.at_rest.bound bindings_are (λ q h. port_there q h) (λ c h. h) old.at_rest.bound.chassis_sorted old.at_rest.bound.few_chassis;
@@ -207,6 +210,15 @@ module _ (m : State) (zones : Zoned) (old : IsConsistent m zones) (room : event_
           let port = some_of (at net.switch_ports q) h in
           let stays = records_from.ports q port.0 port.1 in
           is_some_of (at next.switch_ports q) stays.0 stays.1
+
+      -- each port that is bound was so before, and keeps its kind
+      still_virtual : BoundAreVirtual (counted mid).config
+      still_virtual q chassis port bound is =
+          let was : at m.config.bindings q ≡ Some chassis = ap (λ l. at l q) (sym bindings_are) ∙ bound in
+          let had = some_of (at net.switch_ports q) (old.at_rest.bound.port_there q chassis was) in
+          let stays = records_from.ports q had.0 had.1 in
+          let same : port ≡ stays.0 = same_Some port stays.0 (sym is ∙ stays.1) in
+          ap is_virtual_kind (ap (λ (p : SwitchPort). p.kind) same ∙ stays.4) ∙ old.at_rest.bound_virtual q chassis had.0 was had.1
 
       kept_then : AreKept m (counted mid)
       kept_then = edit_kept m (counted mid) (owners_only_in next net) next keys (event_count m + 1) old.at_rest.keys.hold after.hold gives (omega arith) records_from sound.owners refl refl
@@ -223,7 +235,7 @@ module _ (m : State) (zones : Zoned) (old : IsConsistent m zones) (room : event_
   under = begins m zones old.at_rest
 
   lists_then : (emptied : List (Name × ℕ)) → emptied ≡ [] → IsTurnOfZones m (edit m.config next) zones.numbers zones.numbers emptied
-  lists_then emptied none = subst (λ l. IsTurnOfZones m (edit m.config next) zones.numbers zones.numbers l) (sym none) (keeps_homes m zones 0 (edit m.config next) under (edits_keep m zones 0 next under sound.valid (distributed next next_built) still)).1
+  lists_then emptied none = subst (λ l. IsTurnOfZones m (edit m.config next) zones.numbers zones.numbers l) (sym none) (keeps_homes m zones 0 (edit m.config next) under (edits_keep m zones 0 next under sound.valid next_built.distributed still)).1
 
   -- ---- nothing is refused
 

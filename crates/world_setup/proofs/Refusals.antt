@@ -56,11 +56,14 @@ chassis_new m c h =
     let causes = neither (cause_if (is_chassis m.config c) (why.DuplicateName c)) _ h in
     (no_cause (is_chassis m.config c) (why.DuplicateName c) causes.0, leb-false 64 (length m.config.chassis) (no_cause (nat_le 64 (length m.config.chassis)) why.LimitChassis causes.1))
 
--- the port of a binding is there, and so is its chassis
-pub port_there : (m : State) (p c : Name) → refusal m (event_of.Bind p c) ≡ None → IsSome (at m.config.net.switch_ports p)
-port_there m p c h =
+-- the port of a binding is there and virtual, and its chassis is there
+pub port_virtual : (m : State) (p c : Name) → refusal m (event_of.Bind p c) ≡ None → is_virtual_port (at m.config.net.switch_ports p) ≡ true
+port_virtual m p c h =
     let causes = neither (no_port m p) (no_chassis m c) h in
-    by (at m.config.net.switch_ports p) (not_not (is_virtual_port (at m.config.net.switch_ports p)) (no_cause (not (is_virtual_port (at m.config.net.switch_ports p))) (why.NoSuch p) causes.0))
+    not_not (is_virtual_port (at m.config.net.switch_ports p)) (no_cause (not (is_virtual_port (at m.config.net.switch_ports p))) (why.NoSuch p) causes.0)
+
+pub port_there : (m : State) (p c : Name) → refusal m (event_of.Bind p c) ≡ None → IsSome (at m.config.net.switch_ports p)
+port_there m p c h = by (at m.config.net.switch_ports p) (port_virtual m p c h)
   where
     by : (o : Option SwitchPort) → is_virtual_port o ≡ true → IsSome o
     by (Some port) h = search

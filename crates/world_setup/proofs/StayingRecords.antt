@@ -1,4 +1,4 @@
--- Switches, routers and their ports stay through an edit of what is built, with their births, and ports on their datapaths.
+-- Switches, routers and their ports stay through an edit of what is built, with their births, ports on their datapaths, and those of switches of their kinds.
 use Rattle.std.specs.Prelude.{◌≡◌, ℕ, true, false, List, [], ◌∷◌, Option, Some, None, option_map, refl}
 use Rattle.std.specs.List.{AllByRecursion}
 use Rattle.std.proofs.lemmas.Bool.{false≢true, and_parts}
@@ -29,19 +29,19 @@ use Rattle.world_setup.specs.Built.{is_built_op, is_built_edit}
 use Rattle.world_setup.proofs.NamedRecords.{itself_at}
 use Rattle.world_setup.proofs.TouchedRecords.{ops_pass}
 
--- the port is at the name, of its birth and on its switch, or on its router
+-- the port is at the name, of its birth, on its switch and of its kind, or on its router
 abbrev pub StaysAt : Network → Name → SwitchPort → Type 0
-StaysAt net q port = (now : SwitchPort) × (at net.switch_ports q ≡ Some now) × (now.birth ≡ port.birth) × (now.switch ≡ port.switch)
+StaysAt net q port = (now : SwitchPort) × (at net.switch_ports q ≡ Some now) × (now.birth ≡ port.birth) × (now.switch ≡ port.switch) × (now.kind ≡ port.kind)
 
 abbrev pub RouterPortStaysAt : Network → Name → RouterPort → Type 0
 RouterPortStaysAt net p port = (now : RouterPort) × (at net.router_ports p ≡ Some now) × (now.birth ≡ port.birth) × (now.router ≡ port.router)
 
 -- ---- a record that is put
 
--- none is at its name, or the switch or the router itself, or a port of its birth and on its datapath
+-- none is at its name, or the switch or the router itself, or a port of its birth, on its datapath and of its kind
 abbrev AgreesWith : Network → Record → Type 0
 AgreesWith net (row.Switch r) = (s : Switch) → at net.switches r.name ≡ Some s → r ≡ s
-AgreesWith net (row.SwitchPort r) = (s : SwitchPort) → at net.switch_ports r.name ≡ Some s → (r.birth ≡ s.birth) × (r.switch ≡ s.switch)
+AgreesWith net (row.SwitchPort r) = (s : SwitchPort) → at net.switch_ports r.name ≡ Some s → (r.birth ≡ s.birth) × (r.switch ≡ s.switch) × (r.kind ≡ s.kind)
 AgreesWith net (row.Router r) = (s : Router) → at net.routers r.name ≡ Some s → r ≡ s
 AgreesWith net (row.RouterPort r) = (s : RouterPort) → at net.router_ports r.name ≡ Some s → (r.birth ≡ s.birth) × (r.router ≡ s.router)
 AgreesWith net r = Unit {0}
@@ -88,7 +88,7 @@ there_agrees : (net : Network) (r : Record) → record_at net (kind_of r) (name_
 there_agrees net (row.Switch r) is = λ s found. ap (switch_in r) (sym is ∙ ap (option_map row.Switch) found)
 there_agrees net (row.SwitchPort r) is = λ s found.
     let same : r ≡ s = ap (port_in r) (sym is ∙ ap (option_map row.SwitchPort) found) in
-    (ap (λ (x : SwitchPort). x.birth) same, ap (λ (x : SwitchPort). x.switch) same)
+    (ap (λ (x : SwitchPort). x.birth) same, ap (λ (x : SwitchPort). x.switch) same, ap (λ (x : SwitchPort). x.kind) same)
 there_agrees net (row.Router r) is = λ s found. ap (router_in r) (sym is ∙ ap (option_map row.Router) found)
 there_agrees net (row.RouterPort r) is = λ s found.
     let same : r ≡ s = ap (router_port_in r) (sym is ∙ ap (option_map row.RouterPort) found) in
@@ -119,10 +119,10 @@ module _ (net : Network) where
 
   port_stays_with : (r : Record) → AgreesWith net r → (q : Name) (p : SwitchPort) → at net.switch_ports q ≡ Some p → StaysAt (with_record net r) q p
   port_stays_with (row.SwitchPort r) agrees q p found = elim (one_or_two q r.name) [
-    | inl same ↦ (let is = agrees p (ap (at net.switch_ports) (sym same) ∙ found) in (r, ap (at (put net.switch_ports r.name r)) same ∙ put_there net.switch_ports r.name r, is.0, is.1))
-    | inr apart ↦ (p, put_other net.switch_ports r.name r q apart ∙ found, refl, refl)
+    | inl same ↦ (let is = agrees p (ap (at net.switch_ports) (sym same) ∙ found) in (r, ap (at (put net.switch_ports r.name r)) same ∙ put_there net.switch_ports r.name r, is.0, is.1, is.2))
+    | inr apart ↦ (p, put_other net.switch_ports r.name r q apart ∙ found, refl, refl, refl)
   ]
-  port_stays_with r agrees q p found = (p, found, refl, refl)
+  port_stays_with r agrees q p found = (p, found, refl, refl, refl)
 
   router_stays_with : (r : Record) → AgreesWith net r → (a : Name) (s : Router) → at net.routers a ≡ Some s → at (with_record net r).routers a ≡ Some s
   router_stays_with (row.Router r) agrees a s found = elim (one_or_two a r.name) [
@@ -144,7 +144,7 @@ module _ (net : Network) where
   switch_stays_changed c (Some r) agrees a s found = switch_stays_with (changed_record c r) (changed_agrees net c r (agrees r refl)) a s found
 
   port_stays_changed : (c : Change) (x : Option Record) → ((r : Record) → x ≡ Some r → AgreesWith net r) → (q : Name) (p : SwitchPort) → at net.switch_ports q ≡ Some p → StaysAt (with_change net c x) q p
-  port_stays_changed c None agrees q p found = (p, found, refl, refl)
+  port_stays_changed c None agrees q p found = (p, found, refl, refl, refl)
   port_stays_changed c (Some r) agrees q p found = port_stays_with (changed_record c r) (changed_agrees net c r (agrees r refl)) q p found
 
   router_stays_changed : (c : Change) (x : Option Record) → ((r : Record) → x ≡ Some r → AgreesWith net r) → (a : Name) (s : Router) → at net.routers a ≡ Some s → at (with_change net c x).routers a ≡ Some s
@@ -197,13 +197,13 @@ switch_stays_through net (o ∷ ops) n f g is none a s found =
 
 port_stays_through : (net : Network) (ops : List Op) (n : ℕ) → IsFit net → AllByRecursion IsOpInGrammar ops → is_built_edit ops ≡ true → ops_fault net ops n ≡ None
     → (q : Name) (p : SwitchPort) → at net.switch_ports q ≡ Some p → StaysAt (accepted net ops n) q p
-port_stays_through net [] n f g is none q p found = (p, found, refl, refl)
+port_stays_through net [] n f g is none q p found = (p, found, refl, refl, refl)
 port_stays_through net (o ∷ ops) n f g is none q p found =
     let parts = no_first (op_fault net o) _ none in
     let each = and_parts (is_built_op o) (is_built_edit ops) is in
     let mid = port_stays_by net f o n each.0 parts.0 q p found in
     let last = port_stays_through (operated net o n) ops n (operated_fit net o n f g.0 parts.0) g.1 each.1 parts.1 q mid.0 mid.1 in
-    (last.0, last.1, last.2 ∙ mid.2, last.3 ∙ mid.3)
+    (last.0, last.1, last.2 ∙ mid.2, last.3 ∙ mid.3, last.4 ∙ mid.4)
 
 router_stays_through : (net : Network) (ops : List Op) (n : ℕ) → IsFit net → AllByRecursion IsOpInGrammar ops → is_built_edit ops ≡ true → ops_fault net ops n ≡ None
     → (a : Name) (s : Router) → at net.routers a ≡ Some s → at (accepted net ops n).routers a ≡ Some s

@@ -32,7 +32,7 @@ use Rattle.world_setup.specs.Turning.{IsTurned}
 use Rattle.world_setup.specs.Zones.{home_change, zone_numbered}
 use Rattle.world_setup.proofs.ConsistentTurns.{chassis_comes, port_bound}
 use Rattle.world_setup.proofs.PortHomes.{homes_after}
-use Rattle.world_setup.proofs.Refusals.{among_chassis, chassis_new, is_known, port_there}
+use Rattle.world_setup.proofs.Refusals.{among_chassis, chassis_new, is_known, port_there, port_virtual}
 use Rattle.world_setup.proofs.TurnEvents.{bound_then, none_settled, still_named}
 
 module _ (m : State) (zones : Zoned) (old : IsConsistent m zones) (room : event_count m < 2 ^ 42) (effects : List NetEffect) (none : effects ≡ []) (change : SimChange TupleSpace) where
@@ -71,12 +71,12 @@ module _ (m : State) (zones : Zoned) (old : IsConsistent m zones) (room : event_
         keys = m.keys;
         does = (none, refl);
         ground = λ i. record { config = record m.config { bindings = sym ports i }; keys = m.keys; zones = after };
-        consistent = port_bound m zones old room p c after there known rezoned;
+        consistent = port_bound m zones old room p c after there (port_virtual m p c allowed) known rezoned;
         unretired = none_settled m.keys old.at_rest.keys.no_retired_datapaths old.at_rest.keys.no_retired_ports;
         zones = rezoned;
         emptied = emptied ∙ ap (zone_numbered c) (sym numbered);
         frames = refl;
-        lists = subst (λ l. IsTurnOfZones m (bind m.config p c) zones.numbers after.numbers l) (sym emptied) (binds_so m zones after 0 p c z under (port_bound m zones old room p c after there known rezoned).at_rest.bound rezoned numbered);
+        lists = subst (λ l. IsTurnOfZones m (bind m.config p c) zones.numbers after.numbers l) (sym emptied) (binds_so m zones after 0 p c z under (port_bound m zones old room p c after there (port_virtual m p c allowed) known rezoned).at_rest.bound rezoned numbered);
         bindings = λ q. ap (λ l. set_in_turn same_name l q (at m.config.bindings q)) bound ∙ bound_then m.config.bindings p c q;
         names = λ before later called set. still_named m.keys before later (subst (λ l. AreSet same_pair (map given_name l) before.names later.names) names set) called;
       }

@@ -1,7 +1,6 @@
 -- What is built of edits, kind by kind, and of the records.
-use Rattle.std.specs.Prelude.{◌≡◌, ◌&&◌, Bool, true, false, List, [], ◌∷◌, Some}
-use Rattle.nb_records.specs.Network.{Network, empty_network}
-use Rattle.nb_records.specs.Switches.{is_virtual}
+use Rattle.std.specs.Prelude.{◌≡◌, ◌&&◌, Bool, true, false, List, [], ◌∷◌, is_none}
+use Rattle.nb_records.specs.Network.{Network}
 use Rattle.nb_records.specs.declared.change.Change.{Change}
 use Rattle.nb_records.specs.declared.change.Change.TheVariants as change
 use Rattle.nb_records.specs.declared.change.Op.{Op}
@@ -10,50 +9,48 @@ use Rattle.nb_records.specs.declared.kinds.Kind.{Kind}
 use Rattle.nb_records.specs.declared.kinds.Kind.TheVariants as kind
 use Rattle.nb_records.specs.declared.record.Record.{Record}
 use Rattle.nb_records.specs.declared.record.Record.TheVariants as row
-use Rattle.nb_records.specs.declared.switch.SwitchPort.{SwitchPort}
-use Rattle.ovn_base.specs.declared.name.Name.{Name}
-use Rattle.ovn_base.specs.names.ByName.{at}
+use Rattle.row_laws.specs.Distributed.{AreDistributed}
 
 -- ---- edits
 
 abbrev pub is_built_kind : Kind → Bool
 is_built_kind kind.Switch = true
-is_built_kind kind.Router = false
-is_built_kind kind.RouterPort = false
+is_built_kind kind.Router = true
+is_built_kind kind.RouterPort = true
 is_built_kind kind.SwitchPort = true
 is_built_kind kind.AddressSet = true
 is_built_kind kind.PortGroup = true
 is_built_kind kind.Acl = true
-is_built_kind kind.Route = false
+is_built_kind kind.Route = true
 is_built_kind kind.Nat = false
 is_built_kind kind.LoadBalancer = false
-is_built_kind kind.StaticMac = false
+is_built_kind kind.StaticMac = true
 
 abbrev pub is_built_record : Record → Bool
 is_built_record (row.Switch switch) = true
-is_built_record (row.Router router) = false
-is_built_record (row.RouterPort port) = false
-is_built_record (row.SwitchPort port) = is_virtual port
+is_built_record (row.Router router) = is_none router.chassis
+is_built_record (row.RouterPort port) = true
+is_built_record (row.SwitchPort port) = true
 is_built_record (row.AddressSet set) = true
 is_built_record (row.PortGroup group) = true
 is_built_record (row.Acl rule) = true
-is_built_record (row.Route route) = false
+is_built_record (row.Route route) = true
 is_built_record (row.Nat row) = false
 is_built_record (row.LoadBalancer balancer) = false
-is_built_record (row.StaticMac row) = false
+is_built_record (row.StaticMac row) = true
 
 abbrev pub is_built_change : Change → Bool
 is_built_change change.Switch = true
-is_built_change change.Router = false
-is_built_change (change.RouterPort mac networks peer) = false
+is_built_change change.Router = true
+is_built_change (change.RouterPort mac networks peer) = true
 is_built_change (change.SwitchPort addresses port_security enabled) = true
 is_built_change (change.AddressSet addresses) = true
 is_built_change (change.PortGroup ports) = true
 is_built_change (change.Acl priority matching action) = true
-is_built_change (change.Route prefix nexthop) = false
+is_built_change (change.Route prefix nexthop) = true
 is_built_change (change.Nat external_ip logical_ip) = false
 is_built_change (change.LoadBalancer vips switches routers) = false
-is_built_change (change.StaticMac ip mac) = false
+is_built_change (change.StaticMac ip mac) = true
 
 abbrev pub is_built_op : Op → Bool
 is_built_op (Add record') = is_built_record record'
@@ -68,7 +65,9 @@ is_built_edit (o ∷ ops) = is_built_op o && is_built_edit ops
 
 -- ---- records
 
--- there are no records but switches, virtual ports, address sets, port groups and rules
+-- there is no row of NAT, no balancer and no offline mark, and each router is distributed
 pub record IsBuilt (net : Network) : Type 0 where
-  pub others : net ≡ record empty_network { switches = net.switches; switch_ports = net.switch_ports; address_sets = net.address_sets; port_groups = net.port_groups; acls = net.acls }
-  pub ports : (q : Name) (port : SwitchPort) → at net.switch_ports q ≡ Some port → is_virtual port ≡ true
+  pub nats : net.nats ≡ []
+  pub balancers : net.load_balancers ≡ []
+  pub offline : net.offline ≡ []
+  pub distributed : AreDistributed net

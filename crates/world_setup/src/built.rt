@@ -5,19 +5,21 @@ ghost use Rattle.world_setup.specs.Built.{is_built_change, is_built_edit, is_bui
 use nb_records::change::{Change, Op};
 use nb_records::kinds::Kind;
 use nb_records::record::Record;
-use nb_records::switch::PortKind;
 
 fn is_built_kind(kind: Kind) -> bool
     ensures { result ≡ is_built_kind kind }
 {
     match kind {
-        Kind::Switch | Kind::SwitchPort | Kind::AddressSet | Kind::PortGroup | Kind::Acl => true,
-        Kind::Router
+        Kind::Switch
+        | Kind::Router
         | Kind::RouterPort
+        | Kind::SwitchPort
+        | Kind::AddressSet
+        | Kind::PortGroup
+        | Kind::Acl
         | Kind::Route
-        | Kind::Nat
-        | Kind::LoadBalancer
-        | Kind::StaticMac => false,
+        | Kind::StaticMac => true,
+        Kind::Nat | Kind::LoadBalancer => false,
     }
 }
 
@@ -25,14 +27,16 @@ fn is_built_record(row: &Record) -> bool
     ensures { result ≡ is_built_record row.now }
 {
     match row {
-        Record::SwitchPort(port) => matches!(port.kind, PortKind::Virtual),
-        Record::Switch(_) | Record::AddressSet(_) | Record::PortGroup(_) | Record::Acl(_) => true,
-        Record::Router(_)
+        Record::Router(router) => router.chassis.is_none(),
+        Record::Switch(_)
         | Record::RouterPort(_)
+        | Record::SwitchPort(_)
+        | Record::AddressSet(_)
+        | Record::PortGroup(_)
+        | Record::Acl(_)
         | Record::Route(_)
-        | Record::Nat(_)
-        | Record::LoadBalancer(_)
-        | Record::StaticMac(_) => false,
+        | Record::StaticMac(_) => true,
+        Record::Nat(_) | Record::LoadBalancer(_) => false,
     }
 }
 
@@ -41,16 +45,15 @@ fn is_built_change(change: &Change) -> bool
 {
     match change {
         Change::Switch
+        | Change::Router
+        | Change::RouterPort { .. }
         | Change::SwitchPort { .. }
         | Change::AddressSet { .. }
         | Change::PortGroup { .. }
-        | Change::Acl { .. } => true,
-        Change::Router
-        | Change::RouterPort { .. }
+        | Change::Acl { .. }
         | Change::Route { .. }
-        | Change::Nat { .. }
-        | Change::LoadBalancer { .. }
-        | Change::StaticMac { .. } => false,
+        | Change::StaticMac { .. } => true,
+        Change::Nat { .. } | Change::LoadBalancer { .. } => false,
     }
 }
 

@@ -31,21 +31,21 @@ use Rattle.row_laws.proofs.units.StageRows.{is_of_switches, rule_in, rule_out}
 use Rattle.row_laws.specs.AgreeAnywhere.{AgreeAnywhereLaw}
 
 -- what a row of a priority and a rank does
-abbrev Told : Type 0
+abbrev pub Told : Type 0
 Told = ℕ → ℕ → List Action
 
-abbrev IsTold : Told → LFlow → Type 0
+abbrev pub IsTold : Told → LFlow → Type 0
 IsTold f r = r.actions ≡ f r.priority r.rank
 
-abbrev AreTold : Told → List LFlow → Type 0
+abbrev pub AreTold : Told → List LFlow → Type 0
 AreTold f rows = AllByRecursion (IsTold f) rows
 
 module _ (f : Told) where
-  both : (xs ys : List LFlow) → AreTold f xs → AreTold f ys → AreTold f (xs ++ ys)
+  pub both : (xs ys : List LFlow) → AreTold f xs → AreTold f ys → AreTold f (xs ++ ys)
   both [] ys h k = k
   both (x ∷ xs) ys h k = (h.0, both xs ys h.1 k)
 
-  each : {X : Type 0} (g : X → LFlow) → ((x : X) → IsTold f (g x)) → (xs : List X) → AreTold f (map g xs)
+  pub each : {X : Type 0} (g : X → LFlow) → ((x : X) → IsTold f (g x)) → (xs : List X) → AreTold f (map g xs)
   each g h [] = tt
   each g h (x ∷ xs) = (h x, each g h xs)
 
@@ -53,7 +53,7 @@ module _ (f : Told) where
   each_list g h [] = tt
   each_list g h (x ∷ xs) = both (g x) (flat_map g xs) (h x) (each_list g h xs)
 
-  if_so : (b : Bool) (xs : List LFlow) → (b ≡ true → AreTold f xs) → AreTold f (when b xs)
+  pub if_so : (b : Bool) (xs : List LFlow) → (b ≡ true → AreTold f xs) → AreTold f (when b xs)
   if_so true xs h = h refl
   if_so false xs h = tt
 

@@ -1,5 +1,5 @@
--- Two rows of a switch's table that may be taken: they have one priority and one rank.
-use Rattle.std.specs.Prelude.{◌≡◌, true, Some}
+-- Two rows of a table that may be taken: they have one priority and one rank.
+use Rattle.std.specs.Prelude.{◌≡◌, ℕ, true, Some}
 use Rattle.std.proofs.Common.{sym, inl, inr}
 use Rattle.std.proofs.lemmas.Bool.{cases_order}
 use Rattle.ovn_base.specs.declared.name.Name.{Name}
@@ -13,11 +13,28 @@ use Rattle.logical_flows.specs.Stages.{stage_table}
 use Rattle.logical_flows.specs.declared.flow.LFlow.{LFlow}
 use Rattle.logical_flows.specs.declared.stage.Stage.{Stage}
 use Rattle.tunnel_keys.proofs.HeldKeys.{found}
-use Rattle.net_model.specs.Sights.{Sight, roster_of}
+use Rattle.net_model.specs.Sights.{Sight, Roster, roster_of}
 use Rattle.row_laws.proofs.units.RowUnits.{SwitchRow, row_unit}
 use Rattle.row_laws.proofs.units.StageRows.{is_of_switches}
 use Rattle.row_laws.specs.AgreeAnywhere.{AgreeAnywhereLaw}
 use Rattle.row_laws.specs.Rows.{IsBestRow}
+
+-- two rows that may both be taken of one table have one priority, and one rank
+module _ {net : Network} {who : Roster} {table : ℕ} {d : Name} {regs : Regs} {sight : Sight} {r q : LFlow} (first : IsBestRow net who table d regs sight r) (second : IsBestRow net who table d regs sight q) where
+  pub one_priority : r.priority ≡ q.priority
+  one_priority = elim (cases_order r.priority q.priority) [
+    | inl e ↦ e
+    | inr other ↦ elim other [ inl less ↦ absurd (first.unbeaten q second.is_row second.holds_here (inl less)) | inr more ↦ absurd (second.unbeaten r first.is_row first.holds_here (inl more)) ]
+  ]
+
+  pub one_rank : r.rank ≡ q.rank
+  one_rank = elim (cases_order r.rank q.rank) [
+    | inl e ↦ e
+    | inr other ↦ elim other [
+      | inl less ↦ absurd (first.unbeaten q second.is_row second.holds_here (inr (one_priority, less)))
+      | inr more ↦ absurd (second.unbeaten r first.is_row first.holds_here (inr (sym one_priority, more)))
+    ]
+  ]
 
 -- the rows may both be taken for a packet on the switch
 pub record AreTaken (net : Network) (s : Stage) (d : Name) (regs : Regs) (sight : Sight) (r q : LFlow) : Type 0 where
@@ -30,22 +47,10 @@ pub record AreTaken (net : Network) (s : Stage) (d : Name) (regs : Regs) (sight 
 
 module _ {net : Network} {s : Stage} {d : Name} {regs : Regs} {sight : Sight} {r q : LFlow} (t : AreTaken net s d regs sight r q) where
   pub same_priority : r.priority ≡ q.priority
-  same_priority = elim (cases_order r.priority q.priority) [
-    | inl e ↦ e
-    | inr other ↦ elim other [
-      | inl less ↦ absurd (t.first.unbeaten q t.second.is_row t.second.holds_here (inl less))
-      | inr more ↦ absurd (t.second.unbeaten r t.first.is_row t.first.holds_here (inl more))
-    ]
-  ]
+  same_priority = one_priority t.first t.second
 
   pub same_rank : r.rank ≡ q.rank
-  same_rank = elim (cases_order r.rank q.rank) [
-    | inl e ↦ e
-    | inr other ↦ elim other [
-      | inl less ↦ absurd (t.first.unbeaten q t.second.is_row t.second.holds_here (inr (same_priority, less)))
-      | inr more ↦ absurd (t.second.unbeaten r t.first.is_row t.first.holds_here (inr (sym same_priority, more)))
-    ]
-  ]
+  same_rank = one_rank t.first t.second
 
 -- what is so of each two rows that may be taken, by their units, is the law of the stage
 pub law_by : (s : Stage) → is_of_switches s ≡ true

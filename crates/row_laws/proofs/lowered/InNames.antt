@@ -37,7 +37,7 @@ no_number : (g : Field) (n m : ℕ) → is_port_field g ≡ true → suits g (v.
 no_number g n m port h = false≢true (sym (not_from_true (is_port_field g) port) ∙ (and_parts (not (is_port_field g)) (nat_lt n (2 ^ bit_width g) && nat_lt m (2 ^ bit_width g)) h).0)
 
 -- lists of which each element is that of the other are one
-zipped : {X : Type 0} (xs ys : List X) → Zips (λ a b. a ≡ b) xs ys → xs ≡ ys
+pub zipped : {X : Type 0} (xs ys : List X) → Zips (λ a b. a ≡ b) xs ys → xs ≡ ys
 zipped [] [] zips_none = refl
 zipped (x ∷ xs) (y ∷ ys) (zips_more _ _ _ _ e z) = λ i. e i ∷ zipped xs ys z i
 zipped [] (y ∷ ys) z = elim z [ ]

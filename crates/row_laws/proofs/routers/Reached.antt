@@ -72,7 +72,8 @@ module _ (net : Network) (p : RouterPort) (ip : Ip4) (mac : Mac) where
       by None is k = among_right ip (flat_map port_ips (filter is_virtual (enabled_ports net q.switch))) _ (by_router_port q.switch k)
       by (Some m) is k = among_left ip (flat_map port_ips (filter is_virtual (enabled_ports net q.switch))) _ (by_virtual q.switch (is ∙ k))
 
-  reached : neighbour_of net p ip ≡ Some mac → Among ip (bound_ips net p ++ ips_beyond net (partner_of_router_port net p))
+  -- one that is reached is bound, or beyond the port's partner
+  pub reached : neighbour_of net p ip ≡ Some mac → Among ip (bound_ips net p ++ ips_beyond net (partner_of_router_port net p))
   reached h = by (static_neighbour net p ip) refl h
     where
       by : (o : Option Mac) → static_neighbour net p ip ≡ o → or_else o (joined_neighbour net p ip (partner_of_router_port net p)) ≡ Some mac → Among ip (bound_ips net p ++ ips_beyond net (partner_of_router_port net p))

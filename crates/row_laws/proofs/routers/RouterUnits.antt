@@ -44,7 +44,7 @@ use Rattle.stage_rows.specs.BalancerRows.{router_vip_row}
 use Rattle.stage_rows.specs.RouterRows.{answered_input, echo_input, own_row, network_row, route_row}
 use Rattle.stage_rows.specs.Rows.{on_some, when}
 use Rattle.stage_rows.specs.SwitchRows.{some_take_unknown}
-use Rattle.stage_rows.specs.Units.{router_port_rows, route_rows, neighbour_rows, nat_rows, balancer_rows, router_rows, rule_rows, switch_rows, port_rows, rows_in, all_stages, translates_named, datapath_of, datapath_of_port}
+use Rattle.stage_rows.specs.Units.{IsPair, router_port_rows, route_rows, neighbour_rows, nat_rows, balancer_rows, router_rows, rule_rows, switch_rows, port_rows, rows_in, all_stages, translates_named, datapath_of, datapath_of_port}
 use Rattle.row_laws.proofs.records.ValidPorts.{whole, on_switch}
 use Rattle.row_laws.proofs.units.RowUnits.{rows_among, in_some, some_in, in_when}
 use Rattle.row_laws.proofs.units.StageRows.{is_of_switches}
@@ -56,12 +56,12 @@ use Rattle.row_laws.specs.Rows.{IsRowIn}
 abbrev pub IsOfRouters : Stage → LFlow → Type 0
 IsOfRouters s r = (r.stage ≡ s) × (is_of_switches s ≡ false)
 
-abbrev router_stages : List Stage
+abbrev pub router_stages : List Stage
 router_stages =
     stage.RouterAdmit ∷ stage.RouterInput ∷ stage.RouterUndo ∷ stage.RouterDnat ∷ stage.RouterOwn ∷ stage.RouterRoute ∷ stage.RouterNeighbour ∷ stage.RouterFind ∷ stage.RouterSnat ∷ []
 
 -- the stage of routers that has the table
-abbrev of_table : ℕ → Option Stage
+abbrev pub of_table : ℕ → Option Stage
 of_table n = find (λ x. nat_eq (stage_table x) n) router_stages
 
 own_table : (s : Stage) → is_of_switches s ≡ false → of_table (stage_table s) ≡ Some s
@@ -197,10 +197,7 @@ module _ (net : Network) (valid : IsValid net) (d : Name) (rt : Router) (is_rout
 
   -- ---- of which unit a row is
 
-  module _ (s : Stage) (of : is_of_switches s ≡ false) (r : LFlow) (in_table : stage_table r.stage ≡ stage_table s) where
-    same : (t : Stage) → IsOfRouters t r → t ≡ s
-    same t is = placed s t r of is in_table
-
+  module _ (s : Stage) (r : LFlow) (same : (t : Stage) → IsOfRouters t r → t ≡ s) where
     of_port : (t : Stage) (q : Name) (o : Option SwitchPort) → at net.switch_ports q ≡ o → (p : Option RouterPort) → at net.router_ports q ≡ p → datapath_of_port o p ≡ Some d → Among r (port_rows t net o p) → RouterRow net s d r
     of_port t q (Some port) is p other on m = absurd (port_off q port is (same_Some port.switch d on))
     of_port t q None is (Some p) other on m = by_port q p other (same_Some p.router d on) (subst (λ x. Among r (router_port_rows x net p)) (same t (port_rows_are t net p r m)) m)
@@ -256,11 +253,28 @@ module _ (net : Network) (valid : IsValid net) (d : Name) (rt : Router) (is_rout
     of_unit t (unit.Switch e) on m = of_switch t e (same_Some e d on) m
     of_unit t (unit.Router e) on m = of_router t e (same_Some e d on) (at net.routers e) refl m
 
-  -- a row of the table is one of these units
+  -- a row of the network on the router is of one of these units
+  of_pair : (s : Stage) (r : LFlow) → ((t : Stage) → IsOfRouters t r → t ≡ s) → IsPair net r d → RouterRow net s d r
+  of_pair s r same pair =
+      let m = flat_map_among (λ t. rows_in t net pair.origin) r all_stages pair.among in
+      of_unit s r same m.0 pair.origin pair.on m.2
+
+  -- so is a row of the table
   pub row_unit : (s : Stage) → is_of_switches s ≡ false → (r : LFlow) → IsRowIn net (stage_table s) d r → RouterRow net s d r
-  row_unit s of r is =
-      let m = flat_map_among (λ t. rows_in t net is.pair.origin) r all_stages is.pair.among in
-      of_unit s of r is.in_table m.0 is.pair.origin is.pair.on m.2
+  row_unit s of r is = of_pair s r (λ t also. placed s t r of also is.in_table) is.pair
+
+  -- and each is of a stage of routers
+  its_stage : (r : LFlow) → RouterRow net r.stage d r → is_of_switches r.stage ≡ false
+  its_stage r (by_port q port is on m) = (port_rows_are r.stage net port r m).1
+  its_stage r (by_route q x is on m) = (route_rows_are r.stage net x r m).1
+  its_stage r (by_neighbour q port is on ip mac known m) = (neighbour_rows_are r.stage q ip mac r m).1
+  its_stage r (by_nat q x is on m) = (nat_rows_are r.stage x r m).1
+  its_stage r (by_balancer b x is m) = (served r.stage r (λ t also. sym also.0) r.stage b d refl x is m).1
+  its_stage r (by_router x is m) = (router_rows_are r.stage (translates net x) r m).1
+
+  -- so in a table that no such stage has there is none
+  pub no_row_at : (n : ℕ) → of_table n ≡ None → (r : LFlow) → IsRowIn net n d r → ⊥
+  no_row_at n none r is = none-some r.stage (sym none ∙ ap of_table (sym is.in_table) ∙ own_table r.stage (its_stage r (of_pair r.stage r (λ t also. sym also.0) is.pair)))
 
 -- ---- rows of units are rows of the table
 

@@ -13,6 +13,7 @@ use Rattle.inet_packet.specs.declared.regs.Regs.{Regs}
 use Rattle.match_cubes.proofs.WholeLaws.{whole_in_range}
 use Rattle.match_cubes.specs.Suited.{HasFieldsInRange}
 use Rattle.match_language.specs.declared.expr.Expr.{Expr}
+use Rattle.nb_records.specs.Grammar.{IsInGrammar, IsRouterPort}
 use Rattle.nb_records.specs.Network.{Network, records_of}
 use Rattle.nb_records.specs.Routers.{translates}
 use Rattle.nb_records.specs.declared.record.Record.{Record}
@@ -45,6 +46,12 @@ module _ (net : Network) (valid : IsValid net) where
 
   pub own_place : (q : Name) (port : RouterPort) → at net.router_ports q ≡ Some port → at net.router_ports port.name ≡ Some port
   own_place q port found = ap (λ n. at net.router_ports n) (port_named q port found) ∙ found
+
+  pub in_grammar : (q : Name) (port : RouterPort) → at net.router_ports q ≡ Some port → IsRouterPort port
+  in_grammar q port found =
+      let r = row.RouterPort port in
+      let own = among_map (λ (e : Name × RouterPort). row.RouterPort e.1) (q, port) net.router_ports (at_among net.router_ports q port found) in
+      among_all IsInGrammar r (records_of net) valid.in_grammar (among_left r _ _ (among_left r _ _ (among_left r _ _ (among_left r _ _ (among_left r _ _ (among_left r _ _ (among_left r _ _ (among_left r _ _ (among_right r _ _ own)))))))))
 
   pub on_router : (q : Name) (port : RouterPort) → at net.router_ports q ≡ Some port → (x : Router) × (at net.routers port.router ≡ Some x)
   on_router q port found =

@@ -13,7 +13,6 @@ use Rattle.logical_flows.specs.declared.stage.Stage.{Stage}
 use Rattle.logical_flows.specs.declared.stage.Stage.TheVariants as stage
 use Rattle.match_cubes.specs.Points.{members_of}
 use Rattle.match_cubes.specs.declared.sets.Sets.{Sets}
-use Rattle.nb_records.specs.declared.switch.SwitchPort.{SwitchPort}
 use Rattle.net_model.specs.Sights.{roster_of}
 use Rattle.net_model.specs.State.{State}
 use Rattle.ovn_base.specs.declared.name.Name.{Name}
@@ -22,58 +21,64 @@ use Rattle.ovn_base.specs.names.ByName.{at}
 use Rattle.physical_flows.specs.Around.AroundFlow.{in_entry, in_remote, in_home, in_back, in_output}
 use Rattle.physical_flows.specs.ChassisFlows.{AreExactly, basis_at}
 use Rattle.physical_flows.specs.Stages.{Basis, EntryRow, RemoteRow, HomeRow, ReturnRow, OutputRow}
-use Rattle.row_laws.proofs.agreeing.EachAgrees.{each_flows_agree}
-use Rattle.row_laws.specs.AgreeAnywhere.{HoldsSwitchRows}
+use Rattle.row_laws.specs.AgreeAnywhere.{FlowsAgreeLaw, HoldsStageRows, IsOwnKey}
 use Rattle.row_laws.specs.BestRow.{HoldsRows}
 use Rattle.row_laws.specs.Numbers.{AreSameMembers}
+use Rattle.row_laws.specs.StageLaws.{OfEachStage}
 use Rattle.switch_engine.specs.OneWalk.{BestAgree}
 use Rattle.tunnel_keys.proofs.HeldKeys.{found}
 use Rattle.tunnel_keys.specs.declared.owner.PortKey.{PortKey}
 use Rattle.sim_laws.proofs.counts.AroundAgree.{entries, spreads, homes, backs, outputs}
-use Rattle.sim_laws.proofs.journey_laws.Premises.{on_switch_port}
 use Rattle.sim_laws.specs.journeys.Tables.{ChassisFlow, AreTablesOf}
-use Rattle.sim_laws.specs.journeys.UnderWay.{HasNoRouter, IsUnderWay}
+use Rattle.sim_laws.specs.journeys.UnderWay.{IsUnderWay}
 
-module _ (m : State) (zones : Zoned) (more : ℕ) (u : IsUnderWay m zones more) (plain : HasNoRouter m.config.net) (sets : Sets) (members : AreSameMembers (roster_of m.config.net).members (members_of sets)) (chassis : Name) (flows : List Flow)
+module _ (stages : OfEachStage FlowsAgreeLaw) (m : State) (zones : Zoned) (more : ℕ) (u : IsUnderWay m zones more) (sets : Sets) (members : AreSameMembers (roster_of m.config.net).members (members_of sets)) (chassis : Name) (flows : List Flow)
     (exact : AreExactly (ChassisFlow m zones.numbers sets chassis) flows) (tables : AreTablesOf m zones.numbers sets chassis flows) where
   abbrev b : Basis
   b = basis_at m zones.numbers chassis
 
-  owned : (q : Name) (k : PortKey) → at m.keys.ports q ≡ Some k → (i : SwitchPort) × (at m.config.net.switch_ports q ≡ Some i) × (i.switch ≡ k.datapath)
-  owned q k is =
-      let i = found (at m.config.net.switch_ports q) (on_switch_port m.config.net m.keys u.keys plain q k is) in
-      let own = u.keys.port_has q i.0 i.1 in
-      (i.0, i.1, sym own.3 ∙ ap (λ (x : PortKey). x.datapath) (same_Some own.0 k (sym own.1 ∙ is)))
+  -- a port that has a key is one of a switch or of a router, and its key is of the datapath that its record names
+  owned : (q : Name) (k : PortKey) → at m.keys.ports q ≡ Some k → IsOwnKey m.config.net q k
+  owned q k is = elim (u.keys.port_of q k is) [
+    | inl port ↦
+        let i = found (at m.config.net.switch_ports q) port in
+        let own = u.keys.port_has q i.0 i.1 in
+        inl (i.0, i.1, sym own.3 ∙ ap (λ (x : PortKey). x.datapath) (same_Some own.0 k (sym own.1 ∙ is)))
+    | inr port ↦
+        let i = found (at m.config.net.router_ports q) port in
+        let own = u.keys.router_port_has q i.0 i.1 in
+        inr (i.0, i.1, sym own.3 ∙ ap (λ (x : PortKey). x.datapath) (same_Some own.0 k (sym own.1 ∙ is)))
+  ]
 
-  holds : (s : Stage) → HoldsRows m.config.net m.keys sets flows (stage_table s) → HoldsSwitchRows m.config.net m.keys sets flows s
-  holds s h = record { valid = u.valid; no_router = plain.routers; holds = h; members = members; owned = owned }
+  holds : (s : Stage) → HoldsRows m.config.net m.keys sets flows (stage_table s) → HoldsStageRows m.config.net m.keys sets flows s
+  holds s h = record { valid = u.valid; distributed = u.distributed; holds = h; members = members; owned = owned }
 
   module _ (regs : Regs) (packet : Packet) (f g : Flow) where
     abbrev Agree : ℕ → Type 0
     Agree table = IsBest flows table regs packet f → IsBest flows table regs packet g → f.ops ≡ g.ops
 
-    -- each stage's table is one of a switch's stages
+    -- each stage's table is that of one of a switch's stages
     in_stage : (s : Stage) → Agree (stage_table s)
-    in_stage stage.SwitchAdmit = each_flows_agree.admit m.config.net m.keys sets flows (holds stage.SwitchAdmit tables.stages.admit) regs packet f g
-    in_stage stage.SwitchPortSecurity = each_flows_agree.port_security m.config.net m.keys sets flows (holds stage.SwitchPortSecurity tables.stages.port_security) regs packet f g
-    in_stage stage.SwitchTrack = each_flows_agree.track m.config.net m.keys sets flows (holds stage.SwitchTrack tables.stages.track) regs packet f g
-    in_stage stage.SwitchAclIn = each_flows_agree.acl_in m.config.net m.keys sets flows (holds stage.SwitchAclIn tables.stages.acl_in) regs packet f g
-    in_stage stage.SwitchStateIn = each_flows_agree.state_in m.config.net m.keys sets flows (holds stage.SwitchStateIn tables.stages.state_in) regs packet f g
-    in_stage stage.SwitchArp = each_flows_agree.arp m.config.net m.keys sets flows (holds stage.SwitchArp tables.stages.arp) regs packet f g
-    in_stage stage.SwitchLookup = each_flows_agree.lookup m.config.net m.keys sets flows (holds stage.SwitchLookup tables.stages.lookup) regs packet f g
-    in_stage stage.SwitchTrackOut = each_flows_agree.track_out m.config.net m.keys sets flows (holds stage.SwitchTrackOut tables.stages.track_out) regs packet f g
-    in_stage stage.SwitchAclOut = each_flows_agree.acl_out m.config.net m.keys sets flows (holds stage.SwitchAclOut tables.stages.acl_out) regs packet f g
-    in_stage stage.SwitchStateOut = each_flows_agree.state_out m.config.net m.keys sets flows (holds stage.SwitchStateOut tables.stages.state_out) regs packet f g
-    in_stage stage.SwitchSecurityOut = each_flows_agree.security_out m.config.net m.keys sets flows (holds stage.SwitchSecurityOut tables.stages.security_out) regs packet f g
-    in_stage stage.RouterAdmit = each_flows_agree.admit m.config.net m.keys sets flows (holds stage.SwitchAdmit tables.stages.admit) regs packet f g
-    in_stage stage.RouterInput = each_flows_agree.port_security m.config.net m.keys sets flows (holds stage.SwitchPortSecurity tables.stages.port_security) regs packet f g
-    in_stage stage.RouterUndo = each_flows_agree.track m.config.net m.keys sets flows (holds stage.SwitchTrack tables.stages.track) regs packet f g
-    in_stage stage.RouterDnat = each_flows_agree.acl_in m.config.net m.keys sets flows (holds stage.SwitchAclIn tables.stages.acl_in) regs packet f g
-    in_stage stage.RouterOwn = each_flows_agree.state_in m.config.net m.keys sets flows (holds stage.SwitchStateIn tables.stages.state_in) regs packet f g
-    in_stage stage.RouterRoute = each_flows_agree.arp m.config.net m.keys sets flows (holds stage.SwitchArp tables.stages.arp) regs packet f g
-    in_stage stage.RouterNeighbour = each_flows_agree.lookup m.config.net m.keys sets flows (holds stage.SwitchLookup tables.stages.lookup) regs packet f g
-    in_stage stage.RouterFind = each_flows_agree.track_out m.config.net m.keys sets flows (holds stage.SwitchTrackOut tables.stages.track_out) regs packet f g
-    in_stage stage.RouterSnat = each_flows_agree.acl_out m.config.net m.keys sets flows (holds stage.SwitchAclOut tables.stages.acl_out) regs packet f g
+    in_stage stage.SwitchAdmit = stages.admit m.config.net m.keys sets flows (holds stage.SwitchAdmit tables.stages.admit) regs packet f g
+    in_stage stage.SwitchPortSecurity = stages.port_security m.config.net m.keys sets flows (holds stage.SwitchPortSecurity tables.stages.port_security) regs packet f g
+    in_stage stage.SwitchTrack = stages.track m.config.net m.keys sets flows (holds stage.SwitchTrack tables.stages.track) regs packet f g
+    in_stage stage.SwitchAclIn = stages.acl_in m.config.net m.keys sets flows (holds stage.SwitchAclIn tables.stages.acl_in) regs packet f g
+    in_stage stage.SwitchStateIn = stages.state_in m.config.net m.keys sets flows (holds stage.SwitchStateIn tables.stages.state_in) regs packet f g
+    in_stage stage.SwitchArp = stages.arp m.config.net m.keys sets flows (holds stage.SwitchArp tables.stages.arp) regs packet f g
+    in_stage stage.SwitchLookup = stages.lookup m.config.net m.keys sets flows (holds stage.SwitchLookup tables.stages.lookup) regs packet f g
+    in_stage stage.SwitchTrackOut = stages.track_out m.config.net m.keys sets flows (holds stage.SwitchTrackOut tables.stages.track_out) regs packet f g
+    in_stage stage.SwitchAclOut = stages.acl_out m.config.net m.keys sets flows (holds stage.SwitchAclOut tables.stages.acl_out) regs packet f g
+    in_stage stage.SwitchStateOut = stages.state_out m.config.net m.keys sets flows (holds stage.SwitchStateOut tables.stages.state_out) regs packet f g
+    in_stage stage.SwitchSecurityOut = stages.security_out m.config.net m.keys sets flows (holds stage.SwitchSecurityOut tables.stages.security_out) regs packet f g
+    in_stage stage.RouterAdmit = stages.admit m.config.net m.keys sets flows (holds stage.SwitchAdmit tables.stages.admit) regs packet f g
+    in_stage stage.RouterInput = stages.port_security m.config.net m.keys sets flows (holds stage.SwitchPortSecurity tables.stages.port_security) regs packet f g
+    in_stage stage.RouterUndo = stages.track m.config.net m.keys sets flows (holds stage.SwitchTrack tables.stages.track) regs packet f g
+    in_stage stage.RouterDnat = stages.acl_in m.config.net m.keys sets flows (holds stage.SwitchAclIn tables.stages.acl_in) regs packet f g
+    in_stage stage.RouterOwn = stages.state_in m.config.net m.keys sets flows (holds stage.SwitchStateIn tables.stages.state_in) regs packet f g
+    in_stage stage.RouterRoute = stages.arp m.config.net m.keys sets flows (holds stage.SwitchArp tables.stages.arp) regs packet f g
+    in_stage stage.RouterNeighbour = stages.lookup m.config.net m.keys sets flows (holds stage.SwitchLookup tables.stages.lookup) regs packet f g
+    in_stage stage.RouterFind = stages.track_out m.config.net m.keys sets flows (holds stage.SwitchTrackOut tables.stages.track_out) regs packet f g
+    in_stage stage.RouterSnat = stages.acl_out m.config.net m.keys sets flows (holds stage.SwitchAclOut tables.stages.acl_out) regs packet f g
 
     -- ---- around the pipelines
 

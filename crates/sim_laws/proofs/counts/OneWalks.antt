@@ -37,7 +37,7 @@ use Rattle.sim_laws.proofs.journey_laws.ReadFrames.{read_so, crossing_of}
 use Rattle.sim_laws.proofs.pipelines.SetValues.{set_same, set_apart}
 use Rattle.sim_laws.specs.journeys.Counts.{AreSameZones, WalkAlike, ChassisWalksLaw, Came, AreAlike, HaveSameZones, BothHold, EntryCountLaw, ArrivalCountLaw, choices_told}
 use Rattle.sim_laws.specs.journeys.Tables.{ChassisFlow}
-use Rattle.sim_laws.specs.journeys.UnderWay.{HasNoRouter, IsUnderWay}
+use Rattle.sim_laws.specs.journeys.UnderWay.{IsUnderWay}
 
 -- where these two came, the same choices match as many flows and leave the same zones
 abbrev pub Alike : {before after then later : SimOut} → Came before after → Came then later → SimState → SimState → Type 0
@@ -78,7 +78,7 @@ record Went (base : SimState) (from : Start) (entry : Entry) (now : ℕ) (packet
   walk : IsWalkBy any_legal flows entry now packet lists steps effects left
   told : IsTold (rezoned base chassis left) chassis from steps effects before after new
 
-module _ (law : ChassisWalksLaw) (m : State) (zones : Zoned) (sets : Sets) (more : ℕ) (u : IsUnderWay m zones more) (plain : HasNoRouter m.config.net) where
+module _ (law : ChassisWalksLaw) (m : State) (zones : Zoned) (sets : Sets) (more : ℕ) (u : IsUnderWay m zones more) where
   -- both hold the flows of the state
   abbrev Tables : SimState → Type 0
   Tables s = (c : Name) (flows : List Flow) → at_name s.chassis c ≡ Some flows → AreExactly (ChassisFlow m zones.numbers sets c) flows
@@ -89,7 +89,7 @@ module _ (law : ChassisWalksLaw) (m : State) (zones : Zoned) (sets : Sets) (more
     went_alike base other tables also same from entry now packet before after then later new end chassis a b picks =
         let chosen = sym (told_in_names base.names chassis from base.next a.effects) ∙ picks ∙ told_in_names other.names chassis from other.next b.effects in
         let one : WalkAlike a.steps b.steps a.effects b.effects a.left b.left =
-        law m zones more sets u plain h.first.members chassis a.flows b.flows (tables chassis a.flows a.held) (also chassis b.flows b.held) entry now packet a.lists b.lists a.left b.left a.steps b.steps a.effects b.effects
+        law m zones more sets u h.first.members chassis a.flows b.flows (tables chassis a.flows a.held) (also chassis b.flows b.held) entry now packet a.lists b.lists a.left b.left a.steps b.steps a.effects b.effects
         (same chassis a.lists b.lists a.listed b.listed) a.walk b.walk chosen in
         record {
           count = ap (λ n. n + 0) one.same_lengths;
@@ -174,9 +174,9 @@ module _ (law : ChassisWalksLaw) (m : State) (zones : Zoned) (sets : Sets) (more
 -- ---- the laws
 
 pub entries_count : ChassisWalksLaw → EntryCountLaw
-entries_count law m zones sets more s t new end port packet before after then later u plain h a b =
-    record { one = came_injected a; other = came_injected b; alike = injected_alike law m zones sets more u plain s t h new end before after then later port packet a b }
+entries_count law m zones sets more s t new end port packet before after then later u h a b =
+    record { one = came_injected a; other = came_injected b; alike = injected_alike law m zones sets more u s t h new end before after then later port packet a b }
 
 pub arrivals_count : ChassisWalksLaw → ArrivalCountLaw
-arrivals_count law m zones sets more s t new end n keep before after then later u plain h a b =
-    record { one = came_arrived a; other = came_arrived b; alike = arrived_alike law m zones sets more u plain s t h new end before after then later n keep a b }
+arrivals_count law m zones sets more s t new end n keep before after then later u h a b =
+    record { one = came_arrived a; other = came_arrived b; alike = arrived_alike law m zones sets more u s t h new end before after then later n keep a b }

@@ -6,6 +6,8 @@ use Rattle.flow_table.specs.Matching.{IsBest}
 use Rattle.flow_table.specs.declared.flow.Flow.{Flow}
 use Rattle.inet_packet.specs.declared.packet.Packet.{Packet}
 use Rattle.inet_packet.specs.declared.regs.Regs.{Regs}
+use Rattle.row_laws.specs.AgreeAnywhere.{FlowsAgreeLaw}
+use Rattle.row_laws.specs.StageLaws.{OfEachStage}
 use Rattle.switch_engine.specs.Outcome.{Choosing, any_legal}
 use Rattle.switch_engine.specs.Walk.{IsWalk, start}
 use Rattle.switch_engine.specs.Walk.IsWalk.{over, ends, takes}
@@ -34,12 +36,12 @@ module _ (xs ys : List Flow) (same : (f : Flow) → Among f xs ↔ Among f ys) w
 
 -- ---- the laws of one chassis
 
-pub each_chassis_agrees : FillingLaw → ChassisAgreeLaw
-each_chassis_agrees fills m zones more sets u plain members chassis flows exact = chassis_agrees m zones more u plain sets members chassis flows exact (fills m zones more sets chassis flows u exact)
+pub each_chassis_agrees : OfEachStage FlowsAgreeLaw → FillingLaw → ChassisAgreeLaw
+each_chassis_agrees stages fills m zones more sets u members chassis flows exact = chassis_agrees stages m zones more u sets members chassis flows exact (fills m zones more sets chassis flows u exact)
 
-pub each_chassis_walks : FillingLaw → ChassisWalksLaw
-each_chassis_walks fills m zones more sets u plain members chassis flows same_flows exact also entry now packet before other_before after other_after steps others effects other_effects same walk other picks =
+pub each_chassis_walks : OfEachStage FlowsAgreeLaw → FillingLaw → ChassisWalksLaw
+each_chassis_walks stages fills m zones more sets u members chassis flows same_flows exact also entry now packet before other_before after other_after steps others effects other_effects same walk other picks =
     let w = zone_walk entry now flows before other_before after (start entry packet ∷ []) steps effects same walk in
     let mine = same_walk same_flows flows (λ f. (λ x. (exact.same f).1 ((also.same f).0 x), λ x. (also.same f).1 ((exact.same f).0 x))) any_legal entry now other_before other_after (start entry packet ∷ []) others other_effects other in
-    let one = walks_one flows entry now packet other_before w.left other_after steps others effects other_effects (each_chassis_agrees fills m zones more sets u plain members chassis flows exact) w.walk mine picks in
+    let one = walks_one flows entry now packet other_before w.left other_after steps others effects other_effects (each_chassis_agrees stages fills m zones more sets u members chassis flows exact) w.walk mine picks in
     record { same_effects = one.same_effects; same_zones = subst (λ z. AreSameZones after z) one.same_zones w.same; same_lengths = one.same_lengths }

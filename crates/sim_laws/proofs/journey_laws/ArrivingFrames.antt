@@ -57,7 +57,7 @@ use Rattle.sim_laws.proofs.journey_laws.Ready.{is_ready}
 use Rattle.sim_laws.proofs.journey_laws.Rezoning.{rezoned_hold, zoned_still}
 use Rattle.sim_laws.proofs.journey_laws.SentCrossings.{member_enabled}
 use Rattle.sim_laws.proofs.journey_laws.Telling.{at_home_still, other, led, led_sound, told_effects, told_held}
-use Rattle.sim_laws.proofs.journey_laws.VisitWays.{IsAimed, arrival_on}
+use Rattle.sim_laws.proofs.journey_laws.ArrivalWays.{IsAimed, arrival_on}
 use Rattle.sim_laws.proofs.journey_laws.Walked.{IsWalked, walked}
 use Rattle.sim_laws.specs.Held.{frame_of_crossing}
 use Rattle.sim_laws.specs.Naming.{IsNumbered}

@@ -1,5 +1,5 @@
--- A packet that goes in on the simulated chassis is a journey of the network.
-use Rattle.std.specs.Prelude.{◌≡◌, ◌≤◌, ◌+◌, ◌++◌, ℕ, cond, List, [], ◌∷◌, length, Some, None, refl}
+-- A packet that goes in on the simulated chassis is a journey of the network, through switches and routers.
+use Rattle.std.specs.Prelude.{◌≡◌, ◌+◌, ◌++◌, ℕ, true, cond, List, [], ◌∷◌, length, Some, None, refl}
 use Rattle.std.specs.Option.{option_and_then}
 use Rattle.std.proofs.Common.{sym, ap, ◌∙◌, subst, arith}
 use Rattle.std.proofs.lemmas.Option.{none-some}
@@ -14,11 +14,12 @@ use Rattle.flow_table.specs.declared.flow.Flow.{Flow}
 use Rattle.inet_packet.specs.Whole.{IsWhole}
 use Rattle.inet_packet.specs.declared.packet.Packet.{Packet}
 use Rattle.match_cubes.specs.declared.sets.Sets.{Sets}
+use Rattle.nb_records.specs.Switches.{is_virtual}
 use Rattle.nb_records.specs.declared.switch.SwitchPort.{SwitchPort}
 use Rattle.net_model.specs.Entry.{Scene}
 use Rattle.net_model.specs.Journey.{joined_by, enter_by, enter_on, scene_at, scenes_of}
 use Rattle.net_model.specs.State.{State}
-use Rattle.net_model.specs.Trail.{Trail, of_port, list_of, choices_in}
+use Rattle.net_model.specs.Trail.{Trail, of_port, list_of, choices_in, crossings_in}
 use Rattle.net_model.specs.Visit.{visit}
 use Rattle.net_model.specs.declared.crossing.Crossing.{Crossing}
 use Rattle.ovn_base.proofs.AmongLaws.{among_any}
@@ -27,6 +28,7 @@ use Rattle.ovn_base.specs.lists.Among.{Among}
 use Rattle.ovn_base.specs.names.ByName.{at}
 use Rattle.ovn_base.specs.names.SameName.{same_name, bytes_decides}
 use Rattle.row_laws.proofs.records.ValidPorts.{port_named, own_place}
+use Rattle.row_laws.specs.routers.RouterThrough.{IntakeLaw}
 use Rattle.switch_engine.specs.Outcome.{Choosing}
 use Rattle.switch_engine.specs.Walk.{start}
 use Rattle.switch_engine.specs.Zones.{ZoneLists}
@@ -37,9 +39,8 @@ use Rattle.switch_engine.specs.declared.walk.Step.{Step}
 use Rattle.tunnel_keys.proofs.HeldKeys.{found}
 use Rattle.sim_laws.proofs.journey_laws.Ready.{is_ready}
 use Rattle.sim_laws.proofs.journey_laws.Rezoning.{rezoned_hold, zoned_still}
-use Rattle.sim_laws.proofs.journey_laws.SentCrossings.{IsOwn}
 use Rattle.sim_laws.proofs.journey_laws.Telling.{at_home_still, led, led_sound, told_effects, told_held}
-use Rattle.sim_laws.proofs.journey_laws.VisitWays.{visit_sends}
+use Rattle.sim_laws.proofs.journey_laws.VisitWays.{visit_left}
 use Rattle.sim_laws.proofs.journey_laws.Walked.{IsWalked, walked}
 use Rattle.sim_laws.proofs.journey_laws.WholePackets.{enter_whole}
 use Rattle.sim_laws.proofs.pipelines.HeldLists.{list_is}
@@ -47,10 +48,11 @@ use Rattle.sim_laws.specs.journeys.Filling.{FillingLaw}
 use Rattle.sim_laws.specs.journeys.Holding.{HoldsNetwork}
 use Rattle.sim_laws.specs.journeys.InState.{chassis_at, zones_on}
 use Rattle.sim_laws.specs.journeys.Moves.{journey_in}
-use Rattle.sim_laws.specs.journeys.Premises.{HasVirtualPorts, IsReady}
+use Rattle.sim_laws.specs.journeys.Premises.{IsReady}
 use Rattle.sim_laws.specs.journeys.Refining.{IsEntry, EntryJourneyLaw}
 use Rattle.sim_laws.specs.journeys.UnderWay.{IsUnderWay}
-use Rattle.sim_laws.specs.passes.Visiting.{VisitLaw}
+use Rattle.sim_laws.specs.routers.Visits.{RoutedVisitLaw}
+use Rattle.sim_laws.specs.Sound.{MayWait}
 use Rattle.sim_laws.specs.passes.Whole.{WholeWalkLaw}
 use Rattle.sim_laws.specs.pipelines.HeldLists.{IsGoodList, HoldLists}
 use Rattle.sim_laws.specs.pipelines.Pieces.{trail_with}
@@ -61,8 +63,8 @@ pub scene_there : (m : State) (chassis : Name) → Among chassis m.config.chassi
 scene_there m chassis is =
     ap (λ b. cond b (Some (scene_at m chassis)) None) (among_any (λ c. same_name c chassis) chassis m.config.chassis is ((bytes_decides chassis chassis).1 refl))
 
-module _ (fills : FillingLaw) (visits : VisitLaw) (whole_walk : WholeWalkLaw) (m : State) (zones : Zoned) (sets : Sets) (more : ℕ) (s new : sim.SimState) (by : Choosing) (before after : SimOut) (u : IsUnderWay m zones more) (h : HoldsNetwork m zones.numbers sets s)
-    (i : SwitchPort) (there : at m.config.net.switch_ports i.name ≡ Some i) (virtual : HasVirtualPorts m.config.net i.switch) (packet : Packet) (whole : IsWhole packet) where
+module _ (intake_law : IntakeLaw) (fills : FillingLaw) (visits : RoutedVisitLaw) (whole_walk : WholeWalkLaw) (m : State) (zones : Zoned) (sets : Sets) (more : ℕ) (s new : sim.SimState) (by : Choosing) (before after : SimOut) (u : IsUnderWay m zones more) (h : HoldsNetwork m zones.numbers sets s)
+    (i : SwitchPort) (there : at m.config.net.switch_ports i.name ≡ Some i) (packet : Packet) (whole : IsWhole packet) where
   abbrev Entry : Type 0
   Entry = IsEntry m zones sets more i.name packet before after new
 
@@ -90,25 +92,31 @@ module _ (fills : FillingLaw) (visits : VisitLaw) (whole_walk : WholeWalkLaw) (m
         subst IsGoodList (sym (list_is m.lists (of_port i.name) own.list own.has)) own.good
 
     abbrev Such : List Crossing → Type 0
-    Such xs = ((x : Crossing) → Among x xs → IsOwn m u.valid u.keys i there x) × (length m.config.chassis ≤ 64 → length xs ≤ 64)
+    Such xs = (x : Crossing) → Among x xs → MayWait m x
+
+    is_one : is_virtual i ≡ true
+    is_one = u.bound_virtual i.name chassis i home there
 
     w : IsWalked k 0 Such way m.lists effects left
     w =
-        walked k 0 Such whole_walk way m.lists lists (start (Vif i.name) packet ∷ []) (visits k ready.around.laid zones.numbers ready.around.wired i there home virtual refl packet whole m.lists lists hold)
+        walked k 0 Such whole_walk way m.lists lists (start (Vif i.name) packet ∷ []) (visits k zones.numbers ready.around ready.distributed i there is_one home refl packet whole m.lists lists hold)
         (λ choices legal.
         let first : Trail = trail_with m.lists choices [] in
-        let x = visit_sends m u.valid u.keys i there (λ q found on. virtual q.name q found on) chassis home first packet (enter_whole scene u.valid i there first (λ is. good) packet whole) legal in
-        record { crossings = x.crossings; such = (x.own, x.few); way = x.way }) steps effects left walk
+        let x = visit_left m u.valid u.keys u.distributed u.bound_virtual chassis intake_law i there is_one home first packet (enter_whole scene u.valid i there first (λ is. good) packet whole) in
+        record { crossings = x.crossings; such = x.may legal; way = x.way }) steps effects left walk
+
+    abbrev sent : ℕ
+    sent = length (crossings_in w.own)
 
     hold_after : (c : Name) (lists : ZoneLists) → at_name (with_lists s.zones chassis left) c ≡ Some lists → HoldLists (zones_on zones.numbers c) lists w.after
     hold_after = rezoned_hold m zones u.bound sets s h chassis lists listed w.after left w.hold w.others
 
     entered : Entry
     entered =
-        let few = w.crossings.1 u.bound.few_chassis in
-        let sent = u.few_sent in
+        let few = u.few_sent in
         let bound = ap (option_and_then (scenes_of m)) home ∙ scene_there m chassis (u.bound.chassis_there i.name chassis home) in
         record {
+          sent = sent;
           journey = record {
             ends = w.own;
             effects = told_effects m zones.numbers sets s h w.after m.waiting (with_lists s.zones chassis left) s.waiting hold_after h.waiting chassis (start_of.Port i.name) steps w.own effects w.numbered w.on before after new told;
@@ -119,10 +127,11 @@ module _ (fills : FillingLaw) (visits : VisitLaw) (whole_walk : WholeWalkLaw) (m
                   ap (λ o. enter_on o i.name packet j) bound ∙ ap (λ o. enter_by scene o packet j) there ∙ ap (joined_by j) (w.is choices []);
               rest = refl;
             };
-            sound = led_sound m zones more (more + 64) w.after m.waiting w.own u (at_home_still m.config m.lists w.after w.owners u.at_home) u.crossings (λ x among. (w.crossings.0 x among).may) (omega (arith, few, sent));
+            sound = led_sound m zones more (more + sent) w.after m.waiting w.own u (at_home_still m.config m.lists w.after w.owners u.at_home) u.crossings w.crossings (omega (arith, few));
             held = told_held m zones.numbers sets s h w.after m.waiting (with_lists s.zones chassis left) s.waiting hold_after h.waiting chassis (start_of.Port i.name) steps w.own effects w.numbered w.on before after new told (zoned_still s.chassis s.zones chassis left h.zoned);
           };
-          sent = w.crossings.0;
+          count = refl;
+          may = w.crossings;
           waiting = refl;
         }
 
@@ -134,14 +143,14 @@ module _ (fills : FillingLaw) (visits : VisitLaw) (whole_walk : WholeWalkLaw) (m
       absurd (none-some flows.0 (sym none ∙ flows.1))
 
 -- the port is bound
-pub bound_of : (by : Choosing) (s new : sim.SimState) (p : Name) (now : ℕ) (packet : Packet) (before after : SimOut) → passing.IsInjected by s p now packet before after new → (chassis : Name) × (at_name s.bindings p ≡ Some chassis)
+bound_of : (by : Choosing) (s new : sim.SimState) (p : Name) (now : ℕ) (packet : Packet) (before after : SimOut) → passing.IsInjected by s p now packet before after new → (chassis : Name) × (at_name s.bindings p ≡ Some chassis)
 bound_of by s new p now packet before after (passing.IsInjected.through chassis flows lists left steps effects bound held listed walk told) = (chassis, bound)
 bound_of by s new p now packet before after (passing.IsInjected.nowhere chassis bound none told) = (chassis, bound)
 
-pub enters_so : FillingLaw → VisitLaw → WholeWalkLaw → EntryJourneyLaw
-enters_so fills visits whole_walk m zones sets more s new by p packet before after u h virtual whole injected =
+pub enters_so : IntakeLaw → FillingLaw → RoutedVisitLaw → WholeWalkLaw → EntryJourneyLaw
+enters_so intake_law fills visits whole_walk m zones sets more s new by p packet before after u h whole injected =
     let b = bound_of by s new p m.clock packet before after injected in
     let i = found (at m.config.net.switch_ports p) (u.bound.port_there p b.0 (sym (h.bindings p) ∙ b.1)) in
     let named = port_named m.config.net u.valid p i.0 i.1 in
     subst (λ q. passing.IsInjected by s q m.clock packet before after new → IsEntry m zones sets more q packet before after new) named
-    (enters_at fills visits whole_walk m zones sets more s new by before after u h i.0 (own_place m.config.net u.valid p i.0 i.1) (virtual i.0 i.1) packet whole) injected
+    (enters_at intake_law fills visits whole_walk m zones sets more s new by before after u h i.0 (own_place m.config.net u.valid p i.0 i.1) packet whole) injected

@@ -1,5 +1,5 @@
 -- What the laws of passes ask of a chassis, soundness gives.
-use Rattle.std.specs.Prelude.{◌≡◌, ◌++◌, ℕ, true, false, List, map, Option, None, Some, IsSome, is_some, option_map, refl}
+use Rattle.std.specs.Prelude.{◌≡◌, ◌++◌, ℕ, true, false, List, map, Option, None, Some, IsSome, option_map, refl}
 use Rattle.std.proofs.Common.{sym, ap, ◌∙◌, subst, inl, inr}
 use Rattle.std.proofs.Math.Dec.{eqb as nat_eq}
 use Rattle.std.proofs.lemmas.Bool.{false≢true}
@@ -46,7 +46,7 @@ use Rattle.sim_laws.specs.Sound.{MayWait, IsOnLive, IsAimOnLive, has_birth}
 use Rattle.sim_laws.specs.Sound as old
 use Rattle.sim_laws.specs.journeys.InState.{use_of, zones_on, chassis_at}
 use Rattle.sim_laws.specs.journeys.Premises.{SoundOnLaw}
-use Rattle.sim_laws.specs.journeys.UnderWay.{BoundAreVirtual, HasNoRouter}
+use Rattle.sim_laws.specs.journeys.UnderWay.{BoundAreVirtual}
 use Rattle.sim_laws.specs.passes.Arriving.{IsOnSwitch, IsAimOnSwitch, MayArrive}
 use Rattle.sim_laws.specs.pipelines.HeldLists.{AreApart}
 use Rattle.sim_laws.specs.pipelines.Standing.{Chassis}
@@ -108,13 +108,6 @@ on_switch net keys valid have q k has on = elim (have.port_of q k has) [
       let switch = found (at net.switches k.datapath) on in
       let same : k.datapath ≡ r.0.router = ap (λ (x : PortKey). x.datapath) (same_Some k own.0 (sym has ∙ own.1)) ∙ own.3 in
       absurd (not_both net valid k.datapath switch.0 router.0 switch.1 (ap (at net.routers) same ∙ router.1))
-]
-
--- where no router is there, that is who has a key
-pub on_switch_port : (net : Network) (keys : Keys) → HaveKeys net keys → HasNoRouter net → (q : Name) (k : PortKey) → at keys.ports q ≡ Some k → IsSome (at net.switch_ports q)
-on_switch_port net keys have none q k has = elim (have.port_of q k has) [
-  | inl port ↦ port
-  | inr port ↦ absurd (false≢true (ap (λ (ps : List (Name × RouterPort)). is_some (at ps q)) (sym none.router_ports) ∙ port))
 ]
 
 -- ---- zones

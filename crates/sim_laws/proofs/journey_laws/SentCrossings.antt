@@ -1,81 +1,38 @@
 -- The crossings of a packet that is sent in a switch may wait.
-use Rattle.std.specs.Prelude.{◌≡◌, ◌≢◌, ◌&&◌, ℕ, true, false, Option, Some, None, option_map, refl}
-use Rattle.std.specs.List.{filter}
+use Rattle.std.specs.Prelude.{◌≡◌, ◌≢◌, Option, Some, None, refl}
 use Rattle.std.proofs.Common.{sym, ap, ◌∙◌, subst}
-use Rattle.std.proofs.lemmas.Bool.{false≢true}
 use Rattle.std.proofs.lemmas.Option.{same_Some}
 use Rattle.inet_packet.specs.Whole.{IsWhole}
 use Rattle.inet_packet.specs.declared.packet.Packet.{Packet}
 use Rattle.nb_records.specs.Network.{Network}
-use Rattle.nb_records.specs.Switches.{enabled_ports, is_virtual, mac_of_ip, first_answer, takes_unknown}
+use Rattle.nb_records.specs.Switches.{enabled_ports, takes_unknown}
 use Rattle.nb_records.specs.declared.switch.Switch.{Switch}
 use Rattle.nb_records.specs.declared.switch.SwitchPort.{SwitchPort}
 use Rattle.nb_rules.specs.Valid.{IsValid}
 use Rattle.net_model.specs.Config.{port_identity}
-use Rattle.net_model.specs.Headers.{asked_ip}
-use Rattle.net_model.specs.Journey.{scene_at}
 use Rattle.net_model.specs.Spread.{SentFrom, crossing_to}
 use Rattle.net_model.specs.State.{State}
-use Rattle.net_model.specs.Targets.{Target, answer_from, to_one, to_group, to_nobody, members, answer_target, is_other, target_of}
-use Rattle.net_model.specs.Trail.{given_or}
+use Rattle.net_model.specs.Targets.{members}
 use Rattle.net_model.specs.Visit.{identity_or, switch_named}
 use Rattle.net_model.specs.declared.crossing.Aim.{Aim}
 use Rattle.net_model.specs.declared.crossing.Aim.TheVariants.{ToPort, ToGroup}
-use Rattle.net_model.specs.declared.crossing.Crossing.{Crossing}
 use Rattle.net_model.specs.declared.crossing.Group.{Group}
 use Rattle.net_model.specs.declared.crossing.Group.TheVariants.{Flood, Unknown}
 use Rattle.ovn_base.proofs.AmongLaws.{among_all, filter_among}
 use Rattle.ovn_base.proofs.ByNameLaws.{at_among}
-use Rattle.ovn_base.specs.declared.address.Ip4.{Ip4}
-use Rattle.ovn_base.specs.declared.address.Mac.{Mac}
 use Rattle.ovn_base.specs.declared.name.Name.{Name}
 use Rattle.ovn_base.specs.lists.Among.{Among}
 use Rattle.ovn_base.specs.names.ByName.{at}
-use Rattle.ovn_base.specs.names.SameName.{same_name, bytes_decides}
 use Rattle.physical_flows.proofs.KeyLaws.{datapath_held}
 use Rattle.physical_flows.specs.RecordKeys.{HaveKeys}
 use Rattle.row_laws.proofs.records.SwitchPorts.{IsEnabled, enabled_is}
 use Rattle.row_laws.proofs.records.ValidPorts.{on_switch}
-use Rattle.row_laws.specs.StageActions.{found_target}
 use Rattle.tunnel_keys.specs.Keys.{held_datapath, held_datapaths}
 use Rattle.tunnel_keys.specs.declared.owner.HeldDatapath.{HeldDatapath}
 use Rattle.tunnel_keys.specs.declared.owner.Identity.{Identity}
 use Rattle.sim_laws.proofs.KeyLookups.{HasKeyOn, key_on, on_live}
 use Rattle.sim_laws.proofs.journey_laws.Premises.{not_both}
-use Rattle.sim_laws.proofs.journey_laws.SendingWays.{Suits}
-use Rattle.sim_laws.proofs.pipelines.TargetKeys.{IsFoundTarget, found_so}
-use Rattle.sim_laws.specs.Effects.{spelled}
-use Rattle.sim_laws.specs.SentFrames.{IsSentFrom}
-use Rattle.sim_laws.specs.Sound.{HasAimKey, IsAimOnLive, IsNoRouter}
-use Rattle.net_model.specs.Entry.{Onward}
-
--- ---- targets
-
-module _ (net : Network) (i : SwitchPort) where
-  -- one port is an enabled port of the switch
-  abbrev pub IsOneOf : Target → Type 0
-  IsOneOf (to_one q) = Among q (enabled_ports net i.switch)
-  IsOneOf _ = Unit {0}
-
-  found_one : (t : Target) → IsFoundTarget net i.switch t → IsOneOf t
-  found_one (answer_from mac ip) h = tt
-  found_one (to_one q) h = h
-  found_one (to_group g) h = tt
-  found_one to_nobody h = tt
-
-  pub target_one : (p : Packet) → IsOneOf (target_of net i p)
-  target_one p = by (asked_ip p)
-    where
-      found : IsOneOf (found_target net i.switch p)
-      found = found_one (found_target net i.switch p) (found_so net i.switch p)
-
-      by_answer : (ip : Ip4) (o : Option Mac) → IsOneOf (given_or (option_map (λ mac. answer_from mac ip) o) (found_target net i.switch p))
-      by_answer ip None = found
-      by_answer ip (Some mac) = tt
-
-      by : (o : Option Ip4) → IsOneOf (given_or (answer_target net i o) (found_target net i.switch p))
-      by None = found
-      by (Some ip) = by_answer ip (first_answer (mac_of_ip ip) (filter (λ q. is_virtual q && is_other i q) (enabled_ports net i.switch)))
+use Rattle.sim_laws.specs.Sound.{HasAimKey, IsAimOnLive, IsNoRouter, MayWait}
 
 -- a member of a group is an enabled port of the switch
 pub member_enabled : (net : Network) (valid : IsValid net) (a : Name) (g : Group) (q : SwitchPort) → Among q (members net a g) → IsEnabled net valid a q
@@ -115,36 +72,23 @@ module _ (m : State) (valid : IsValid m.config.net) (have : HaveKeys m.config.ne
   not_router : IsNoRouter net from.switch
   not_router = let w = its_switch in subst (IsNoRouter net) switch_is (λ router there same. not_both net valid i.switch w.0 router w.1 there)
 
-  -- the crossing is one of a packet from the port
-  abbrev pub IsOwn : Crossing → Type 0
-  IsOwn x = IsSentFrom m i.name x.home (spelled m.keys x) x
-
-  sent : (aim : Aim) (home : Name) (p : Packet) → IsWhole p → HasAimKey m.keys aim → IsAimOnLive m from.switch aim → aim ≢ ToPort (port_identity i) → IsOwn (crossing_to from aim home p)
+  -- one from the port, that is for a live target and not for the port itself, may wait
+  sent : (aim : Aim) (home : Name) (p : Packet) → IsWhole p → HasAimKey m.keys aim → IsAimOnLive m from.switch aim → aim ≢ ToPort (port_identity i) → MayWait m (crossing_to from aim home p)
   sent aim home p whole key live other =
       let own = port_key_on i i_there refl in
       record {
-        port = i;
-        there = i_there;
-        switch = its_switch.0;
-        on = its_switch.1;
-        datapath = sym switch_is;
-        in_port = refl;
-        may = record {
-          whole = whole;
-          datapath_key = datapath_has;
-          in_key = (own.held, own.among, own.owner);
-          aim_key = key;
-          in_live = on_live m have from.switch (port_identity i) own;
-          aim_live = live;
-          no_router = not_router;
-          no_return = other;
-        };
-        home = refl;
-        spelled_so = refl;
+        whole = whole;
+        datapath_key = datapath_has;
+        in_key = (own.held, own.among, own.owner);
+        aim_key = key;
+        in_live = on_live m have from.switch (port_identity i) own;
+        aim_live = live;
+        no_router = not_router;
+        no_return = other;
       }
 
-  -- to another port, and to a group
-  pub to_port_but : (o : SwitchPort) → IsEnabled net valid i.switch o → (to : Name) (p : Packet) → IsWhole p → ¬ (o.name ≡ i.name) → IsOwn (crossing_to from (ToPort (port_identity o)) to p)
+  -- one to another port may wait, and so may one to a group
+  pub to_port_but : (o : SwitchPort) → IsEnabled net valid i.switch o → (to : Name) (p : Packet) → IsWhole p → ¬ (o.name ≡ i.name) → MayWait m (crossing_to from (ToPort (port_identity o)) to p)
   to_port_but o e to p whole apart =
       let k = port_key_on o e.there e.on in
       sent (ToPort (port_identity o)) to p whole (k.held, k.among, k.owner) (on_live m have from.switch (port_identity o) k) (λ same. apart (same_Some o.name i.name (ap aim_name same)))
@@ -153,33 +97,8 @@ module _ (m : State) (valid : IsValid m.config.net) (have : HaveKeys m.config.ne
       aim_name (ToPort id) = Some id.name
       aim_name (ToGroup g) = None
 
-  pub to_all : (g : Group) (to : Name) (p : Packet) → IsWhole p → IsOwn (crossing_to from (ToGroup g) to p)
+  pub to_all : (g : Group) (to : Name) (p : Packet) → IsWhole p → MayWait m (crossing_to from (ToGroup g) to p)
   to_all g to p whole = sent (ToGroup g) to p whole tt tt (λ same. no_group g same)
     where
       no_group : (g : Group) → ToGroup g ≡ ToPort (port_identity i) → ⊥
       no_group g e = cc e
-
-  -- it is sent from where it is bound
-  module _ (chassis : Name) (home : at m.config.bindings i.name ≡ Some chassis) (p : Packet) (whole : IsWhole p) where
-    pub to_port : (o : SwitchPort) → IsEnabled net valid i.switch o → (to : Name) → at m.config.bindings o.name ≡ Some to → same_name to chassis ≡ false → IsOwn (crossing_to from (ToPort (port_identity o)) to p)
-    to_port o e to bound apart =
-        to_port_but o e to p whole (λ same.
-        let one : to ≡ chassis = same_Some to chassis (sym bound ∙ ap (λ a. at m.config.bindings a) same ∙ home) in
-        false≢true (sym apart ∙ (bytes_decides to chassis).1 one))
-
-    pub to_members : (g : Group) (to : Name) → IsOwn (crossing_to from (ToGroup g) to p)
-    to_members g to = to_all g to p whole
-
-  -- ---- the target suits
-
-  module _ (virtual : (q : SwitchPort) → at net.switch_ports q.name ≡ Some q → q.switch ≡ i.switch → is_virtual q ≡ true) (n : ℕ) (onward : Onward) (chassis : Name) (home : at m.config.bindings i.name ≡ Some chassis) (p : Packet) (P : Crossing → Type 0)
-      (to_one_of : (o : SwitchPort) → IsEnabled net valid i.switch o → (to : Name) → at m.config.bindings o.name ≡ Some to → same_name to chassis ≡ false → P (crossing_to from (ToPort (port_identity o)) to p))
-      (to_all_of : (g : Group) (to : Name) → P (crossing_to from (ToGroup g) to p)) where
-    suits : (t : Target) → IsOneOf net i t → Suits (scene_at m chassis) n onward from p P t
-    suits (answer_from mac ip) one = (virtual i i_there refl, home)
-    suits (to_one o) one = let e = enabled_is net valid i.switch o one in (virtual o e.there e.on, to_one_of o e)
-    suits (to_group g) one = (λ q among. let e = member_enabled net valid i.switch g q among in virtual q e.there e.on, to_all_of g)
-    suits to_nobody one = tt
-
-    pub target_suits : Suits (scene_at m chassis) n onward from p P (target_of net i p)
-    target_suits = suits (target_of net i p) (target_one net i p)

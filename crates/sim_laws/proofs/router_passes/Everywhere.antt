@@ -22,7 +22,7 @@ use Rattle.ovn_base.specs.declared.name.Name.{Name}
 use Rattle.ovn_base.specs.names.ByName.{at}
 use Rattle.row_laws.proofs.records.ValidPorts.{whole, port_row, in_grammar}
 use Rattle.row_laws.proofs.routers.TakenAtRouter.{on_router}
-use Rattle.sim_laws.specs.routers.Patches.{AreDistributed}
+use Rattle.row_laws.specs.Distributed.{AreDistributed}
 
 module _ (net : Network) (valid : IsValid net) (q : Name) (port : SwitchPort) (found : at net.switch_ports q ≡ Some port) where
   -- the router port that it names is there

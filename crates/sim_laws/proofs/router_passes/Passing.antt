@@ -22,7 +22,8 @@ use Rattle.sim_laws.specs.passes.ToEnd.{Never, EndsAs}
 use Rattle.sim_laws.specs.pipelines.Pieces.{trail_with}
 use Rattle.sim_laws.specs.pipelines.Standing.{Chassis, net_of, course_of}
 use Rattle.sim_laws.specs.pipelines.WalkOn.{Comes}
-use Rattle.sim_laws.specs.routers.Patches.{IsLaidAround, AreDistributed, IsEntering, HasPassed, into_next, PatchLaw}
+use Rattle.sim_laws.specs.routers.Patches.{IsLaidAround, IsEntering, HasPassed, into_next, PatchLaw}
+use Rattle.row_laws.specs.Distributed.{AreDistributed}
 use Rattle.sim_laws.specs.routers.Passing.{PassingLaw, IntoSwitchLaw, IntoRouterLaw, JourneysPassLaw}
 use Rattle.sim_laws.specs.routers.RouterIngress.{GoesToPort, way_through, RouterIngressLaw}
 use Rattle.sim_laws.specs.routers.RouterPass.{ComesToPatch, RouterPassLaw}

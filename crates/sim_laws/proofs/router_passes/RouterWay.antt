@@ -44,7 +44,8 @@ use Rattle.sim_laws.specs.pipelines.Standing.{Chassis, net_of, course_of}
 use Rattle.sim_laws.specs.pipelines.WalkOn.{Reached, Comes}
 use Rattle.sim_laws.proofs.router_passes.PatchKeys.{one_kind, is_router_port, switch_port_is, router_port_is}
 use Rattle.sim_laws.proofs.router_stages.RouterSteps.{IsNext}
-use Rattle.sim_laws.specs.routers.Patches.{IsLaidAround, AreDistributed}
+use Rattle.sim_laws.specs.routers.Patches.{IsLaidAround}
+use Rattle.row_laws.specs.Distributed.{AreDistributed}
 use Rattle.sim_laws.specs.routers.RouterStanding.{StandsInRouter}
 
 arrived_is : (regs : Regs) → bit_and regs.flags.0 16 ≡ reg_number reg.Arrived regs * 16

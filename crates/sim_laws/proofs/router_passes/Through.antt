@@ -23,7 +23,8 @@ use Rattle.sim_laws.specs.pipelines.WalkOn.{Reached, Comes}
 use Rattle.sim_laws.proofs.router_passes.RouterWay.{way_out, dp_key, out_key, stays, enters, left, leaves, stands_40}
 use Rattle.sim_laws.proofs.router_stages.RouterCopiesOn.{stands_next}
 use Rattle.sim_laws.proofs.router_stages.RouterSteps.{goes_then}
-use Rattle.sim_laws.specs.routers.Patches.{IsLaidAround, AreDistributed, LeadsTo}
+use Rattle.sim_laws.specs.routers.Patches.{IsLaidAround, LeadsTo}
+use Rattle.row_laws.specs.Distributed.{AreDistributed}
 use Rattle.sim_laws.specs.routers.RouterEgress.{ComesAsItWas, RouterEgressLaw}
 use Rattle.sim_laws.specs.routers.RouterIngress.{Departure, GoesToPort}
 use Rattle.sim_laws.specs.routers.RouterPass.{ComesToPatch, RouterPassLaw}

@@ -14,7 +14,8 @@ use Rattle.sim_laws.specs.passes.Visiting.{ThroughSwitchLaw, VisitOnLaw}
 use Rattle.sim_laws.specs.pipelines.Standing.{Chassis, net_of}
 use Rattle.sim_laws.proofs.router_passes.Everywhere.{everywhere_so}
 use Rattle.sim_laws.specs.routers.Passing.{PassingLaw, IntoSwitchLaw}
-use Rattle.sim_laws.specs.routers.Patches.{IsLaidAround, AreDistributed, to_router}
+use Rattle.sim_laws.specs.routers.Patches.{IsLaidAround, to_router}
+use Rattle.row_laws.specs.Distributed.{AreDistributed}
 use Rattle.sim_laws.specs.routers.Visits.{RoutedVisitLaw, RoutedArrivalLaw}
 
 -- what leaves the switch by a port that leads to a router goes on, where so many passes are left

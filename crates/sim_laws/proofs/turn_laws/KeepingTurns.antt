@@ -20,7 +20,7 @@ use Rattle.row_laws.proofs.records.ValidPorts.{own_place}
 use Rattle.tunnel_keys.specs.declared.owner.Identity.{Identity}
 use Rattle.sim_laws.proofs.Homes.{no_homed}
 use Rattle.sim_laws.specs.journeys.TurnedZones.{ComingChassisLaw, EditingLaw}
-use Rattle.sim_laws.specs.routers.Patches.{AreDistributed}
+use Rattle.row_laws.specs.Distributed.{AreDistributed}
 
 -- where all routers are distributed, none is at home
 none_homed : (c : Config) → IsValid c.net → AreDistributed c.net → (r : Name) → ¬ Among r (homed_routers c)

@@ -11,7 +11,7 @@ use Rattle.sim_laws.specs.Sound.{AreBorn, AreOnTheWay}
 use Rattle.sim_laws.specs.journeys.AtHome.{AreAtHome}
 use Rattle.sim_laws.specs.journeys.Holding.{HoldsNetwork}
 use Rattle.sim_laws.specs.journeys.UnderWay.{BoundAreVirtual, IsUnderWay}
-use Rattle.sim_laws.specs.routers.Patches.{AreDistributed}
+use Rattle.row_laws.specs.Distributed.{AreDistributed}
 
 -- the state is one that events can leave
 pub record IsAtRest (m : State) (zones : Zoned) : Type 0 where

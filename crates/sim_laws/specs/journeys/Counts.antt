@@ -27,14 +27,14 @@ use Rattle.switch_engine.specs.declared.walk.Walk.{Walk}
 use Rattle.sim_laws.specs.Passing.{AreDrained, GoesThrough, no_out}
 use Rattle.sim_laws.specs.journeys.Holding.{HoldsNetwork}
 use Rattle.sim_laws.specs.journeys.Tables.{ChassisFlow}
-use Rattle.sim_laws.specs.journeys.UnderWay.{HasNoRouter, IsUnderWay}
+use Rattle.sim_laws.specs.journeys.UnderWay.{IsUnderWay}
 
 -- ---- one chassis
 
--- Two flows of a chassis that may be taken for one packet have equal actions, whatever the packet and the registers, where there is no router.
+-- Two flows of a chassis that may be taken for one packet have equal actions, whatever the packet and the registers.
 abbrev pub ChassisAgreeLaw : Type 0
 ChassisAgreeLaw =
-    (m : State) (zones : Zoned) (more : ℕ) (sets : Sets) → IsUnderWay m zones more → HasNoRouter m.config.net → AreSameMembers (roster_of m.config.net).members (members_of sets)
+    (m : State) (zones : Zoned) (more : ℕ) (sets : Sets) → IsUnderWay m zones more → AreSameMembers (roster_of m.config.net).members (members_of sets)
     → (chassis : Name) (flows : List Flow) → AreExactly (ChassisFlow m zones.numbers sets chassis) flows → BestAgree flows
 
 -- the zones hold the same lists
@@ -51,7 +51,7 @@ pub record WalkAlike (steps others : List Step) (effects other_effects : List Ef
 -- make the same choices.
 abbrev pub ChassisWalksLaw : Type 0
 ChassisWalksLaw =
-    (m : State) (zones : Zoned) (more : ℕ) (sets : Sets) → IsUnderWay m zones more → HasNoRouter m.config.net → AreSameMembers (roster_of m.config.net).members (members_of sets)
+    (m : State) (zones : Zoned) (more : ℕ) (sets : Sets) → IsUnderWay m zones more → AreSameMembers (roster_of m.config.net).members (members_of sets)
     → (chassis : Name) (flows same_flows : List Flow) → AreExactly (ChassisFlow m zones.numbers sets chassis) flows → AreExactly (ChassisFlow m zones.numbers sets chassis) same_flows
     → (entry : Entry) (now : ℕ) (packet : Packet) (before other_before after other_after : ZoneLists) (steps others : List Step) (effects other_effects : List Effect)
     → AreSameZones before other_before
@@ -109,7 +109,7 @@ pub record BothHold (m : State) (zones : Zoned) (sets : Sets) (s t : SimState) :
 abbrev pub EntryCountLaw : Type 0
 EntryCountLaw =
     (m : State) (zones : Zoned) (sets : Sets) (more : ℕ) (s t new end : SimState) (port : Name) (packet : Packet) (before after then later : SimOut)
-    → IsUnderWay m zones more → HasNoRouter m.config.net → BothHold m zones sets s t
+    → IsUnderWay m zones more → BothHold m zones sets s t
     → IsInjected any_legal s port m.clock packet before after new → IsInjected any_legal t port m.clock packet then later end
     → CountsAlike before after then later new end
 
@@ -117,7 +117,7 @@ EntryCountLaw =
 abbrev pub ArrivalCountLaw : Type 0
 ArrivalCountLaw =
     (m : State) (zones : Zoned) (sets : Sets) (more : ℕ) (s t new end : SimState) (n : ℕ) (keep : Bool) (before after then later : SimOut)
-    → IsUnderWay m zones more → HasNoRouter m.config.net → BothHold m zones sets s t
+    → IsUnderWay m zones more → BothHold m zones sets s t
     → IsArrived any_legal s n keep m.clock before after new → IsArrived any_legal t n keep m.clock then later end
     → CountsAlike before after then later new end
 
@@ -125,7 +125,7 @@ ArrivalCountLaw =
 abbrev pub DrainCountLaw : Type 0
 DrainCountLaw =
     (m : State) (zones : Zoned) (sets : Sets) (more most : ℕ) (s t new end : SimState) (before after then later : SimOut)
-    → IsUnderWay m zones more → HasNoRouter m.config.net → BothHold m zones sets s t
+    → IsUnderWay m zones more → BothHold m zones sets s t
     → AreDrained m.clock most s before after new → AreDrained m.clock most t then later end
     → CountsAlike before after then later new end
 
@@ -133,6 +133,6 @@ DrainCountLaw =
 abbrev pub ThroughCountLaw : Type 0
 ThroughCountLaw =
     (m : State) (zones : Zoned) (sets : Sets) (more : ℕ) (s t new end : SimState) (port : Name) (frame : List ℕ) (after later : SimOut)
-    → IsUnderWay m zones more → HasNoRouter m.config.net → BothHold m zones sets s t
+    → IsUnderWay m zones more → BothHold m zones sets s t
     → GoesThrough m.clock s port frame after new → GoesThrough m.clock t port frame later end
     → CountsAlike no_out after no_out later new end

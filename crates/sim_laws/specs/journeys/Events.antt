@@ -1,21 +1,18 @@
 -- The packets of an event, one after another: on the simulated chassis as in the network.
-use Rattle.std.specs.Prelude.{◌≡◌, ◌++◌, ◌+◌, ℕ, List, Some}
+use Rattle.std.specs.Prelude.{◌≡◌, ◌++◌, ◌+◌, ℕ, List, length}
 use Rattle.chassis_sim.specs.State.{SimState}
 use Rattle.chassis_sim.specs.declared.out.SimOut.{SimOut}
 use Rattle.conn_zones.specs.Zoning.{Zoned}
 use Rattle.inet_packet.specs.declared.packet.Packet.{Packet}
 use Rattle.match_cubes.specs.declared.sets.Sets.{Sets}
-use Rattle.nb_records.specs.declared.switch.SwitchPort.{SwitchPort}
 use Rattle.net_model.specs.Journey.{Traffic, enter_one, arrive_all, enter_and_arrive, Travels}
 use Rattle.net_model.specs.State.{State}
-use Rattle.net_model.specs.Trail.{End}
+use Rattle.net_model.specs.Trail.{End, crossings_in}
 use Rattle.ovn_base.specs.declared.limits.TheConstants.{MAX_ARRIVALS}
 use Rattle.ovn_base.specs.declared.name.Name.{Name}
-use Rattle.ovn_base.specs.names.ByName.{at}
 use Rattle.sim_laws.specs.Passing.{most_arrivals, AreDrained, GoesThrough, no_out}
 use Rattle.sim_laws.specs.journeys.Holding.{HoldsNetwork}
 use Rattle.sim_laws.specs.journeys.Moves.{MovesFor, AreMoved}
-use Rattle.sim_laws.specs.journeys.Premises.{HasVirtualPorts}
 use Rattle.sim_laws.specs.journeys.Refining.{IsJourney}
 use Rattle.sim_laws.specs.journeys.UnderWay.{IsUnderWay}
 
@@ -45,19 +42,16 @@ AllArriveLaw =
     → AreDrained m.clock most_arrivals s before after new
     → IsJourney m zones sets more arrive_all before after new
 
--- The packet of a frame goes in at a port, and then all frames arrive that wait. No port of its switch leads to a router.
+-- What the event asks of packets takes them on this journey, on which so many frames were sent.
+pub record IsThrough (m : State) (zones : Zoned) (sets : Sets) (more : ℕ) (traffic : Traffic) (before after : SimOut) (new : SimState) : Type 0 where
+  pub sent : ℕ
+  pub journey : IsJourney m zones sets (more + sent) traffic before after new
+  pub count : length (crossings_in journey.ends) ≡ sent
+
+-- The packet of a frame goes in at a port, and then all frames arrive that wait.
 abbrev pub GoesThroughLaw : Type 0
 GoesThroughLaw =
     (m : State) (zones : Zoned) (sets : Sets) (more : ℕ) (s new : SimState) (port : Name) (frame : List ℕ) (after : SimOut)
     → IsUnderWay m zones more → HoldsNetwork m zones.numbers sets s
-    → ((i : SwitchPort) → at m.config.net.switch_ports port ≡ Some i → HasVirtualPorts m.config.net i.switch)
     → (through : GoesThrough m.clock s port frame after new)
-    → IsJourney m zones sets (more + 64) (enter_and_arrive port through.goes_in.packet) no_out after new
-
--- So it is where ports lead to routers: so many frames are sent.
-abbrev pub RoutedThroughLaw : Type 0
-RoutedThroughLaw =
-    (m : State) (zones : Zoned) (sets : Sets) (more : ℕ) (s new : SimState) (port : Name) (frame : List ℕ) (after : SimOut)
-    → IsUnderWay m zones more → HoldsNetwork m zones.numbers sets s
-    → (through : GoesThrough m.clock s port frame after new)
-    → (sent : ℕ) × IsJourney m zones sets (more + sent) (enter_and_arrive port through.goes_in.packet) no_out after new
+    → IsThrough m zones sets more (enter_and_arrive port through.goes_in.packet) no_out after new

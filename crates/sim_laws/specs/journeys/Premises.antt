@@ -1,5 +1,5 @@
 -- What the laws of passes ask of a chassis, soundness and what is held give.
-use Rattle.std.specs.Prelude.{◌≡◌, ◌≤◌, ℕ, true, false, List, Some, None, IsSome}
+use Rattle.std.specs.Prelude.{◌≡◌, ◌≤◌, ℕ, false, List, Some, None, IsSome}
 use Rattle.chassis_sim.specs.State as sim
 use Rattle.chassis_sim.specs.State.{at_name}
 use Rattle.conn_zones.specs.Zoning.{Zoned, GivenNumbers, number_on}
@@ -8,7 +8,6 @@ use Rattle.conn_zones.specs.declared.numbers.ZoneUse.{ZoneUse}
 use Rattle.conn_zones.specs.declared.numbers.ZoneUse.TheVariants.{Port}
 use Rattle.flow_table.specs.declared.flow.Flow.{Flow}
 use Rattle.match_cubes.specs.declared.sets.Sets.{Sets}
-use Rattle.nb_records.specs.Network.{Network}
 use Rattle.nb_records.specs.Switches.{is_virtual}
 use Rattle.nb_records.specs.declared.switch.SwitchPort.{SwitchPort}
 use Rattle.net_model.specs.Owners.{owners_of}
@@ -28,7 +27,8 @@ use Rattle.sim_laws.specs.journeys.UnderWay.{IsUnderWay}
 use Rattle.sim_laws.specs.passes.Arriving.{AreOwned, MayArrive}
 use Rattle.sim_laws.specs.pipelines.HeldLists.{AreApart}
 use Rattle.sim_laws.specs.pipelines.Standing.{Chassis, net_of}
-use Rattle.sim_laws.specs.routers.Patches.{IsLaidAround, AreDistributed}
+use Rattle.sim_laws.specs.routers.Patches.{IsLaidAround}
+use Rattle.row_laws.specs.Distributed.{AreDistributed}
 
 -- Who has a key by the records has a live one, and on switches nobody else does; who is at home has a zone, each of its own; no port that leads to a
 -- router is bound; and each crossing that waits may arrive.
@@ -47,14 +47,6 @@ abbrev pub SoundOnLaw : Type 0
 SoundOnLaw =
     (m : State) (zones : Zoned) (more : ℕ) → IsUnderWay m zones more
     → (sets : Sets) (by : Choosing) (flows : List Flow) (entry : Entry) (chassis : Name) → IsSoundOn m zones.numbers (chassis_at m zones.numbers sets by flows entry chassis)
-
--- no port of the switch leads to a router
-abbrev pub HasVirtualPorts : Network → Name → Type 0
-HasVirtualPorts net switch = (q : Name) (port : SwitchPort) → at net.switch_ports q ≡ Some port → port.switch ≡ switch → is_virtual port ≡ true
-
--- so it is of each switch
-abbrev pub HaveVirtualPorts : Network → Type 0
-HaveVirtualPorts net = (switch : Name) → HasVirtualPorts net switch
 
 -- the chassis has what the laws of passes ask
 pub record IsReady (s : Chassis) (numbers : GivenNumbers) : Type 0 where

@@ -1,5 +1,5 @@
 -- What the simulated chassis do with packets is what the network does with them.
-use Rattle.std.specs.Prelude.{◌≡◌, ◌++◌, ◌+◌, ℕ, Bool, true, false, List, [], length, Some}
+use Rattle.std.specs.Prelude.{◌≡◌, ◌++◌, ◌+◌, ℕ, Bool, true, false, List, [], length}
 use Rattle.std.specs.BTreeMap.{is_at}
 use Rattle.std.specs.Map.{remove_entry}
 use Rattle.std.specs.Ordering.{nat_cmp}
@@ -16,15 +16,11 @@ use Rattle.net_model.specs.Trail.{End, crossings_in}
 use Rattle.net_model.specs.declared.crossing.Crossing.{Crossing}
 use Rattle.ovn_base.specs.lists.Among.{Among}
 use Rattle.ovn_base.specs.declared.name.Name.{Name}
-use Rattle.ovn_base.specs.names.ByName.{at}
-use Rattle.nb_records.specs.declared.switch.SwitchPort.{SwitchPort}
 use Rattle.switch_engine.specs.Outcome.{Choosing}
-use Rattle.sim_laws.specs.Effects.{effects_of, spelled}
-use Rattle.sim_laws.specs.SentFrames.{IsSentFrom}
+use Rattle.sim_laws.specs.Effects.{effects_of}
 use Rattle.sim_laws.specs.Sound.{MayWait}
 use Rattle.sim_laws.specs.journeys.Holding.{HoldsNetwork}
 use Rattle.sim_laws.specs.journeys.Moves.{MovesFor}
-use Rattle.sim_laws.specs.journeys.Premises.{HasVirtualPorts}
 use Rattle.sim_laws.specs.journeys.UnderWay.{IsUnderWay}
 
 -- The effects that came are those of the ends to which packets went. What the event asks of packets takes them there, and the chassis hold the
@@ -37,14 +33,8 @@ pub record IsJourney (m : State) (zones : Zoned) (sets : Sets) (more : ℕ) (tra
   pub sound : IsUnderWay left zones more
   pub held : HoldsNetwork left zones.numbers sets new
 
--- A packet entered at the port, and was sent to at most 64 chassis: each crossing is one of the packet from there, which its frame spells.
-pub record IsEntry (m : State) (zones : Zoned) (sets : Sets) (more : ℕ) (port : Name) (packet : Packet) (before after : SimOut) (new : SimState) : Type 0 where
-  pub journey : IsJourney m zones sets (more + 64) (enter_one port packet) before after new
-  pub sent : (x : Crossing) → Among x (crossings_in journey.ends) → IsSentFrom m port x.home (spelled m.keys x) x
-  pub waiting : journey.left.waiting ≡ m.waiting ++ numbered_from m.next (crossings_in journey.ends)
-
 -- A packet entered at the port, and went on through switches and routers. So many frames were sent, each from the switch in which the packet was.
-pub record IsRoutedEntry (m : State) (zones : Zoned) (sets : Sets) (more : ℕ) (port : Name) (packet : Packet) (before after : SimOut) (new : SimState) : Type 0 where
+pub record IsEntry (m : State) (zones : Zoned) (sets : Sets) (more : ℕ) (port : Name) (packet : Packet) (before after : SimOut) (new : SimState) : Type 0 where
   pub sent : ℕ
   pub journey : IsJourney m zones sets (more + sent) (enter_one port packet) before after new
   pub count : length (crossings_in journey.ends) ≡ sent
@@ -62,22 +52,13 @@ pub record IsComing (m : State) (zones : Zoned) (sets : Sets) (more n : ℕ) (ke
   pub none_sent : crossings_in journey.ends ≡ []
   pub waiting : journey.left.waiting ≡ waiting_on keep n m.waiting
 
--- A packet that goes in at a port enters the network. No port of its switch leads to a router.
+-- A packet that goes in at a port enters the network, and goes on through switches and routers.
 abbrev pub EntryJourneyLaw : Type 0
 EntryJourneyLaw =
     (m : State) (zones : Zoned) (sets : Sets) (more : ℕ) (s new : SimState) (by : Choosing) (port : Name) (packet : Packet) (before after : SimOut)
     → IsUnderWay m zones more → HoldsNetwork m zones.numbers sets s
-    → ((i : SwitchPort) → at m.config.net.switch_ports port ≡ Some i → HasVirtualPorts m.config.net i.switch)
     → IsWhole packet → IsInjected by s port m.clock packet before after new
     → IsEntry m zones sets more port packet before after new
-
--- So it is where ports lead to routers: the packet goes on through them.
-abbrev pub RoutedEntryLaw : Type 0
-RoutedEntryLaw =
-    (m : State) (zones : Zoned) (sets : Sets) (more : ℕ) (s new : SimState) (by : Choosing) (port : Name) (packet : Packet) (before after : SimOut)
-    → IsUnderWay m zones more → HoldsNetwork m zones.numbers sets s
-    → IsWhole packet → IsInjected by s port m.clock packet before after new
-    → IsRoutedEntry m zones sets more port packet before after new
 
 -- A frame that arrives is its crossing, that arrives, and waits on where it is kept; no frame is sent for it, since a distributed router is entered where
 -- the packet was sent.

@@ -21,7 +21,7 @@ use Rattle.sim_laws.specs.journeys.InState.{zones_on}
 use Rattle.physical_flows.specs.Bindings.{AreBound}
 use Rattle.sim_laws.specs.journeys.UnderWay.{IsUnderWay}
 use Rattle.sim_laws.specs.pipelines.HeldLists.{list_there}
-use Rattle.sim_laws.specs.routers.Patches.{AreDistributed}
+use Rattle.row_laws.specs.Distributed.{AreDistributed}
 
 -- the state after the turn, with these keys
 abbrev pub turned_with : Turn → Keys → State → State

@@ -1,7 +1,6 @@
 -- When a state is sound in the midst of an event.
-use Rattle.std.specs.Prelude.{◌≡◌, ◌≤◌, ◌+◌, ◌*◌, ◌^◌, ℕ, true, [], Some}
+use Rattle.std.specs.Prelude.{◌≡◌, ◌≤◌, ◌+◌, ◌*◌, ◌^◌, ℕ, true, Some}
 use Rattle.conn_zones.specs.Zoning.{Zoned}
-use Rattle.nb_records.specs.Network.{Network}
 use Rattle.nb_records.specs.Switches.{is_virtual}
 use Rattle.nb_records.specs.declared.switch.SwitchPort.{SwitchPort}
 use Rattle.nb_rules.specs.Valid.{IsValid}
@@ -13,12 +12,7 @@ use Rattle.physical_flows.specs.Bindings.{AreBound}
 use Rattle.physical_flows.specs.RecordKeys.{HaveKeys}
 use Rattle.sim_laws.specs.Sound.{AreBorn, AreCrossings}
 use Rattle.sim_laws.specs.journeys.AtHome.{AreAtHome}
-use Rattle.sim_laws.specs.routers.Patches.{AreDistributed}
-
--- there is no router and no router port
-pub record HasNoRouter (net : Network) : Type 0 where
-  pub routers : net.routers ≡ []
-  pub router_ports : net.router_ports ≡ []
+use Rattle.row_laws.specs.Distributed.{AreDistributed}
 
 -- each port that is bound is virtual
 abbrev pub BoundAreVirtual : Config → Type 0

@@ -14,7 +14,8 @@ use Rattle.switch_engine.specs.declared.carried.Carried.{Carried}
 use Rattle.sim_laws.specs.passes.ToEnd.{EndsAs}
 use Rattle.sim_laws.specs.pipelines.Standing.{Chassis, net_of, course_of}
 use Rattle.sim_laws.specs.pipelines.WalkOn.{Comes}
-use Rattle.sim_laws.specs.routers.Patches.{IsLaidAround, AreDistributed, IsBeforePatch, IsEntering}
+use Rattle.sim_laws.specs.routers.Patches.{IsLaidAround, IsBeforePatch, IsEntering}
+use Rattle.row_laws.specs.Distributed.{AreDistributed}
 
 -- Whatever walk takes on a copy that is to leave by a port that leads into another datapath does what the network says of it, to the last end, where so
 -- many passes are left to it.

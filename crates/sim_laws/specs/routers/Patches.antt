@@ -12,12 +12,10 @@ use Rattle.inet_packet.specs.declared.regs.Regs.{Regs}
 use Rattle.nb_records.specs.Network.{Network}
 use Rattle.nb_records.specs.Routers.{Partner, switch_side, router_side, partner_of_switch_port, partner_of_router_port}
 use Rattle.nb_records.specs.Switches.{is_virtual}
-use Rattle.nb_records.specs.declared.router.Router.{Router}
 use Rattle.nb_records.specs.declared.router.RouterPort.{RouterPort}
 use Rattle.nb_records.specs.declared.switch.SwitchPort.{SwitchPort}
 use Rattle.net_model.specs.Trail.{Lists, Spot, spot_of, spot_in_router, drop_for}
 use Rattle.ovn_base.specs.declared.limits.TheConstants.{MAX_HOPS}
-use Rattle.ovn_base.specs.declared.name.Name.{Name}
 use Rattle.ovn_base.specs.declared.stages.TheConstants.{ADMIT_TABLE, OUTPUT_TABLE}
 use Rattle.ovn_base.specs.names.ByName.{at}
 use Rattle.row_laws.specs.Numbers.{IsDatapathKey, IsPortKey}
@@ -40,10 +38,6 @@ pub record IsLaidAround (s : Chassis) (numbers : GivenNumbers) : Type 0 where
   pub wired : IsWired s numbers
   pub in_range : (zone : ZoneUse) (n : ℕ) → number_on numbers s.scene.here zone ≡ Some n → n ≤ MAX_ZONE
   pub unbound : (q : SwitchPort) → at (net_of s).switch_ports q.name ≡ Some q → is_virtual q ≡ false → at s.scene.config.bindings q.name ≡ None
-
--- each router of the network is distributed: none has a chassis
-abbrev pub AreDistributed : Network → Type 0
-AreDistributed net = (a : Name) (router : Router) → at net.routers a ≡ Some router → router.chassis ≡ None
 
 -- ---- what the network says
 

@@ -11,7 +11,8 @@ use Rattle.switch_engine.specs.declared.carried.Carried.{Carried}
 use Rattle.sim_laws.specs.pipelines.Pieces.{ComesTo}
 use Rattle.sim_laws.specs.pipelines.Standing.{Chassis, net_of, course_of}
 use Rattle.sim_laws.specs.pipelines.WalkOn.{Comes}
-use Rattle.sim_laws.specs.routers.Patches.{IsLaidAround, AreDistributed, IsBeforePatch}
+use Rattle.sim_laws.specs.routers.Patches.{IsLaidAround, IsBeforePatch}
+use Rattle.row_laws.specs.Distributed.{AreDistributed}
 use Rattle.sim_laws.specs.routers.RouterIngress.{Departure, GoesToPort}
 
 -- the copy has come to the output at the port of its way, and has passed as often as before

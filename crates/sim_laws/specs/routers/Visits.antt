@@ -18,7 +18,8 @@ use Rattle.sim_laws.specs.passes.ToEnd.{EndsAs}
 use Rattle.sim_laws.specs.pipelines.HeldLists.{HoldLists}
 use Rattle.sim_laws.specs.pipelines.Standing.{Chassis, net_of, course_of}
 use Rattle.sim_laws.specs.pipelines.WalkOn.{Comes}
-use Rattle.sim_laws.specs.routers.Patches.{IsLaidAround, AreDistributed}
+use Rattle.sim_laws.specs.routers.Patches.{IsLaidAround}
+use Rattle.row_laws.specs.Distributed.{AreDistributed}
 
 -- Where all routers are distributed, whatever walk a packet takes from table 0 on that comes in at a virtual port that is bound to the chassis does what
 -- the network says of its visit, through switches and routers, to the last end.

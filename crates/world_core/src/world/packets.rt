@@ -10,16 +10,18 @@ ghost use Rattle.inet_packet.specs.Whole.{IsWhole};
 ghost use Rattle.sim_laws.specs.Passing.{most_arrivals};
 ghost use Rattle.sim_laws.specs.journeys.Refining.{without_crossing};
 ghost use Rattle.sim_laws.specs.journeys.UnderWay.{IsUnderWay};
-ghost use Rattle.world_setup.specs.Built.{IsBuilt};
 ghost use Rattle.world_core.specs.WorldView.{AreHeld};
 ghost use Rattle.sim_laws.specs.Sound.{AreCrossings};
 ghost use Rattle.net_model.specs.State.{event_count};
-ghost use Rattle.world_core.specs.Packets.{AreGone, CanBeKept, HasArrived, HasEntered, IsNumberOf, most_sent, port_of_key};
+ghost use Rattle.world_core.specs.Packets.{AreGone, CanBeKept, HasArrived, HasEntered, IsNumberOf, IsPortNumber, IsSentAs, IsSwitchNumber, most_sent};
 ghost use Rattle.world_core.specs.Waiting.{AreWaiting, crossing_of, frame_under, names_of};
-ghost use Rattle.sim_laws.specs.SentFrames.{IsSentFrom};
+ghost use Rattle.sim_laws.specs.Held.{HaveOwnersNames};
+ghost use Rattle.sim_laws.specs.Naming.{HasDatapathKey};
+ghost use Rattle.nb_rules.specs.Valid.{IsValid};
 ghost use Rattle.physical_flows.specs.RecordKeys.{HaveKeys};
 ghost use Rattle.net_model.specs.declared.crossing.Aim.{Aim};
 ghost use Rattle.net_model.specs.declared.crossing.Crossing.{Crossing};
+ghost use Rattle.tunnel_keys.specs.declared.owner.Identity.{Identity};
 
 use crate::crossing_names::CrossingNames;
 use crate::world::World;
@@ -34,23 +36,44 @@ use sim_laws::journeys::journeys_refine;
 use switch_engine::effect::NetEffect;
 use tunnel_keys::owner::Identity;
 
-// The first of the ports that has the key.
-fn port_of_key(ports: &[(Name, u16)], key: u16) -> Option<Name>
-    ensures { result ≡ port_of_key ports.now key }
-{
-    'ports: for (name, own) in ports {
-        if *own == key {
-            return Some(*name);
-        }
-    }
-    None
-}
-
 impl World {
-    // To whom a packet from a port of the switch goes, by the key of the port or group.
-    fn aim(&self, switch: &Name, key: u16) -> Option<Aim>
+    // The switch that has the key, where one has it.
+    fn switch_of_key(&self, datapath: u32) -> Option<Identity>
+        requires names { HaveOwnersNames self.now.state.keys self.now.sim }
+        ensures { (id : Identity) → IsSwitchNumber self.now.state datapath id → result ≡ Some id }
+    {
+        let name = self.sim.name(datapath, 0);
+        let Some(switch) = self.setup.records().switch(&name) else {
+            return None;
+        };
+        Some(Identity {
+            name,
+            birth: switch.birth,
+        })
+    }
+
+    // The port of a switch that has the key in the datapath, where one has it.
+    fn port_of_key(&self, datapath: u32, key: u16) -> Option<Identity>
+        requires names { HaveOwnersNames self.now.state.keys self.now.sim }
+        ensures { (switch : Name) (id : Identity) → HasDatapathKey self.now.state.keys switch datapath
+            → IsPortNumber self.now.state switch key id → result ≡ Some id }
+    {
+        let name = self.sim.name(datapath, key);
+        let Some(port) = self.setup.records().switch_port(&name) else {
+            return None;
+        };
+        Some(Identity {
+            name,
+            birth: port.birth,
+        })
+    }
+
+    // To whom a packet in the datapath goes, by the key of the port or group.
+    fn aim(&self, datapath: u32, key: u16) -> Option<Aim>
         requires keys { HaveKeys self.now.state.config.net self.now.state.keys }
-        ensures { (aim : Aim) → IsNumberOf self.now.state switch.now key aim → result ≡ Some aim }
+        requires names { HaveOwnersNames self.now.state.keys self.now.sim }
+        ensures { (switch : Name) (aim : Aim) → HasDatapathKey self.now.state.keys switch datapath
+            → IsNumberOf self.now.state switch key aim → result ≡ Some aim }
     {
         if key == FLOOD_KEY {
             return Some(Aim::ToGroup(Group::Flood));
@@ -58,49 +81,35 @@ impl World {
         if key == UNKNOWN_KEY {
             return Some(Aim::ToGroup(Group::Unknown));
         }
-        let Some(ports) = self.setup.keys().ports(switch) else {
+        let Some(port) = self.port_of_key(datapath, key) else {
             return None;
         };
-        let Some(name) = port_of_key(ports.list.as_slice(), key) else {
-            return None;
-        };
-        let Some(port) = self.setup.records().switch_port(&name) else {
-            return None;
-        };
-        Some(Aim::ToPort(Identity {
-            name,
-            birth: port.birth,
-        }))
+        Some(Aim::ToPort(port))
     }
 
-    // Whom the crossing of a frame names that was sent for a packet from the port.
-    fn crossing(&self, port: &Name, bytes: &[u8]) -> CrossingNames
+    // Whom the crossing names that the frame spells.
+    fn crossing(&self, bytes: &[u8]) -> CrossingNames
+        requires valid { IsValid self.now.state.config.net }
         requires keys { HaveKeys self.now.state.config.net self.now.state.keys }
-        requires built { IsBuilt self.now.state.config.net }
-        requires sent { (to : Name) × (x : Crossing) × IsSentFrom self.now.state port.now to bytes.now x }
-        ensures { (to : Name) (x : Crossing) → IsSentFrom self.now.state port.now to bytes.now x → result ≡ names_of x }
+        requires names { HaveOwnersNames self.now.state.keys self.now.sim }
+        requires sent { (to : Name) × (x : Crossing) × IsSentAs self.now.state to bytes.now x }
+        ensures { (to : Name) (x : Crossing) → IsSentAs self.now.state to bytes.now x → result ≡ names_of x }
     {
-        let Some(own) = self.setup.records().switch_port(port) else {
-            unreachable!()
-        };
-        let Some(switch) = self.setup.records().switch(&own.switch) else {
-            unreachable!()
-        };
         let Ok(view) = read(bytes) else {
             unreachable!()
         };
-        let Some(aim) = self.aim(&own.switch, view.out_key) else {
+        let Some(datapath) = self.switch_of_key(view.vni) else {
+            unreachable!()
+        };
+        let Some(in_port) = self.port_of_key(view.vni, view.in_key) else {
+            unreachable!()
+        };
+        let Some(aim) = self.aim(view.vni, view.out_key) else {
             unreachable!()
         };
         CrossingNames {
-            datapath: Identity {
-                name: own.switch,
-                birth: switch.birth,
-            },
-            in_port: Identity {
-                name: *port,
-                birth: own.birth,
-            },
+            datapath,
+            in_port,
             aim,
         }
     }
@@ -130,19 +139,20 @@ impl World {
         Ok(())
     }
 
-    // Keeps whom the crossings name of the frames among the effects of a packet from the port, which wait.
-    fn keep_crossings(&mut self, port: &Name, effects: &[NetEffect]) -> Result<(), NoMemory>
+    // Keeps whom the crossings name of the frames among the effects, which wait.
+    fn keep_crossings(&mut self, effects: &[NetEffect]) -> Result<(), NoMemory>
         requires taken { self.old.whole ≡ false }
+        requires valid { IsValid self.old.state.config.net }
         requires keys { HaveKeys self.old.state.config.net self.old.state.keys }
-        requires built { IsBuilt self.old.state.config.net }
-        requires sent { (ws : List (ℕ × Crossing)) × CanBeKept self.old.state port.now effects.now ws }
+        requires names { HaveOwnersNames self.old.state.keys self.old.sim }
+        requires sent { (ws : List (ℕ × Crossing)) × CanBeKept self.old.state effects.now ws }
         requires waiting { AreWaiting self.old.sim (frames_sent effects.now) }
-        ensures { OnOk result ((ws : List (ℕ × Crossing)) → CanBeKept self.old.state port.now effects.now ws
+        ensures { OnOk result ((ws : List (ℕ × Crossing)) → CanBeKept self.old.state effects.now ws
             → self.new ≡ record self.old { state = record self.old.state { waiting = self.old.state.waiting ++ ws } }) }
     {
         'effects: for effect in effects {
             if let NetEffect::Tunnel { frame, bytes, .. } = effect {
-                let names = self.crossing(port, bytes.as_slice());
+                let names = self.crossing(bytes.as_slice());
                 self.keep(*frame, names.datapath, names.in_port, names.aim)?;
             }
         }
@@ -157,7 +167,6 @@ impl World {
         out: &mut SimOut,
     ) -> Result<(), NoMemory>
         requires under_way { IsUnderWay self.old.state self.old.zones 0 }
-        requires built { IsBuilt self.old.state.config.net }
         requires held { AreHeld self.old.state self.old.zones self.old.sim }
         requires taken { self.old.whole ≡ false }
         requires bound { IsSome (at self.old.state.config.bindings port.now) }
@@ -172,7 +181,9 @@ impl World {
             Err(SimFault::NotBound(_)) => unreachable!(),
             Err(SimFault::NoFrame(_)) => unreachable!(),
         }
-        self.keep_crossings(port, &out.effects.as_slice()[before..])?;
+        // No list in memory has 2^64 elements, so that so many frames weren't sent.
+        let _sent = out.effects.iter();
+        self.keep_crossings(&out.effects.as_slice()[before..])?;
         Ok(())
     }
 
@@ -184,7 +195,6 @@ impl World {
         out: &mut SimOut,
     ) -> Result<(), NoMemory>
         requires under_way { IsUnderWay self.old.state self.old.zones most_sent }
-        requires built { IsBuilt self.old.state.config.net }
         requires held { AreHeld self.old.state self.old.zones self.old.sim }
         requires taken { self.old.whole ≡ false }
         requires waits { IsSome (numbered self.old.state.waiting frame) }
@@ -223,7 +233,6 @@ impl World {
     // The lowest frame arrives again and again, until none waits or 65,536 arrived.
     pub(super) fn drain(&mut self, out: &mut SimOut) -> Result<(), NoMemory>
         requires under_way { IsUnderWay self.old.state self.old.zones most_sent }
-        requires built { IsBuilt self.old.state.config.net }
         requires held { AreHeld self.old.state self.old.zones self.old.sim }
         requires taken { self.old.whole ≡ false }
         ensures { OnOk result (AreGone most_arrivals self.old out.old out.new self.new) }

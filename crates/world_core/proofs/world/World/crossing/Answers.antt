@@ -1,23 +1,38 @@
 use Rattle.inet_packet.specs.Frame.{frame_of}
 use Rattle.std.proofs.Common.{◌≡◌, sym, ap, ◌∙◌, subst}
 use Rattle.std.proofs.lemmas.Option.{same_Some}
-use Rattle.ovn_base.specs.names.ByName.{at}
-use Rattle.nb_records.specs.Network.{Network}
-use Rattle.nb_records.specs.declared.switch.SwitchPort.{SwitchPort}
 use Rattle.sim_laws.specs.Effects.{datapath_key, port_key, aim_key}
-use Rattle.world_core.specs.Packets.{IsNumberOf}
-use Rattle.world_core.specs.WorldView.{WorldView}
-use Rattle.world_core.proofs.FrameCrossings.{sent_number, sent_spells}
+use Rattle.sim_laws.specs.Naming.{HasDatapathKey}
+use Rattle.world_core.specs.Packets.{IsNumberOf, IsPortNumber, IsSwitchNumber}
+use Rattle.world_core.proofs.FrameCrossings.{aim_number, in_number, sent_spells, switch_number}
 use Rattle.world_core.proofs.world.World.crossing.Goals as goal
-use Rattle.world_setup.proofs.BuiltTables.{no_router}
 
-pub unreachable-requires-in_default-read : goal.unreachable-requires-in_default-read
-unreachable-requires-in_default-read c =
+pub unreachable-requires : goal.unreachable-requires
+unreachable-requires c =
     let m = c.args.self.now.state in
     let to = c.requires.sent.0 in
     let x = c.requires.sent.1 in
     let f = c.requires.sent.2 in
-    c.in_default-read.ensures.only (datapath_key m.keys x.datapath) (port_key m.keys x.in_port) (aim_key m.keys x.aim) (frame_of x.packet) (sent_spells m c.requires.keys (no_router m.config.net c.requires.built) c.args.port.now to c.args.bytes.now x f)
+    c.in_default.ensures.only (datapath_key m.keys x.datapath) (port_key m.keys x.in_port) (aim_key m.keys x.aim) (frame_of x.packet) (sent_spells m c.requires.valid c.requires.keys to c.args.bytes.now x f)
+
+pub unreachable-requires-in_default-switch_of_key : goal.unreachable-requires-in_default-switch_of_key
+unreachable-requires-in_default-switch_of_key c =
+    let m = c.args.self.now.state in
+    let to = c.requires.sent.0 in
+    let x = c.requires.sent.1 in
+    let f = c.requires.sent.2 in
+    let given = c.in-Ok.ensures.only (datapath_key m.keys x.datapath) (port_key m.keys x.in_port) (aim_key m.keys x.aim) (frame_of x.packet) (sent_spells m c.requires.valid c.requires.keys to c.args.bytes.now x f) in
+    c.in_default-switch_of_key.not-Some x.datapath (c.switch_of_key.ensures x.datapath (subst (λ k. IsSwitchNumber m k x.datapath) (sym given.0) (switch_number m c.requires.valid c.requires.keys x f.may)))
+
+pub unreachable-requires-in_default-port_of_key : goal.unreachable-requires-in_default-port_of_key
+unreachable-requires-in_default-port_of_key c =
+    let m = c.args.self.now.state in
+    let to = c.requires.sent.0 in
+    let x = c.requires.sent.1 in
+    let f = c.requires.sent.2 in
+    let given = c.in-Ok.ensures.only (datapath_key m.keys x.datapath) (port_key m.keys x.in_port) (aim_key m.keys x.aim) (frame_of x.packet) (sent_spells m c.requires.valid c.requires.keys to c.args.bytes.now x f) in
+    let under = subst (λ k. HasDatapathKey m.keys x.datapath.name k) (sym given.0) (switch_number m c.requires.valid c.requires.keys x f.may).0 in
+    c.in_default-port_of_key.not-Some x.in_port (c.port_of_key.ensures x.datapath.name x.in_port under (subst (λ k. IsPortNumber m x.datapath.name k x.in_port) (sym given.1) (in_number m c.requires.valid c.requires.keys x f.may)))
 
 pub unreachable-requires-in_default-aim : goal.unreachable-requires-in_default-aim
 unreachable-requires-in_default-aim c =
@@ -25,20 +40,19 @@ unreachable-requires-in_default-aim c =
     let to = c.requires.sent.0 in
     let x = c.requires.sent.1 in
     let f = c.requires.sent.2 in
-    let given = c.in-Ok.ensures.only (datapath_key m.keys x.datapath) (port_key m.keys x.in_port) (aim_key m.keys x.aim) (frame_of x.packet) (sent_spells m c.requires.keys (no_router m.config.net c.requires.built) c.args.port.now to c.args.bytes.now x f) in
-    let own : c.in-Some.own.now ≡ f.port = same_Some c.in-Some.own.now f.port (c.in-Some.ensures ∙ ap (λ (n : Network). at n.switch_ports c.args.port.now) c.records.ensures ∙ ap (λ (v : WorldView). at v.state.config.net.switch_ports c.args.port.now) c.self.view_is ∙ f.there) in
-    let number = subst (λ (q : SwitchPort). IsNumberOf m q.switch (aim_key m.keys x.aim) x.aim) (sym own) (sent_number m c.requires.keys (no_router m.config.net c.requires.built) c.args.port.now to c.args.bytes.now x f) in
-    c.in_default-aim.not-Some x.aim (c.aim.ensures x.aim (subst (λ k. IsNumberOf m c.in-Some.own.now.switch k x.aim) (sym given.2) number))
+    let given = c.in-Ok.ensures.only (datapath_key m.keys x.datapath) (port_key m.keys x.in_port) (aim_key m.keys x.aim) (frame_of x.packet) (sent_spells m c.requires.valid c.requires.keys to c.args.bytes.now x f) in
+    let under = subst (λ k. HasDatapathKey m.keys x.datapath.name k) (sym given.0) (switch_number m c.requires.valid c.requires.keys x f.may).0 in
+    c.in_default-aim.not-Some x.aim (c.aim.ensures x.datapath.name x.aim under (subst (λ k. IsNumberOf m x.datapath.name k x.aim) (sym given.2) (aim_number m c.requires.valid c.requires.keys x f.may)))
 
 pub returns : goal.returns
-returns c = λ to y g.
+returns c = λ to x f.
     let m = c.args.self.now.state in
-    let given = c.in-Ok.ensures.only (datapath_key m.keys y.datapath) (port_key m.keys y.in_port) (aim_key m.keys y.aim) (frame_of y.packet) (sent_spells m c.requires.keys (no_router m.config.net c.requires.built) c.args.port.now to c.args.bytes.now y g) in
-    let own : c.in-Some.own.now ≡ g.port = same_Some c.in-Some.own.now g.port (c.in-Some.ensures ∙ ap (λ (n : Network). at n.switch_ports c.args.port.now) c.records.ensures ∙ ap (λ (v : WorldView). at v.state.config.net.switch_ports c.args.port.now) c.self.view_is ∙ g.there) in
-    let switch : c.in-Some-switch.switch.now ≡ g.switch =
-    same_Some c.in-Some-switch.switch.now g.switch (c.in-Some-switch.ensures ∙ ap (λ (n : Network). at n.switches c.in-Some.own.now.switch) c.records-2.ensures ∙ ap (λ (v : WorldView). at v.state.config.net.switches c.in-Some.own.now.switch) c.self.view_is ∙ ap (λ (q : SwitchPort). at m.config.net.switches q.switch) own ∙ g.on) in
-    let number = subst (λ (q : SwitchPort). IsNumberOf m q.switch (aim_key m.keys y.aim) y.aim) (sym own) (sent_number m c.requires.keys (no_router m.config.net c.requires.built) c.args.port.now to c.args.bytes.now y g) in
-    let aim : c.in-Some-aim.aim ≡ y.aim = same_Some c.in-Some-aim.aim y.aim (sym c.in-Some-aim.is ∙ c.aim.ensures y.aim (subst (λ k. IsNumberOf m c.in-Some.own.now.switch k y.aim) (sym given.2) number)) in
-    let datapath : (record { name = c.in-Some.own.now.switch; birth = c.in-Some-switch.switch.now.birth }) ≡ y.datapath = (λ i. record { name = (own i).switch; birth = (switch i).birth }) ∙ sym g.datapath in
-    let in_port : (record { name = c.args.port.now; birth = c.in-Some.own.now.birth }) ≡ y.in_port = (λ i. record { name = c.args.port.now; birth = (own i).birth }) ∙ sym g.in_port in
+    let given = c.in-Ok.ensures.only (datapath_key m.keys x.datapath) (port_key m.keys x.in_port) (aim_key m.keys x.aim) (frame_of x.packet) (sent_spells m c.requires.valid c.requires.keys to c.args.bytes.now x f) in
+    let switch = switch_number m c.requires.valid c.requires.keys x f.may in
+    let under = subst (λ k. HasDatapathKey m.keys x.datapath.name k) (sym given.0) switch.0 in
+    let datapath : c.in-Some.datapath ≡ x.datapath = same_Some c.in-Some.datapath x.datapath (sym c.in-Some.is ∙ c.switch_of_key.ensures x.datapath (subst (λ k. IsSwitchNumber m k x.datapath) (sym given.0) switch)) in
+    let in_port : c.in-Some-port_of_key.in_port ≡ x.in_port =
+    same_Some c.in-Some-port_of_key.in_port x.in_port (sym c.in-Some-port_of_key.is ∙ c.port_of_key.ensures x.datapath.name x.in_port under (subst (λ k. IsPortNumber m x.datapath.name k x.in_port) (sym given.1) (in_number m c.requires.valid c.requires.keys x f.may))) in
+    let aim : c.in-Some-aim.aim ≡ x.aim =
+    same_Some c.in-Some-aim.aim x.aim (sym c.in-Some-aim.is ∙ c.aim.ensures x.datapath.name x.aim under (subst (λ k. IsNumberOf m x.datapath.name k x.aim) (sym given.2) (aim_number m c.requires.valid c.requires.keys x f.may))) in
     λ i. record { datapath = datapath i; in_port = in_port i; aim = aim i }

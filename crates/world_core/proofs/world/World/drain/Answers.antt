@@ -1,7 +1,5 @@
 use Rattle.std.proofs.Common.{◌≡◌, ◌-◌, [], ◌∷◌, sym, ap, ◌∙◌, subst, inl, inr, arith, false}
 use Rattle.std.proofs.lemmas.Bool.{false≢true}
-use Rattle.net_model.specs.State.{State}
-use Rattle.world_setup.specs.Built.{IsBuilt}
 use Rattle.world_core.specs.Packets.{HasArrived}
 use Rattle.world_core.specs.Waiting.{crossing_of, crossings_of, frame_under}
 use Rattle.world_core.specs.WorldView.{WorldView}
@@ -26,9 +24,6 @@ arrive-requires-clause-waits c =
     let x = crossing_of c.in-Some.field-0-1.now (frame_under frames n) in
     let behind = crossings_of first.0 frames in
     first_waits c.arrivals.self.state n x behind (ap (λ (v : WorldView). v.state.waiting) (sym c.self.view_is) ∙ ap (λ names. crossings_of names frames) first.1)
-
-pub arrive-requires-clause-built : goal.arrive-requires-clause-built
-arrive-requires-clause-built c = subst (λ (m : State). IsBuilt m.config.net) (sym c.arrivals.invariant.draining.still) c.requires.built
 
 pub arrivals-preserved : goal.arrivals-preserved
 arrivals-preserved c =

@@ -8,9 +8,6 @@ use Rattle.world_core.proofs.world.World.inject.Goals as goal
 pub enter-requires-clause-under_way : goal.enter-requires-clause-under_way
 enter-requires-clause-under_way c = under_way_of c.args.self.now c.requires.taken
 
-pub enter-requires-clause-built : goal.enter-requires-clause-built
-enter-requires-clause-built c = c.requires.taken.consistent.built
-
 pub returns : goal.returns
 returns c =
     let old = c.args.self.now in

@@ -1,8 +1,7 @@
 use Rattle.std.specs.Prelude.{◌<◌, ◌^◌}
 use Rattle.std.proofs.Common.{◌≡◌, None, ap, subst, sym, ◌∙◌}
 use Rattle.edit_reader.specs.declared.event.Event.TheVariants as event_of
-use Rattle.net_model.specs.State.{State, event_count}
-use Rattle.world_setup.specs.Built.{IsBuilt}
+use Rattle.net_model.specs.State.{event_count}
 use Rattle.world_setup.specs.Refusing.{cause_of_entry}
 use Rattle.world_core.specs.StepParts.{IsDone}
 use Rattle.world_core.proofs.PacketEvents.{handed_on, packet_done, under_way_of}
@@ -10,12 +9,6 @@ use Rattle.world_core.proofs.world.World.send.Goals as goal
 
 pub enter-requires-clause-under_way : goal.enter-requires-clause-under_way
 enter-requires-clause-under_way c = under_way_of c.args.self.now c.requires.taken
-
-pub enter-requires-clause-built : goal.enter-requires-clause-built
-enter-requires-clause-built c = c.requires.taken.consistent.built
-
-pub drain-requires-clause-built : goal.drain-requires-clause-built
-drain-requires-clause-built c = subst (λ (m : State). IsBuilt m.config.net) (sym c.in_ok-enter.ensures.still) c.requires.taken.consistent.built
 
 pub finish-requires-clause-room : goal.finish-requires-clause-room
 finish-requires-clause-room c = subst (λ n. n < 2 ^ 42) (sym (ap event_count c.in_ok-drain.ensures.still ∙ ap event_count c.in_ok-enter.ensures.still)) c.requires.room

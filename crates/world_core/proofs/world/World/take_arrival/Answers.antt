@@ -7,9 +7,6 @@ use Rattle.world_core.proofs.world.World.take_arrival.Goals as goal
 pub arrive-requires-clause-under_way : goal.arrive-requires-clause-under_way
 arrive-requires-clause-under_way c = under_way_most c.args.self.now c.requires.taken
 
-pub arrive-requires-clause-built : goal.arrive-requires-clause-built
-arrive-requires-clause-built c = c.requires.taken.consistent.built
-
 pub returns : goal.returns
 returns c =
     let done = c.done_from.result in

@@ -8,9 +8,6 @@ use Rattle.world_core.proofs.world.World.take_drain.Goals as goal
 pub drain-requires-clause-under_way : goal.drain-requires-clause-under_way
 drain-requires-clause-under_way c = under_way_most c.args.self.now c.requires.taken
 
-pub drain-requires-clause-built : goal.drain-requires-clause-built
-drain-requires-clause-built c = c.requires.taken.consistent.built
-
 pub finish-requires-clause-room : goal.finish-requires-clause-room
 finish-requires-clause-room c = subst (λ n. n < 2 ^ 42) (sym (ap event_count c.in_ok-drain.ensures.still)) c.requires.room
 
