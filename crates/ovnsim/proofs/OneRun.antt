@@ -1,6 +1,7 @@
 -- Events and picks have one run.
 use Rattle.std.proofs.Common.{◌≡◌, ◌+◌, ◌++◌, ℕ, List, [], ◌∷◌, refl, sym, ap, ◌∙◌, subst, arith}
 use Rattle.std.proofs.lemmas.Option.{none-some, same_Some}
+use Rattle.conn_zones.specs.Zoning.{KnownHomes}
 use Rattle.edit_reader.specs.declared.event.Event.{Event}
 use Rattle.event_lines.specs.Lines.{accepted_lines, refused_line}
 use Rattle.event_lines.specs.Picks.{Pick}
@@ -11,7 +12,9 @@ use Rattle.world_core.specs.Picks.{Fate, Run, was_accepted, was_refused}
 use Rattle.world_core.specs.Picks as network
 use Rattle.world_setup.specs.Refusing.{refusal}
 use Rattle.world_core.specs.WorldView.{IsSound, WorldView}
+use Rattle.net_model.specs.Config.{Config}
 use Rattle.net_model.specs.State.{State, event_count}
+use Rattle.physical_flows.specs.Bindings.{router_homes}
 use Rattle.world_setup.specs.Step as net
 use Rattle.world_setup.specs.Zones.{Rezones}
 use Rattle.world_core.proofs.EmptyWorld.{new_sound}
@@ -36,6 +39,10 @@ pub record SameTaking (mid after : WorldView) (first other : List ℕ) (left mor
   pub text : first ≡ other
   pub rest : left ≡ more
 
+-- where everyone is at home follows from the configuration
+abbrev homes_of : Config → KnownHomes
+homes_of config = record { ports = config.bindings; routers = router_homes config }
+
 -- no chassis has zones yet
 none_zoned : HaveSameZones new_world.sim new_world.sim
 none_zoned c lists others is also z = absurd (none-some lists is)
@@ -47,7 +54,9 @@ module _ (enters : EntryCountLaw) (arrives : ArrivalCountLaw) (drains : DrainCou
       let moved : net.NetworkStep one.state event k.effects after.state = subst (λ s. net.NetworkStep s event k.effects after.state) (sym like.state) k.step in
       let step =
       step_with one.state event h.effects k.effects mid.state after.state left more h.step moved (sym (ap (λ ps. ps ++ left) p) ∙ e ∙ ap (λ ps. ps ++ more) q) in
-      let zones = same_zones event two.zones mid.zones after.zones (subst (λ z. Rezones event z mid.zones) like.zones h.zones) k.zones in
+      let homes : mid.zones.homes ≡ after.zones.homes =
+      sound.consistent.at_rest.bound.homes ∙ ap (λ (s : State). homes_of s.config) step.state ∙ sym also.consistent.at_rest.bound.homes in
+      let zones = same_zones event two.zones mid.zones after.zones homes (subst (λ z. Rezones event z mid.zones) like.zones h.zones) k.zones in
       let lists = accepted_alike enters arrives drains through one two mid after event first other like.sound like.also like.state like.zones like.lists h k step.effects_are zones in
       let count : matched mid.walks ≡ matched after.walks = matched_is mid.walks ∙ lists.count ∙ sym (matched_is after.walks) in
       record {

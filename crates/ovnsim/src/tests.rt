@@ -1,4 +1,6 @@
+mod balancing;
 mod routing;
+mod translating;
 
 use crate::top::ovnsim;
 use chassis_sim::sim::Sim;

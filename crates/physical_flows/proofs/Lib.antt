@@ -3,6 +3,7 @@ pub mod AroundSets
 pub mod BoundZones
 pub mod FlowSearch
 pub mod GroupMembers
+pub mod HomedRouters
 pub mod KeyLaws
 pub mod Members
 pub mod PlacedMembers

@@ -11,7 +11,7 @@ use mathlib.Core.Path.{sym, ap, subst, ◌∙◌}
 use mathlib.Core.Logic.{inl, inr}
 use Rattle.std.proofs.lemmas.Bool.{cases_Bool, false≢true}
 use Rattle.std.proofs.lemmas.Option.{none-some, same_Some}
-use Rattle.ovn_base.specs.lists.Among.{Among, there}
+use Rattle.ovn_base.specs.lists.Among.{Among, here, there}
 use Rattle.ovn_base.specs.names.ByName.{at, put, IsByName}
 use Rattle.ovn_base.specs.names.SameName.{bytes_decides, same_name}
 use Rattle.ovn_base.specs.declared.name.Name.{Name}
@@ -23,13 +23,13 @@ use Rattle.conn_zones.specs.declared.numbers.ZoneUse.{ZoneUse}
 use Rattle.conn_zones.specs.declared.numbers.ZoneUse.TheVariants as zone_use
 use Rattle.nb_records.specs.Network.{Network}
 use Rattle.nb_records.specs.Routers.{Partner, switch_side, router_side, partner_of_router_port, partner_of_switch_port}
-use Rattle.nb_records.specs.Switches.{is_named, is_virtual, is_virtual_kind, router_port_behind}
-use Rattle.nb_records.specs.declared.router.Router.{Router}
+use Rattle.nb_records.specs.Switches.{is_virtual, is_virtual_kind}
 use Rattle.nb_records.specs.declared.router.RouterPort.{RouterPort}
 use Rattle.nb_records.specs.declared.switch.PortKind.{PortKind}
 use Rattle.nb_records.specs.declared.switch.PortKind.TheVariants as port_kind
 use Rattle.nb_records.specs.declared.switch.SwitchPort.{SwitchPort}
-use Rattle.net_model.specs.Config.{Home, nowhere, on, home_if, chassis_home, home_of_router, home_of_router_port, home_by_kind, home_of, is_on}
+use Rattle.nb_rules.specs.Valid.{IsValid}
+use Rattle.net_model.specs.Config.{Home, on, home_if, home_of_router_port, home_by_kind, home_of, is_on}
 use Rattle.net_model.specs.Targets.{members}
 use Rattle.tunnel_keys.specs.Keys.{Keys}
 use Rattle.tunnel_keys.proofs.Lists.{at_filter, filter_at, filter_sorted}
@@ -38,9 +38,9 @@ use Rattle.physical_flows.specs.declared.unit.FlowUnit.{FlowUnit}
 use Rattle.physical_flows.specs.declared.unit.FlowUnit.TheVariants as unit
 use Rattle.physical_flows.specs.Around.{around_rows}
 use Rattle.physical_flows.specs.Homes.{ArePortsNamed}
-use Rattle.physical_flows.specs.Stages.{Basis, config_of, number_here, beyond}
+use Rattle.physical_flows.specs.Stages.{Basis, config_of, number_here, zone_of, beyond}
 use Rattle.physical_flows.specs.TableList.{homed_rows, is_group_member, way_row}
-use Rattle.physical_flows.specs.Touching.{IsSameBeside, BindTouches, ChassisTouches, EditTouches}
+use Rattle.physical_flows.specs.Touching.{HasLeading, IsSameBeside, BindTouches, ChassisTouches, EditTouches}
 use Rattle.physical_flows.specs.Units.{ChangeOnly, patch_rows}
 use Rattle.physical_flows.proofs.GroupMembers.{and_first, of_group, entries_in, members_entries, member_on}
 use Rattle.physical_flows.proofs.UnitReads.{IsSameMember, has_member_at, only_these}
@@ -51,9 +51,9 @@ and_false : (x : Bool) → (x && false) ≡ false
 and_false true = refl
 and_false false = refl
 
-none_found : {X : Type 0} (test : X → Bool) (xs : List X) → ((x : X) → test x ≡ false) → list_any test xs ≡ false
+none_found : {X : Type 0} (test : X → Bool) (xs : List X) → ((x : X) → Among x xs → test x ≡ false) → list_any test xs ≡ false
 none_found test [] none = refl
-none_found test (x ∷ xs) none = ap (λ b. b || list_any test xs) (none x) ∙ none_found test xs none
+none_found test (x ∷ xs) none = ap (λ b. b || list_any test xs) (none x here) ∙ none_found test xs (λ y m. none y (there m))
 
 other_names : (a b : Name) → a ≢ b → same_name a b ≡ false
 other_names a b apart = elim (cases_Bool (same_name a b)) [
@@ -184,46 +184,20 @@ kept_by_test test (d ∷ names) c e = by (slice_cmp nat_cmp c d) (kept_by_test t
     by Equal rest = refl
     by Greater rest = ap (λ ns. cond (test d) (d ∷ ns) ns) rest
 
-any_by_test : (test : Name → Bool) (names : List Name) (c : Name) → test c ≡ false → list_any test (insert_key (slice_cmp nat_cmp) names c) ≡ list_any test names
-any_by_test test [] c e = ap (λ b. b || false) e
-any_by_test test (d ∷ names) c e = by (slice_cmp nat_cmp c d) (any_by_test test names c e)
-  where
-    by : (o : Ordering) → list_any test (insert_key (slice_cmp nat_cmp) names c) ≡ list_any test names
-        → list_any test (match_ordering o (c ∷ d ∷ names) (d ∷ names) (d ∷ insert_key (slice_cmp nat_cmp) names c)) ≡ list_any test (d ∷ names)
-    by Less rest = ap (λ b. b || list_any test (d ∷ names)) e
-    by Equal rest = refl
-    by Greater rest = ap (λ b. test d || b) rest
-
-module _ (before : Basis) (c : Name) where
+module _ (before : Basis) (units : List FlowUnit) (c : Name) (zones : GivenNumbers) where
   abbrev with_chassis : Basis
-  with_chassis = record before { all = insert_key (slice_cmp nat_cmp) before.all c }
+  with_chassis = record before { all = insert_key (slice_cmp nat_cmp) before.all c; zones = zones }
 
   module _ (new : ¬ Among c before.all) (homes : (q home : Name) → at before.bindings q ≡ Some home → Among home before.all)
-      (waits : (a : Name) (router : Router) → at before.net.routers a ≡ Some router → router.chassis ≢ Some c) where
-    -- homes stay
-    chassis_kept : (o : Option Name) → o ≢ Some c → chassis_home (config_of with_chassis) o ≡ chassis_home (config_of before) o
-    chassis_kept None apart = refl
-    chassis_kept (Some d) apart = ap (λ t. cond t (on d) nowhere) (any_by_test (λ n. same_name n d) before.all c (other_names c d (λ same. apart (ap (λ n. Some n) (sym same)))))
-
-    router_home_kept : (p : RouterPort) → home_of_router_port (config_of with_chassis) p ≡ home_of_router_port (config_of before) p
-    router_home_kept p = by (at before.net.routers p.router) refl
+      (kept : (q : Name) → zone_of with_chassis q ≡ zone_of before q) (valid : IsValid before.net) (leading : HasLeading units before.net) where
+    -- the home of a virtual port stays, and is another than the new chassis
+    bound_stays : (q : SwitchPort) → is_virtual q ≡ true → home_of (config_of with_chassis) q ≡ home_of (config_of before) q
+    bound_stays q virtual = by q.kind virtual
       where
-        by : (o : Option Router) → at before.net.routers p.router ≡ o → home_if (home_of_router (config_of with_chassis)) o ≡ home_if (home_of_router (config_of before)) o
-        by None is = refl
-        by (Some router) is = chassis_kept router.chassis (waits p.router router is)
+        by : (k : PortKind) → is_virtual_kind k ≡ true → home_by_kind (config_of with_chassis) q k ≡ home_by_kind (config_of before) q k
+        by port_kind.Virtual virtual = refl
+        by port_kind.Router virtual = absurd (false≢true virtual)
 
-    behind_kept : (o : Option RouterPort) → home_if (home_of_router_port (config_of with_chassis)) o ≡ home_if (home_of_router_port (config_of before)) o
-    behind_kept None = refl
-    behind_kept (Some p) = router_home_kept p
-
-    home_kept : (q : SwitchPort) → home_of (config_of with_chassis) q ≡ home_of (config_of before) q
-    home_kept q = by q.kind
-      where
-        by : (k : PortKind) → home_by_kind (config_of with_chassis) q k ≡ home_by_kind (config_of before) q k
-        by port_kind.Virtual = refl
-        by port_kind.Router = behind_kept (router_port_behind before.net q)
-
-    -- and nobody is at home on the new chassis
     not_bound : (q : Name) → is_on c (home_if on (at before.bindings q)) ≡ false
     not_bound q = by (at before.bindings q) refl
       where
@@ -231,49 +205,35 @@ module _ (before : Basis) (c : Name) where
         by None is = refl
         by (Some home) is = other_names home c (λ same. new (subst (λ n. Among n before.all) same (homes q home is)))
 
-    not_waiting : (o : Option Name) → o ≢ Some c → is_on c (chassis_home (config_of before) o) ≡ false
-    not_waiting None apart = refl
-    not_waiting (Some d) apart = by (is_named d before.all)
+    not_there : (q : SwitchPort) → is_virtual q ≡ true → is_on c (home_of (config_of before) q) ≡ false
+    not_there q virtual = by q.kind virtual
       where
-        by : (t : Bool) → is_on c (cond t (on d) nowhere) ≡ false
-        by true = other_names d c (λ same. apart (ap (λ n. Some n) same))
-        by false = refl
+        by : (k : PortKind) → is_virtual_kind k ≡ true → is_on c (home_by_kind (config_of before) q k) ≡ false
+        by port_kind.Virtual virtual = not_bound q.name
+        by port_kind.Router virtual = absurd (false≢true virtual)
 
-    not_behind : (o : Option RouterPort) → is_on c (home_if (home_of_router_port (config_of before)) o) ≡ false
-    not_behind None = refl
-    not_behind (Some p) = by (at before.net.routers p.router) refl
-      where
-        by : (o : Option Router) → at before.net.routers p.router ≡ o → is_on c (home_if (home_of_router (config_of before)) o) ≡ false
-        by None is = refl
-        by (Some router) is = not_waiting router.chassis (waits p.router router is)
+    -- all ports of a switch that isn't among the units are virtual
+    module _ (a : Name) (out : ¬ Among (unit.Switch a) units) (group : Group) where
+      member_bound : (q : SwitchPort) → Among q (members before.net a group) → is_virtual q ≡ true
+      member_bound q m =
+          let of = member_on before.net valid.in_order.switch_ports valid.named.switch_ports a group q m in
+          elim (cases_Bool (is_virtual q)) [ inl virtual ↦ virtual | inr leads ↦ absurd (out (subst (λ n. Among (unit.Switch n) units) of.1 (leading.on q.name q of.0 leads))) ]
 
-    not_there : (q : SwitchPort) → is_on c (home_of (config_of before) q) ≡ false
-    not_there q = by q.kind
-      where
-        by : (k : PortKind) → is_on c (home_by_kind (config_of before) q k) ≡ false
-        by port_kind.Virtual = not_bound q.name
-        by port_kind.Router = not_behind (router_port_behind before.net q)
+      untaken : has_member_at before a group c ≡ false
+      untaken =
+          ap (λ b. not (same_name c before.chassis) && b) (none_found (λ q. is_on c (home_of (config_of before) q)) (members before.net a group) (λ q m. not_there q (member_bound q m)))
+          ∙ and_false (not (same_name c before.chassis))
 
-    untaken : (a : Name) (group : Group) → has_member_at before a group c ≡ false
-    untaken a group =
-        ap (λ b. not (same_name c before.chassis) && b) (none_found (λ q. is_on c (home_of (config_of before) q)) (members before.net a group) (λ q. not_there q))
-        ∙ and_false (not (same_name c before.chassis))
-
-    chassis_way : (partner : Option Partner) → option_map (beyond with_chassis) partner ≡ option_map (beyond before) partner
-    chassis_way None = refl
-    chassis_way (Some (switch_side p)) = refl
-    chassis_way (Some (router_side r)) = refl
-
-    with_chassis_touches : ChangeOnly [] (around_rows before) (around_rows with_chassis)
+    with_chassis_touches : ChangeOnly units (around_rows before) (around_rows with_chassis)
     with_chassis_touches =
-        only_these before with_chassis []
+        only_these before with_chassis units
         (λ a out. record {
           chassis = refl;
           entry = refl;
           number = λ r is. refl;
           in_group = λ group. refl;
-          each = λ group q m. record { number = refl; home = home_kept q; zone = refl };
-          homes = λ group. kept_by_test (has_member_at before a group) before.all c (untaken a group);
+          each = λ group q m. record { number = refl; home = bound_stays q (member_bound a out group q m); zone = kept q.name };
+          homes = λ group. kept_by_test (has_member_at before a group) before.all c (untaken a out group);
         })
         (λ q out. record {
           chassis = refl;
@@ -281,30 +241,29 @@ module _ (before : Basis) (c : Name) where
           beneath = λ r is. refl;
           number = λ r is. refl;
           home = refl;
-          zone = refl;
-          leads = λ r is leads dp key.
-              patch_same before with_chassis dp key (home_of (config_of before) r) (home_of (config_of with_chassis) r) (partner_of_switch_port before.net r) refl (home_kept r) (chassis_way (partner_of_switch_port before.net r));
+          zone = kept q;
+          leads = λ r is leads dp key. absurd (out (leading.to_routers q r is leads));
         })
         (λ q out. record {
           entry = refl;
           beneath = λ r is. refl;
           number = λ r is. refl;
-          leads = λ r is dp key.
-              patch_same before with_chassis dp key (home_of_router_port (config_of before) r) (home_of_router_port (config_of with_chassis) r) (partner_of_router_port before.net r) refl (router_home_kept r)
-              (chassis_way (partner_of_router_port before.net r));
+          leads = λ r is dp key. absurd (out (leading.router_ports q r is));
         })
 
--- a chassis that is added changes no rows on the others: nobody is at home there yet, and no gateway router waits for it
+-- a chassis that is added changes, on the others, the rows of the ports that lead into another datapath and of their switches alone
 pub around_chassis : ChassisTouches around_rows
-around_chassis before after c is new homes waits = subst (λ b. ChangeOnly [] (around_rows before) (around_rows b)) (sym is) (with_chassis_touches before c new homes waits)
+around_chassis before after units c zones is new homes kept valid leading =
+    subst (λ b. ((q : Name) → zone_of b q ≡ zone_of before q) → ChangeOnly units (around_rows before) (around_rows b)) (sym is)
+    (λ same. with_chassis_touches before units c zones new homes same valid leading) kept
 
 -- ---- records are edited
 
-module _ (before : Basis) (units : List FlowUnit) (next : Network) (keys : Keys) where
+module _ (before : Basis) (units : List FlowUnit) (next : Network) (keys : Keys) (zones : GivenNumbers) where
   abbrev edited : Basis
-  edited = record before { net = next; keys = keys }
+  edited = record before { net = next; keys = keys; zones = zones }
 
-  module _ (sorted : IsByName before.net.switch_ports) (sorted_after : IsByName next.switch_ports) (named : ArePortsNamed before.net) (same : IsSameBeside units before.net next before.keys keys) where
+  module _ (kept : (q : Name) → zone_of edited q ≡ zone_of before q) (sorted : IsByName before.net.switch_ports) (sorted_after : IsByName next.switch_ports) (named : ArePortsNamed before.net) (same : IsSameBeside units before.net next before.keys keys) where
     -- a port that isn't among the units is virtual
     is_bound_kind : (q : Name) (port : SwitchPort) → at before.net.switch_ports q ≡ Some port → (¬ Among (unit.Port q) units) → is_virtual port ≡ true
     is_bound_kind q port found out = elim (cases_Bool (is_virtual port)) [ inl virtual ↦ virtual | inr leads ↦ absurd (out (same.to_routers q port (inl found) leads)) ]
@@ -348,7 +307,7 @@ module _ (before : Basis) (units : List FlowUnit) (next : Network) (keys : Keys)
         each_kept q m =
             let of = member_on before.net sorted named a group q m in
             let apart = untouched q.name q (inl of.0) of.1 in
-            record { number = same.numbers q.name q apart of.0; home = virtual_home q (is_bound_kind q.name q of.0 apart); zone = refl }
+            record { number = same.numbers q.name q apart of.0; home = virtual_home q (is_bound_kind q.name q of.0 apart); zone = kept q.name }
 
     module _ (q : Name) (out : ¬ Among (unit.RouterPort q) units) where
       no_router_port : (ports : List (Name × RouterPort)) → ((port : RouterPort) → at ports q ≡ Some port → Among (unit.RouterPort q) units) → at ports q ≡ None
@@ -381,7 +340,7 @@ module _ (before : Basis) (units : List FlowUnit) (next : Network) (keys : Keys)
           beneath = λ port is. same.beneath q port out is;
           number = λ port is. same.numbers q port out is;
           home = refl;
-          zone = refl;
+          zone = kept q;
           leads = λ port is leads dp key. absurd (false≢true (sym leads ∙ is_bound_kind q port is out));
         })
         (λ q out. record {
@@ -393,5 +352,6 @@ module _ (before : Basis) (units : List FlowUnit) (next : Network) (keys : Keys)
 
 -- an edit of records changes the rows of those units alone beside which all stays
 pub around_edit : EditTouches around_rows
-around_edit before after units next keys is sorted sorted_after named same =
-    subst (λ b. ChangeOnly units (around_rows before) (around_rows b)) (sym is) (edited_touches before units next keys sorted sorted_after named same)
+around_edit before after units next keys zones is kept sorted sorted_after named same =
+    subst (λ b. ((q : Name) → zone_of b q ≡ zone_of before q) → ChangeOnly units (around_rows before) (around_rows b)) (sym is)
+    (λ zoned. edited_touches before units next keys zones zoned sorted sorted_after named same) kept

@@ -10,6 +10,7 @@ pub mod Numbers
 pub mod PlacedList
 pub mod Places
 pub mod RecordKeys
+pub mod RouterHomes
 pub mod Rows
 pub mod Stages
 pub mod Switched

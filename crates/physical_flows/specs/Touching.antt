@@ -9,16 +9,16 @@ use Rattle.conn_zones.specs.declared.numbers.ZoneUse.TheVariants.{Port}
 use Rattle.flow_table.specs.declared.flow.Flow.{Flow}
 use Rattle.nb_records.specs.Network.{Network}
 use Rattle.nb_records.specs.Switches.{is_virtual}
-use Rattle.nb_records.specs.declared.router.Router.{Router}
 use Rattle.nb_records.specs.declared.router.RouterPort.{RouterPort}
 use Rattle.nb_records.specs.declared.switch.Switch.{Switch}
 use Rattle.nb_records.specs.declared.switch.SwitchPort.{SwitchPort}
+use Rattle.nb_rules.specs.Valid.{IsValid}
 use Rattle.ovn_base.specs.declared.name.Name.{Name}
 use Rattle.ovn_base.specs.lists.Among.{Among}
 use Rattle.ovn_base.specs.names.ByName.{at, put, IsByName}
 use Rattle.physical_flows.specs.Homes.{ArePortsNamed}
 use Rattle.physical_flows.specs.Numbers.{datapath_number, port_number}
-use Rattle.physical_flows.specs.Stages.{Basis, number_here}
+use Rattle.physical_flows.specs.Stages.{Basis, number_here, zone_of}
 use Rattle.physical_flows.specs.Units.{ChangeOnly}
 use Rattle.physical_flows.specs.declared.unit.FlowUnit.{FlowUnit}
 use Rattle.physical_flows.specs.declared.unit.FlowUnit.TheVariants as unit
@@ -39,10 +39,12 @@ pub record IsSameBeside (units : List FlowUnit) (net next : Network) (keys keys_
   pub router_ports : (p : Name) (port : RouterPort) → (at net.router_ports p ≡ Some port) ⊎ (at next.router_ports p ≡ Some port) → Among (unit.RouterPort p) units
   pub to_routers : (q : Name) (port : SwitchPort) → (at net.switch_ports q ≡ Some port) ⊎ (at next.switch_ports q ≡ Some port) → is_virtual port ≡ false → Among (unit.Port q) units
 
--- An edit of records that leaves bindings and zones as they are changes the rows of those units alone beside which all stays.
+-- An edit of records that leaves bindings and the zones of ports as they are, whatever zones gateway routers get, changes the rows of those units alone
+-- beside which all stays.
 abbrev pub EditTouches : (Basis → FlowUnit → List Flow) → Type 0
 EditTouches rows =
-    (before after : Basis) (units : List FlowUnit) (next : Network) (keys : Keys) → after ≡ record before { net = next; keys = keys }
+    (before after : Basis) (units : List FlowUnit) (next : Network) (keys : Keys) (zones : GivenNumbers) → after ≡ record before { net = next; keys = keys; zones = zones }
+    → ((q : Name) → zone_of after q ≡ zone_of before q)
     → IsByName before.net.switch_ports → IsByName next.switch_ports → ArePortsNamed before.net → IsSameBeside units before.net next before.keys keys → ChangeOnly units (rows before) (rows after)
 
 -- A port that is bound changes its own rows and those of its switch, on each chassis.
@@ -52,9 +54,17 @@ BindTouches rows =
     → at before.net.switch_ports q ≡ Some port → IsByName before.net.switch_ports → ArePortsNamed before.net → ((z : ZoneUse) → z ≢ Port q → number_here after z ≡ number_here before z)
     → ChangeOnly (unit.Switch port.switch ∷ unit.Port q ∷ []) (rows before) (rows after)
 
--- A chassis that comes changes no rows on the others: nobody is at home there yet, and no gateway router waits for it.
+-- among the units are all ports that lead into another datapath, with the switches of those that lead to routers
+pub record HasLeading (units : List FlowUnit) (net : Network) : Type 0 where
+  pub router_ports : (p : Name) (port : RouterPort) → at net.router_ports p ≡ Some port → Among (unit.RouterPort p) units
+  pub to_routers : (q : Name) (port : SwitchPort) → at net.switch_ports q ≡ Some port → is_virtual port ≡ false → Among (unit.Port q) units
+  pub on : (q : Name) (port : SwitchPort) → at net.switch_ports q ≡ Some port → is_virtual port ≡ false → Among (unit.Switch port.switch) units
+
+-- A chassis that comes changes, on the others, the rows of such units alone: gateway routers that wait for it come home, whatever zones they get, and
+-- nobody else is at home there yet.
 abbrev pub ChassisTouches : (Basis → FlowUnit → List Flow) → Type 0
 ChassisTouches rows =
-    (before after : Basis) (c : Name) → after ≡ record before { all = insert_key (slice_cmp nat_cmp) before.all c } → (¬ Among c before.all)
+    (before after : Basis) (units : List FlowUnit) (c : Name) (zones : GivenNumbers) → after ≡ record before { all = insert_key (slice_cmp nat_cmp) before.all c; zones = zones } → (¬ Among c before.all)
     → ((q home : Name) → at before.bindings q ≡ Some home → Among home before.all)
-    → ((a : Name) (router : Router) → at before.net.routers a ≡ Some router → router.chassis ≢ Some c) → ChangeOnly [] (rows before) (rows after)
+    → ((q : Name) → zone_of after q ≡ zone_of before q)
+    → IsValid before.net → HasLeading units before.net → ChangeOnly units (rows before) (rows after)

@@ -6,3 +6,5 @@ pub mod AnsweredIps
 pub mod VipHolders
 pub mod StandsFor
 pub mod OnePrefix
+pub mod NatHolders
+pub mod Services

@@ -1,5 +1,5 @@
 -- Rows that agree wherever a packet is: at a port of the switch or router or not, and whatever stands in its registers.
-use Rattle.std.specs.Prelude.{◌≡◌, ◌⊎◌, List, Some, None, IsSome}
+use Rattle.std.specs.Prelude.{◌≡◌, ◌⊎◌, false, List, Some, IsSome}
 use Rattle.ovn_base.specs.declared.name.Name.{Name}
 use Rattle.ovn_base.specs.names.ByName.{at}
 use Rattle.inet_packet.specs.declared.packet.Packet.{Packet}
@@ -10,6 +10,7 @@ use Rattle.match_cubes.specs.Points.{members_of}
 use Rattle.match_cubes.specs.Suited.{HasFieldsInRange}
 use Rattle.match_cubes.specs.declared.sets.Sets.{Sets}
 use Rattle.nb_records.specs.Network.{Network}
+use Rattle.nb_records.specs.Routers.{translates}
 use Rattle.nb_records.specs.declared.router.Router.{Router}
 use Rattle.nb_records.specs.declared.router.RouterPort.{RouterPort}
 use Rattle.nb_records.specs.declared.switch.SwitchPort.{SwitchPort}
@@ -21,7 +22,6 @@ use Rattle.tunnel_keys.specs.Keys.{Keys}
 use Rattle.tunnel_keys.specs.declared.owner.PortKey.{PortKey}
 use Rattle.net_model.specs.Sights.{Sight, roster_of}
 use Rattle.row_laws.specs.BestRow.{HoldsRows}
-use Rattle.row_laws.specs.Distributed.{AreDistributed}
 use Rattle.row_laws.specs.Numbers.{AreSameMembers}
 use Rattle.row_laws.specs.Rows.{IsBestRow}
 use Rattle.row_laws.specs.routers.RouterCopies.{router_roster}
@@ -33,10 +33,10 @@ AgreeAnywhereLaw s =
     → (row other : LFlow) → IsBestRow net (roster_of net) (stage_table s) switch regs sight row → IsBestRow net (roster_of net) (stage_table s) switch regs sight other
     → row.actions ≡ other.actions
 
--- So it is on a distributed router, whatever the port of entry and the one by which the packet leaves.
+-- So it is on a router that translates nothing, whatever the port of entry and the one by which the packet leaves.
 abbrev pub RouterAgreeAnywhereLaw : Stage → Type 0
 RouterAgreeAnywhereLaw s =
-    (net : Network) → IsValid net → (d : Name) (router : Router) → at net.routers d ≡ Some router → router.chassis ≡ None → (regs : Regs) (sight : Sight) → HasFieldsInRange sight.packet
+    (net : Network) → IsValid net → (d : Name) (router : Router) → at net.routers d ≡ Some router → translates net router ≡ false → (regs : Regs) (sight : Sight) → HasFieldsInRange sight.packet
     → (row other : LFlow) → IsBestRow net (router_roster net) (stage_table s) d regs sight row → IsBestRow net (router_roster net) (stage_table s) d regs sight other
     → row.actions ≡ other.actions
 
@@ -46,11 +46,10 @@ RouterAgreeAnywhereLaw s =
 abbrev pub IsOwnKey : Network → Name → PortKey → Type 0
 IsOwnKey net q k = ((i : SwitchPort) × (at net.switch_ports q ≡ Some i) × (i.switch ≡ k.datapath)) ⊎ ((i : RouterPort) × (at net.router_ports q ≡ Some i) × (i.router ≡ k.datapath))
 
--- The stage's table holds the rows of a network whose routers are all distributed, with the sets of the network; and each live key of a port is that of
--- a port of the records, on its datapath.
+-- The stage's table holds the rows of a network, with the sets of the network; and each live key of a port is that of a port of the records,
+-- on its datapath.
 pub record HoldsStageRows (net : Network) (keys : Keys) (sets : Sets) (flows : List Flow) (s : Stage) : Type 0 where
   pub valid : IsValid net
-  pub distributed : AreDistributed net
   pub holds : HoldsRows net keys sets flows (stage_table s)
   pub members : AreSameMembers (roster_of net).members (members_of sets)
   pub owned : (q : Name) (k : PortKey) → at keys.ports q ≡ Some k → IsOwnKey net q k

@@ -1,4 +1,4 @@
--- Routers that are on every chassis.
+-- Which routers are on every chassis.
 use Rattle.std.specs.Prelude.{◌≡◌, Some, None}
 use Rattle.nb_records.specs.Network.{Network}
 use Rattle.nb_records.specs.declared.router.Router.{Router}

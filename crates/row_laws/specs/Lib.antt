@@ -6,6 +6,7 @@ pub mod ProperRows
 pub mod BestRow
 pub mod Distributed
 pub mod AgreeAnywhere
+pub mod AgreeTranslating
 pub mod Copies
 pub mod StageActions
 pub mod StageLaws

@@ -4,3 +4,5 @@ pub mod RouterNumbers
 pub mod RouterActions
 pub mod RouterLaws
 pub mod RouterThrough
+pub mod TranslatingActions
+pub mod TranslatingLaws

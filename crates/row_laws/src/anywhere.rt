@@ -9,12 +9,12 @@ pub fn rows_agree()
     ensures { OfEachStage AgreeAnywhereLaw }
 {}
 
-/// So they have in each stage of a distributed router.
+/// So they have in each stage of a router that translates nothing.
 pub fn rows_of_routers_agree()
     ensures { OfEachRouterStage RouterAgreeAnywhereLaw }
 {}
 
-/// So in numbers, in networks of switches and distributed routers: two flows of a stage's table that may be taken have equal actions, whatever the
+/// So in numbers, whether routers translate or not: two flows of a stage's table that may be taken have equal actions, whatever the
 /// packet and whatever the registers. No cube asks for a bit above its field.
 pub fn flows_agree()
     ensures { OfEachStage FlowsAgreeLaw }

@@ -5,3 +5,4 @@ pub mod anywhere;
 pub mod routers;
 pub mod rows;
 pub mod stages;
+pub mod translating;

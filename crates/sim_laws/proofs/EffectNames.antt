@@ -54,7 +54,7 @@ module _ (keys : Keys) (s : sim.SimState) (named : HaveOwnersNames keys s) (chas
           ap (λ n. net.Drop n (name_of s.names vni key) cause ∷ all_in_names s.names chassis from next fs) (datapath_name a vni d)
           ∙ ap (λ n. net.Drop a n cause ∷ all_in_names s.names chassis from next fs) (port_name a q vni key d p)
           ∙ ap (λ r. net.Drop a q cause ∷ r) (rest next)
-      by _ _ (frame {chassis = from_chassis} {x = x}) g rest =
+      by _ _ (frame {chassis = from_chassis} {x = x} whole) g rest =
           ap (λ c. net.Tunnel next c x.home (spelled keys x) ∷ all_in_names s.names chassis from (next + 1) fs) (sym g)
           ∙ ap (λ r. net.Tunnel next from_chassis x.home (spelled keys x) ∷ r) (rest (next + 1))
       by _ _ (to_backend {a} {vip} {backend} {vni} d) _ rest =
@@ -73,7 +73,7 @@ module _ (keys : Keys) (s : sim.SimState) (named : HaveOwnersNames keys s) (chas
       by : (e : End) (f : Effect) → IsNumbered keys e f → ((k : ℕ) → next_after_all k fs ≡ k + length (crossings_in es)) → next_after_all next (f ∷ fs) ≡ next + length (crossings_in (e ∷ es))
       by _ _ out rest = rest next
       by _ _ (drop d p) rest = rest next
-      by _ _ frame rest = let more = rest (next + 1) in omega (arith, more)
+      by _ _ (frame whole) rest = let more = rest (next + 1) in omega (arith, more)
       by _ _ (to_backend d) rest = rest next
       by _ _ (to_port d) rest = rest next
       by _ _ lost rest = rest next

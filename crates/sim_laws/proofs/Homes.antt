@@ -1,19 +1,19 @@
 -- Who is at home on a chassis.
-use Rattle.std.specs.Prelude.{◌≡◌, ℕ, Bool, true, false, cond, List, [], ◌∷◌, Option, Some, None, refl}
-use Rattle.std.specs.List.{filter}
-use Rattle.std.specs.Map.{keys_of}
-use Rattle.std.proofs.Common.{sym, ap, ◌∙◌, arith}
-use Rattle.std.proofs.lemmas.Bool.{cond-false, false≢true}
+use Rattle.std.specs.Prelude.{◌≡◌, ℕ, Bool, true, false, cond, Option, Some, None, is_some, refl}
+use Rattle.std.proofs.Common.{sym, ap, ◌∙◌, subst, arith}
+use Rattle.std.proofs.lemmas.Bool.{false≢true, and_parts}
 use Rattle.nb_records.specs.declared.router.Router.{Router}
-use Rattle.nb_rules.specs.Valid.{IsValid}
-use Rattle.net_model.specs.Config.{Config, Home, nowhere, on, everywhere, chassis_home, home_if, home_of_router, is_on, is_on_one, is_here}
-use Rattle.net_model.specs.ListOwners.{homed_routers}
-use Rattle.ovn_base.proofs.ByNameLaws.{among_at}
-use Rattle.ovn_base.specs.names.SameName.{bytes_decides}
+use Rattle.nb_records.specs.declared.router.RouterPort.{RouterPort}
+use Rattle.net_model.specs.Config.{Config, Home, nowhere, on, everywhere, chassis_home, home_if, home_of_router, home_of_router_port, is_chassis, is_on, is_on_one, is_here}
+use Rattle.net_model.specs.Forwarding.{is_translating, translates_if}
+use Rattle.ovn_base.proofs.AmongLaws.{any_among}
+use Rattle.ovn_base.specs.names.SameName.{same_name, bytes_decides}
 use Rattle.ovn_base.specs.declared.name.Name.{Name}
-use Rattle.ovn_base.specs.lists.Among.{Among, here, there}
+use Rattle.ovn_base.specs.lists.Among.{Among}
+use Rattle.ovn_base.specs.names.ByName.{at, IsByName}
+use Rattle.physical_flows.proofs.HomedRouters.{router_homes_exact}
+use Rattle.physical_flows.specs.Bindings.{router_homes}
 use Rattle.physical_flows.specs.Homes.{is_reached_at}
-use Rattle.row_laws.specs.Distributed.{AreDistributed}
 
 -- ---- what is bound to the chassis is at home there
 
@@ -51,6 +51,13 @@ pub reached_on : (arrived : Bool) (chassis : Name) → is_reached_at arrived cha
 reached_on false chassis = (bytes_decides chassis chassis).1 refl
 reached_on true chassis = (bytes_decides chassis chassis).1 refl
 
+-- who is reached is at home there, or everywhere
+pub reached_here : (arrived : Bool) (chassis : Name) (home : Home) → is_reached_at arrived chassis home ≡ true → is_here chassis home ≡ true
+reached_here false chassis home h = h
+reached_here true chassis nowhere h = absurd (false≢true h)
+reached_here true chassis (on home) h = h
+reached_here true chassis everywhere h = refl
+
 -- where nothing is at home, nothing is reached
 pub never_reached : (arrived : Bool) (chassis : Name) → is_reached_at arrived chassis nowhere ≡ false
 never_reached false chassis = refl
@@ -72,13 +79,28 @@ reached_everywhere true chassis h = absurd (omega (arith, h))
 
 -- ---- routers
 
-none_pass : {X : Type 0} (test : X → Bool) (xs : List X) → ((x : X) → Among x xs → test x ≡ false) → filter test xs ≡ []
-none_pass test [] h = refl
-none_pass test (x ∷ xs) h = cond-false (test x) (x ∷ filter test xs) (filter test xs) (h x here) ∙ none_pass test xs (λ y m. h y (there m))
+-- the home of a gateway router is a chassis that is there
+pub home_there : (c : Config) (chassis : Option Name) (home : Name) → chassis_home c chassis ≡ on home → Among home c.chassis
+home_there c None home e = absurd (not_everywhere home (sym e))
+home_there c (Some own) home e = by (is_chassis c own) refl e
+  where
+    by : (b : Bool) → is_chassis c own ≡ b → cond b (on own) nowhere ≡ on home → Among home c.chassis
+    by true is h = let f = any_among (λ n. same_name n own) c.chassis is in subst (λ n. Among n c.chassis) ((bytes_decides f.0 own).0 f.2 ∙ same_home own home h) f.1
+    by false is h = absurd (false≢true (ap is_on_one h))
 
--- a distributed router is on no chassis alone
-pub no_homed : (c : Config) → IsValid c.net → AreDistributed c.net → homed_routers c ≡ []
-no_homed c valid distributed =
-    ap (λ (rs : List (Name × Router)). keys_of rs)
-    (none_pass (λ (e : Name × Router). is_on_one (home_of_router c e.1)) c.net.routers
-    (λ e m. ap (λ o. is_on_one (chassis_home c o)) (distributed e.0 e.1 (among_at e.0 e.1 c.net.routers valid.in_order.routers m))))
+-- a router that translates and is at home on the chassis is a gateway router, at home there alone
+pub translating_home : (c : Config) → IsByName c.net.routers → (chassis : Name) (r : RouterPort) → is_here chassis (home_of_router_port c r) ≡ true → is_translating c.net r ≡ true → at (router_homes c) r.router ≡ Some chassis
+translating_home c sorted chassis r = by (at c.net.routers r.router) refl
+  where
+    lives : (own : Name) (b : Bool) → is_here chassis (cond b (on own) nowhere) ≡ true → cond b (on own) nowhere ≡ on chassis
+    lives own true h = ap (λ (n : Name). on n) ((bytes_decides own chassis).0 h)
+    lives own false h = absurd (false≢true h)
+
+    gateway : (o : Option Name) → is_some o ≡ true → is_here chassis (chassis_home c o) ≡ true → chassis_home c o ≡ on chassis
+    gateway None none h = absurd (false≢true none)
+    gateway (Some own) some h = lives own (is_chassis c own) h
+
+    by : (o : Option Router) → at c.net.routers r.router ≡ o → is_here chassis (home_if (home_of_router c) o) ≡ true → translates_if c.net o ≡ true → at (router_homes c) r.router ≡ Some chassis
+    by None is h k = absurd (false≢true k)
+    by (Some router) is h k =
+        (router_homes_exact c sorted r.router chassis).1 (record { router = router; there = is; lives = gateway router.chassis (and_parts (is_some router.chassis) _ k).0 h })

@@ -3,11 +3,14 @@ pub mod Premises
 pub mod Ready
 pub mod Ways
 pub mod SwitchWays
+pub mod NatWays
 pub mod SendingWays
 pub mod SentCrossings
-pub mod WholePackets
+pub mod AimedTargets
 pub mod VisitWays
 pub mod ArrivalWays
+pub mod ReachedWays
+pub mod StraightWays
 pub mod Telling
 pub mod Rezoning
 pub mod Walked

@@ -1,10 +1,8 @@
--- The two pipelines of a router that translates nothing, stage by stage.
+-- A router's stages: how a copy comes to the first, its next hops, numbers and packets.
 pub mod FirstInRouter
 pub mod NextHops
 pub mod RouterCopiesOn
 pub mod RouterDoings
-pub mod RouterIn
-pub mod RouterOut
 pub mod RouterPackets
 pub mod RouterRegisters
 pub mod RouterSteps

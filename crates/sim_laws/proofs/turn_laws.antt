@@ -1,8 +1,9 @@
 -- Lemmas on turns of the configuration, on the simulated chassis.
 pub mod SetEntries
 pub mod FlowChanges
-pub mod TurnedChassis
 pub mod TurnedLists
-pub mod KeptHomes
+pub mod RouterZones
+pub mod TurnedChassis
+pub mod ComingHome
 pub mod KeepingTurns
 pub mod BoundPorts

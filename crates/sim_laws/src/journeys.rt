@@ -9,7 +9,7 @@ ghost use Rattle.sim_laws.specs.journeys.Refining.{ArrivalJourneyLaw, EntryJourn
 ghost use Rattle.sim_laws.specs.journeys.SeenLists.{SeenListsLaw};
 ghost use Rattle.sim_laws.specs.journeys.Ticking.{TickLaw};
 ghost use Rattle.sim_laws.specs.journeys.Turning.{DeltaLaw, TurnLaw};
-ghost use Rattle.sim_laws.specs.journeys.TurnedZones.{BindingLaw, ComingChassisLaw, EditingLaw, KeepingLaw, TurnedAtHomeLaw};
+ghost use Rattle.sim_laws.specs.journeys.TurnedZones.{BindingLaw, ComingChassisLaw, ComingHomeLaw, EditingLaw, TurnedAtHomeLaw};
 ghost use Rattle.sim_laws.specs.routers.Passing.{IntoSwitchLaw, PassingLaw};
 ghost use Rattle.sim_laws.specs.routers.Visits.{RoutedArrivalLaw, RoutedVisitLaw};
 ghost use Rattle.flow_table.specs.declared.flow.Flow.{Flow};
@@ -18,11 +18,10 @@ ghost use Rattle.std.specs.Prelude.{List, ℕ};
 use crate::routers::router_passes;
 use crate::switches::{switch_passes, switches_lead_on};
 use flow_table::exact::exact_flow;
-use row_laws::routers::router_stages_are_the_way;
 use row_laws::rows::rows_can_be_lowered;
 
-/// Where each router is distributed, whatever walk takes on a copy that leaves a datapath for another, or comes into a switch from there, does what the
-/// network says of its whole way, whatever passes are left. So what becomes of a packet that comes in at a port is its visit, and of one
+/// Whatever walk takes on a copy that leaves a datapath for another, or comes into a switch from there, does what the network says of its whole way,
+/// whatever passes are left, whether routers translate or not. So what becomes of a packet that comes in at a port is its visit, and of one
 /// that comes out of a tunnel its arrival.
 pub fn routed_passes()
     ensures passes { (left : ℕ) → PassingLaw left }
@@ -44,8 +43,8 @@ pub fn premises_of_sound()
 }
 
 /// What the simulated chassis do with a packet, and with a frame that arrives, is a journey of the network, with the effects and the choices of
-/// which its ends tell; they hold the state that it leaves, in networks of switches and distributed routers. So they do with a packet and all frames that
-/// wait, one after another.
+/// which its ends tell; they hold the state that it leaves, in networks of switches and of routers, distributed or on their chassis, with NAT and
+/// load balancers or without. So they do with a packet and all frames that wait, one after another.
 pub fn journeys_refine()
     ensures enters { EntryJourneyLaw }
     ensures arrives { ArrivalJourneyLaw }
@@ -56,7 +55,6 @@ pub fn journeys_refine()
     tables_filled();
     switch_passes();
     routed_passes();
-    router_stages_are_the_way();
 }
 
 /// Moves of packets in a state are the network's travels, and come one after another.
@@ -100,11 +98,12 @@ pub fn turns_hold<T>()
     exact_flow();
 }
 
-/// After a turn of the configuration who is at home has lists. A turn under which everyone stays at home leaves lists and zones as they are: so do an
-/// edit under which bound ports stay, and a chassis that comes. A port that is bound begins with its zone.
+/// After a turn of the configuration who is at home has lists. Gateway routers that come home with a turn begin with their zones, and where nobody else
+/// comes or goes all others keep theirs: so it is with an edit under which bound ports and routers stay, and with a chassis that comes. A port that is
+/// bound begins with its zone.
 pub fn zones_turn()
     ensures at_home { TurnedAtHomeLaw }
-    ensures keeps { KeepingLaw }
+    ensures comes_home { ComingHomeLaw }
     ensures edits { EditingLaw }
     ensures chassis_come { ComingChassisLaw }
     ensures binds { BindingLaw }

@@ -1,4 +1,4 @@
-//! How many flows packets match is determined by the network, of switches and distributed routers. Each function does nothing: call it, and its
+//! How many flows packets match is determined by the network, and by the choices that are made. Each function does nothing: call it, and its
 //! clauses are facts of the call.
 ghost use Rattle.sim_laws.specs.journeys.Counts.{ChassisAgreeLaw, ChassisWalksLaw, EntryCountLaw, ArrivalCountLaw, DrainCountLaw, ThroughCountLaw};
 

@@ -38,7 +38,7 @@ module _ (m : State) (zones : Zoned) (s : sim.SimState) (seconds : ℕ) (consist
   lists_left = sym (lists_are_seen (clocked seconds m) zones (sets_of m.config.net) 0 (all_zones_expired now s) ticked.0 ticked.1)
 
 -- each list is then without the connections that are idle
-clock_lists : (zones : Zoned) (now seconds : ℕ) (s : sim.SimState) → Relists (event_of.Clock seconds) now zones s (all_zones_expired (now + seconds) s)
+clock_lists : (zones : Zoned) (now seconds : ℕ) (s : sim.SimState) → Relists (event_of.Clock seconds) now zones zones s (all_zones_expired (now + seconds) s)
 clock_lists zones now seconds s chassis lists is z = by (sim.at_name s.zones chassis) refl (sym (looked_over (all_expired (now + seconds)) (same_name chassis) s.zones) ∙ is)
   where
     by : (o : Option ZoneLists) → sim.at_name s.zones chassis ≡ o → option_map (all_expired (now + seconds)) o ≡ Some lists → zone_at lists z ≡ option_map (expired (now + seconds)) (list_on s chassis z)

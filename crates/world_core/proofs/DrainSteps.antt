@@ -10,7 +10,7 @@ use Rattle.switch_engine.specs.Outcome.{any_legal}
 use Rattle.chassis_sim.specs.Passing as passing
 use Rattle.net_model.specs.declared.crossing.Crossing.{Crossing}
 use Rattle.world_core.proofs.WaitingNames.{own_number}
-use Rattle.world_core.specs.Packets.{AreGone, HasArrived, most_sent, state_with}
+use Rattle.world_core.specs.Packets.{AreGone, HasArrived, sent_among, state_with}
 use Rattle.sim_laws.proofs.journey_laws.Draining.{effects_append}
 use Rattle.sim_laws.proofs.journey_laws.Moving.{length_append}
 use Rattle.sim_laws.proofs.journey_laws.Ways.{crossings_append}
@@ -31,11 +31,11 @@ pub record AreDraining (old : WorldView) (before : SimOut) (left : ℕ) (now : W
   pub drained : (after : SimOut) (s : sim.SimState) → AreDrained old.state.clock left now.sim told after s → AreDrained old.state.clock most_arrivals old.sim before after s
   pub moves : (ends : List End) (m : State) → AreMoved left now.state ends m → AreMoved most_arrivals old.state (own ++ ends) m
   pub still : now.state ≡ state_with old.state now.state.lists now.state.waiting (old.state.next + length (crossings_in own))
-  pub under_way : IsUnderWay now.state now.zones most_sent
+  pub under_way : IsUnderWay now.state now.zones (sent_among told.effects)
   pub held : AreHeld now.state now.zones now.sim
   pub rest : now ≡ record old { state = now.state; sim = now.sim }
 
-pub drain_begins : (old : WorldView) (before : SimOut) → IsUnderWay old.state old.zones most_sent → AreHeld old.state old.zones old.sim → AreDraining old before most_arrivals old before
+pub drain_begins : (old : WorldView) (before : SimOut) → IsUnderWay old.state old.zones (sent_among before.effects) → AreHeld old.state old.zones old.sim → AreDraining old before most_arrivals old before
 drain_begins old before u h = record {
   own = [];
   all = sym (append-nil before.effects);

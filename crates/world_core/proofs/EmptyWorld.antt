@@ -1,6 +1,5 @@
 -- The empty world is sound.
 use Rattle.std.proofs.Common.{◌≡◌, ℕ, true, List, [], arith, refl}
-use Rattle.std.proofs.lemmas.Option.{none-some}
 use Rattle.chassis_sim.specs.State as sim
 use Rattle.chassis_sim.specs.State.{nothing_held}
 use Rattle.conn_zones.specs.Zoning.{Zoned}
@@ -18,7 +17,7 @@ use Rattle.world_core.specs.WorldView.{IsSound}
 use Rattle.world_core.specs.declared.crossing_names.CrossingNames.{CrossingNames}
 
 new_built : IsBuilt empty.config.net
-new_built = record { nats = refl; balancers = refl; offline = refl; distributed = λ a router e. absurd (none-some router e) }
+new_built = record { offline = refl }
 
 pub new_sound : IsSound new_world
 new_sound = record { whole = refl; consistent = record { at_rest = nothing_first.0; built = new_built; clock = omega arith; lists = empty_keep }; held = nothing_first.1 }

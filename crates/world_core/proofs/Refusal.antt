@@ -50,7 +50,6 @@ rests_on m zones now room =
     let sent = now.on_the_way.few in
     record {
       valid = now.valid;
-      distributed = now.distributed;
       bound_virtual = now.bound_virtual;
       keys = now.keys;
       bound = now.bound;

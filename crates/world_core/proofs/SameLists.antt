@@ -91,9 +91,9 @@ module _ (m : State) (zones : Zoned) (sets : Sets) (s t : SimState) (both : Both
       by (Some lists) (Some others) is also = ap (among z) is ∙ both.same_zones c lists others is also z ∙ sym (ap (among z) also)
 
   -- an event without packets leaves the same
-  lists_left : (event : Event) (now : ℕ) (after : Zoned) (new end : SimState) → Relists event now after s new → Relists event now after t end → HaveSameZones new end
-  lists_left event now after new end h k c lists others is also z =
-      h c lists is z ∙ ap (λ list. emptied_at (emptied_by event after) c z (left_by event now list)) (lists_same c z) ∙ sym (k c others also z)
+  lists_left : (event : Event) (now : ℕ) (before after : Zoned) (new end : SimState) → Relists event now before after s new → Relists event now before after t end → HaveSameZones new end
+  lists_left event now before after new end h k c lists others is also z =
+      h c lists is z ∙ ap (λ list. emptied_at (emptied_by event before after) c z (left_by event now list)) (lists_same c z) ∙ sym (k c others also z)
 
 -- ---- events with packets
 
@@ -152,8 +152,10 @@ module _ (enters : EntryCountLaw) (arrives : ArrivalCountLaw) (drains : DrainCou
       passed : Passes m.clock two.sim event (out after k.effects) after.sim
       passed = subst (λ (n : State). Passes n.clock two.sim event (out after k.effects) after.sim) (sym state) k.passed
 
-      relisted : moves_packets event ≡ false → Relists event m.clock mid.zones two.sim after.sim
-      relisted none = subst (λ z. Relists event m.clock z two.sim after.sim) (sym later) (subst (λ (n : State). Relists event n.clock after.zones two.sim after.sim) (sym state) (k.lists none))
+      relisted : moves_packets event ≡ false → Relists event m.clock one.zones mid.zones two.sim after.sim
+      relisted none =
+          subst (λ z. Relists event m.clock z mid.zones two.sim after.sim) (sym zones) (subst (λ z. Relists event m.clock two.zones z two.sim after.sim) (sym later)
+          (subst (λ (n : State). Relists event n.clock two.zones after.zones two.sim after.sim) (sym state) (k.lists none)))
 
       by : (b : Bool) → moves_packets event ≡ b → AreAlike mid.walks after.walks mid.sim after.sim
       by true moves =
@@ -161,5 +163,5 @@ module _ (enters : EntryCountLaw) (arrives : ArrivalCountLaw) (drains : DrainCou
           (out mid h.effects) (out after k.effects) effects mid.sim after.sim event moves h.passed passed
       by false none = record {
         count = ap matched_on (none_matched event m.clock one.sim (out mid h.effects) mid.sim none h.passed ∙ sym (none_matched event m.clock two.sim (out after k.effects) after.sim none passed));
-        zones = lists_left m one.zones (sets_of m.config.net) one.sim two.sim both event m.clock mid.zones mid.sim after.sim (h.lists none) (relisted none);
+        zones = lists_left m one.zones (sets_of m.config.net) one.sim two.sim both event m.clock one.zones mid.zones mid.sim after.sim (h.lists none) (relisted none);
       }

@@ -74,7 +74,7 @@ module _ (m : State) (zones : Zoned) (change : SimChange TupleSpace) (after : Gr
   turn_leaves (turn_event.AddChassis c) now list = refl
 
   -- what the event says of lists
-  pub relisted : (event : TurnEvent) (now : ℕ) (later : Zoned) → change.emptied ≡ emptied_by (event_of_turn event) later → Relists (event_of_turn event) now later s new
+  pub relisted : (event : TurnEvent) (now : ℕ) (later : Zoned) → change.emptied ≡ emptied_by (event_of_turn event) zones later → Relists (event_of_turn event) now zones later s new
   relisted event now later same c lists is z =
       lists_then c lists is z
       ∙ (λ i. emptied_at (same i) c z (sym (turn_leaves event now (list_on s c z)) i))

@@ -12,7 +12,6 @@ use Rattle.std.specs.Ordering.{is_eq, match_ordering, nat_cmp}
 use Rattle.std.specs.declared.cmp.Ordering.{Ordering}
 use Rattle.std.specs.declared.cmp.Ordering.TheVariants.{Less, Equal, Greater}
 use Rattle.chassis_sim.specs.State.{SimState, numbered}
-use Rattle.conn_zones.specs.Zoning.{Zoned}
 use Rattle.chassis_sim.specs.declared.underlay.WaitingFrame.{WaitingFrame}
 use Rattle.inet_packet.specs.Frame.{frame_of}
 use Rattle.inet_packet.specs.Whole.{IsWhole}
@@ -23,12 +22,13 @@ use Rattle.sim_laws.specs.Effects.{spelled}
 use Rattle.net_model.specs.State.{State}
 use Rattle.sim_laws.specs.Held.{frame_of_crossing}
 use Rattle.sim_laws.specs.Sound.{AreCrossings}
+use Rattle.sim_laws.specs.journeys.Refining.{waiting_on}
 use Rattle.sim_laws.proofs.WaitingLists.{same_number, numbered_map, removed_map}
 use Rattle.tunnel_keys.specs.Keys.{Keys}
 use Rattle.world_core.specs.FramePackets.{packet_in}
 use Rattle.world_core.specs.Inside.{seen_of}
 use Rattle.world_core.specs.Waiting.{AreWaiting, crossing_of, crossings_of, frame_under, inner_of, names_of}
-use Rattle.world_core.specs.WorldView.{AreHeld, WorldView}
+use Rattle.world_core.specs.WorldView.{WorldView}
 use Rattle.world_core.specs.declared.crossing_names.CrossingNames.{CrossingNames}
 use Rattle.world_core.specs.declared.world.World.TheInside.{Inside}
 use Rattle.world_core.proofs.FramePackets.{packet_in-frame}
@@ -99,11 +99,6 @@ pub own_frames : (keys : Keys) (ws : List (ℕ × Crossing)) → IsStrictlySorte
 own_frames keys ws sorted n x m =
     numbered_map (λ y. (frame_of_crossing keys (0, y)).1) ws n ∙ ap (λ o. option_map (λ y. (frame_of_crossing keys (0, y)).1) o) (among_numbered ws n x sorted m)
 
--- so crossings whose frames alone wait are those of their names
-pub crossings_held : (keys : Keys) (ws : List (ℕ × Crossing)) (frames : List (ℕ × WaitingFrame)) → IsStrictlySortedBy nat_cmp (keys_of ws) → ((n : ℕ) (x : Crossing) → Among (n, x) ws → IsWhole x.packet) → frames ≡ map (frame_of_crossing keys) ws
-    → crossings_of (all_names ws) frames ≡ ws
-crossings_held keys ws frames sorted whole are = crossings_back keys ws frames whole (λ n x m. ap (λ fs. numbered fs n) are ∙ own_frames keys ws sorted n x m)
-
 -- ---- names that come and go
 
 -- a crossing that is kept is told by its names and the frame of its number
@@ -127,15 +122,38 @@ insert_named frames (e ∷ es) n own = by (nat_cmp n e.0) refl (insert_named fra
 pub removed_names : (names : List (ℕ × CrossingNames)) (frames : List (ℕ × WaitingFrame)) (n : ℕ) → remove_entry (is_at (nat_cmp n)) names ≡ all_names (remove_entry (is_at (nat_cmp n)) (crossings_of names frames))
 removed_names names frames n = ap (λ l. remove_entry (is_at (nat_cmp n)) l) (sym (names_back names frames)) ∙ removed_map names_of (crossings_of names frames) n
 
+-- the names of those that wait on where the crossing of the number arrives
+abbrev pub names_on : Bool → ℕ → List (ℕ × CrossingNames) → List (ℕ × CrossingNames)
+names_on true n names = names
+names_on false n names = remove_entry (is_at (nat_cmp n)) names
+
+-- they are those of the crossings that do
+pub on_named : (keep : Bool) (n : ℕ) (names : List (ℕ × CrossingNames)) (frames : List (ℕ × WaitingFrame)) → names_on keep n names ≡ all_names (waiting_on keep n (crossings_of names frames))
+on_named true n names frames = sym (names_back names frames)
+on_named false n names frames = removed_names names frames n
+
+pub removed_named : (n : ℕ) (names : List (ℕ × CrossingNames)) (frames : List (ℕ × WaitingFrame)) → remove_entry (is_at (nat_cmp n)) (crossings_of names frames) ≡ crossings_of (remove_entry (is_at (nat_cmp n)) names) frames
+removed_named n [] frames = refl
+removed_named n (e ∷ es) frames = by (is_at (nat_cmp n) e.0) (removed_named n es frames)
+  where
+    first : ℕ × Crossing
+    first = (e.0, crossing_of e.1 (frame_under frames e.0))
+
+    by : (b : Bool) → remove_entry (is_at (nat_cmp n)) (crossings_of es frames) ≡ crossings_of (remove_entry (is_at (nat_cmp n)) es) frames
+        → cond b (crossings_of es frames) (first ∷ remove_entry (is_at (nat_cmp n)) (crossings_of es frames)) ≡ crossings_of (cond b es (e ∷ remove_entry (is_at (nat_cmp n)) es)) frames
+    by true rest = refl
+    by false rest = ap (λ l. first ∷ l) rest
+
+-- and give these back
+pub named_on : (keep : Bool) (n : ℕ) (names : List (ℕ × CrossingNames)) (frames : List (ℕ × WaitingFrame)) → waiting_on keep n (crossings_of names frames) ≡ crossings_of (names_on keep n names) frames
+named_on true n names frames = refl
+named_on false n names frames = removed_named n names frames
+
 -- a crossing waits under a number that has names
 pub named_waits : (names : List (ℕ × CrossingNames)) (frames : List (ℕ × WaitingFrame)) (n : ℕ) → numbered names n ≡ option_map names_of (numbered (crossings_of names frames) n)
 named_waits names frames n = ap (λ l. numbered l n) (sym (names_back names frames)) ∙ numbered_map names_of (crossings_of names frames) n
 
 -- ---- worlds
-
--- the crossings of a state that is held are those of their names and of the frames that wait
-pub seen_held : (m : State) (zones : Zoned) (s : SimState) (names : List (ℕ × CrossingNames)) → AreCrossings m → AreHeld m zones s → names ≡ all_names m.waiting → crossings_of names s.waiting ≡ m.waiting
-seen_held m zones s names crossings held are = ap (λ ns. crossings_of ns s.waiting) are ∙ crossings_held m.keys m.waiting s.waiting crossings.in_order (λ n x among. (crossings.may n x among).whole) held.waiting
 
 module _ (k : State) (first ws : List (ℕ × Crossing)) (s : SimState) (all : k.waiting ≡ first ++ ws) (crossings : AreCrossings k) (frames_are : s.waiting ≡ map (frame_of_crossing k.keys) k.waiting) where
   sorted : IsStrictlySortedBy nat_cmp (keys_of (first ++ ws))
@@ -144,7 +162,7 @@ module _ (k : State) (first ws : List (ℕ × Crossing)) (s : SimState) (all : k
   frames_of_all : s.waiting ≡ map (frame_of_crossing k.keys) (first ++ ws)
   frames_of_all = frames_are ∙ ap (λ l. map (frame_of_crossing k.keys) l) all
 
-  -- the first of them are so too, where the frames of all wait
+  -- the first of its crossings are those of their names, where the frames of all wait
   pub seen_front : (names : List (ℕ × CrossingNames)) → names ≡ all_names first → crossings_of names s.waiting ≡ first
   seen_front names are =
       ap (λ ns. crossings_of ns s.waiting) are

@@ -46,7 +46,7 @@ pub record IsAccepted (old : WorldView) (event : Event) (before after : List ℕ
   pub step : net.NetworkStep old.state event effects new.state
   pub passed : Passes old.state.clock old.sim event (record { effects = effects; walks = new.walks }) new.sim
   pub zones : Rezones event old.zones new.zones
-  pub lists : moves_packets event ≡ false → Relists event old.state.clock new.zones old.sim new.sim
+  pub lists : moves_packets event ≡ false → Relists event old.state.clock old.zones new.zones old.sim new.sim
   pub text : after ≡ before ++ accepted_lines (event_count old.state + 1) effects (matched new.walks)
 
 -- a refused event: it counts, and nothing else changes

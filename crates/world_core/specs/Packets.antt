@@ -2,7 +2,7 @@
 use Rattle.inet_packet.specs.Frame.{frame_of}
 use Rattle.inet_packet.specs.Whole.{IsWhole}
 use Rattle.inet_packet.specs.declared.packet.Packet as inet
-use Rattle.std.specs.Prelude.{◌≡◌, ◌++◌, ◌+◌, ◌^◌, ℕ, Bool, List, length, map, Some}
+use Rattle.std.specs.Prelude.{◌≡◌, ◌++◌, ◌+◌, ℕ, Bool, List, length, map, Some}
 use Rattle.std.specs.List.Sorted.{IsStrictlySortedBy}
 use Rattle.std.specs.Map.{keys_of}
 use Rattle.std.specs.Ordering.{nat_cmp}
@@ -39,23 +39,23 @@ pub record IsPacketOf (packet : inet.Packet) (frame : List ℕ) : Type 0 where
   pub whole : IsWhole packet
   pub frame_is : frame_of packet ≡ frame
 
--- how many frames an event may send, beside those for which its number of events leaves room
-abbrev pub most_sent : ℕ
-most_sent = 2 ^ 64
+-- how many frames are among the effects
+abbrev pub sent_among : List NetEffect → ℕ
+sent_among effects = length (frames_sent effects)
 
 -- the state with other connection lists and crossings
 abbrev pub state_with : State → Lists → List (ℕ × Crossing) → ℕ → State
 state_with m lists waiting next = record m { lists = lists; waiting = waiting; next = next }
 
 -- The packets did this on the simulated chassis, and their effects are those of the ends to which the network takes them; the world holds the state
--- that it leaves, and nothing else of it changed.
+-- that it leaves, and nothing else of it changed. Each frame that was sent is among the effects.
 pub record HasPassed (old : WorldView) (before after : SimOut) (new : WorldView) (Passed : held.SimState → SimOut → SimOut → held.SimState → Type 0) (Moved : State → List End → State → Type 0) : Type 0 where
   pub passed : Passed old.sim before after new.sim
   pub ends : List End
   pub effects : after.effects ≡ before.effects ++ effects_of old.state.keys old.state.next ends
   pub moved : Moved old.state ends new.state
   pub still : new.state ≡ state_with old.state new.state.lists new.state.waiting (old.state.next + length (crossings_in ends))
-  pub under_way : IsUnderWay new.state new.zones most_sent
+  pub under_way : IsUnderWay new.state new.zones (sent_among after.effects)
   pub held : AreHeld new.state new.zones new.sim
   pub rest : new ≡ record old { state = new.state; sim = new.sim }
 

@@ -39,7 +39,7 @@ pub record IsDone (old : WorldView) (event : Event) (effects : List NetEffect) (
   pub passed : Passes old.state.clock old.sim event (record { effects = effects; walks = walks }) new.sim
   pub counts : count ≡ matched walks
   pub zones : Rezones event old.zones new.zones
-  pub lists : moves_packets event ≡ false → Relists event old.state.clock new.zones old.sim new.sim
+  pub lists : moves_packets event ≡ false → Relists event old.state.clock old.zones new.zones old.sim new.sim
   pub now : IsTaken new
 
 -- what an event of packets does or why it is refused, before it is told; refused it does nothing

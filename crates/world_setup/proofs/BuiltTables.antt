@@ -1,5 +1,5 @@
--- Who has a key by the records has a live one, and their rows can be lowered; the switch of a port is there, and there are not too many ports.
-use Rattle.std.specs.Prelude.{◌≡◌, ◌≤◌, length, true, [], Option, Some, None, IsSome, is_some, option_map}
+-- Who has a key by the records has a live one, and their rows can be lowered; the switch of a port is there, and there are not too many ports and routers.
+use Rattle.std.specs.Prelude.{◌≡◌, ◌≤◌, true, length, [], Option, Some, None, IsSome, is_some, option_map}
 use Rattle.std.proofs.Common.{arith}
 use Rattle.nb_records.specs.Network.{Network, records_of}
 use Rattle.nb_records.specs.declared.record.Record.{Record}
@@ -40,6 +40,9 @@ pub on_switch : (net : Network) → IsValid net → (q : Name) (port : SwitchPor
 on_switch net valid q port found =
     there_some (at net.switches port.switch) (among_all (λ (r : Record). AreThere net (references_of r)) (row.SwitchPort port) (records_of net) ((unbroken net []).0 valid.unbroken).references (port_row net valid q port found)).0
 
--- there are not too many ports
+-- there are not too many ports, and not too many routers
 pub few_ports : (net : Network) → IsValid net → length net.switch_ports ≤ 10000
 few_ports net valid = let ports = ((unbroken net []).0 valid.unbroken).ports in omega (arith, ports)
+
+pub few_routers : (net : Network) → IsValid net → length net.routers ≤ 1024
+few_routers net valid = let datapaths = ((unbroken net []).0 valid.unbroken).datapaths in omega (arith, datapaths)

@@ -1,7 +1,7 @@
 -- A consistent state stays so where a chassis or a binding comes.
 use Rattle.net_model.proofs.ListLaws.{turned_keep}
 use Rattle.net_model.specs.Transition.{turned_by, add_chassis, bind}
-use Rattle.std.specs.Prelude.{◌≡◌, ◌<◌, ◌^◌, IsSome, length, true, refl}
+use Rattle.std.specs.Prelude.{◌≡◌, ◌<◌, ◌^◌, IsSome, true, refl}
 use Rattle.std.proofs.Common.{arith, ap, sym, ◌∙◌, inl, inr}
 use Rattle.ovn_base.specs.lists.Among.{Among}
 use Rattle.ovn_base.specs.declared.name.Name.{Name}
@@ -9,36 +9,34 @@ use Rattle.ovn_base.specs.names.ByName.{at}
 use Rattle.ovn_base.proofs.ByNameLaws.{put_cases}
 use Rattle.conn_zones.specs.Rezoning.{IsRezoned}
 use Rattle.conn_zones.specs.Zoning.{Zoned}
+use Rattle.physical_flows.specs.Bindings.{AreBound}
 use Rattle.sim_laws.specs.journeys.UnderWay.{BoundAreVirtual}
 use Rattle.sim_laws.proofs.turn_laws.TurnedLists.{turned_at_home}
 use Rattle.world_setup.specs.Consistent.{IsConsistent}
 use Rattle.world_setup.specs.Refusing.{is_virtual_port}
 use Rattle.net_model.specs.State.{State, event_count, finished}
 use Rattle.world_setup.specs.Zones.{home_change}
-use Rattle.world_setup.proofs.NamesInOrder.{name_kept, names_few, names_sorted}
-use Rattle.world_setup.proofs.RecordChanges.{bound_kept, bound_fresh, born_kept}
+use Rattle.world_setup.proofs.RecordChanges.{bound_fresh, born_kept}
 use Rattle.world_setup.proofs.WaitingFrames.{same_kept, way_on}
 use Rattle.world_setup.proofs.FreedKeys.{clock_still, counted, finished_consistent}
 
 module _ (m : State) (zones : Zoned) (old : IsConsistent m zones) (room : event_count m < 2 ^ 42) where
   -- ---- a chassis
 
-  pub chassis_comes : (c : Name) → length m.config.chassis < 64 → IsConsistent (finished (turned_by (add_chassis m.config c) m)) zones
-  chassis_comes c few =
+  pub chassis_comes : (c : Name) (after : Zoned) → AreBound (add_chassis m.config c).next after → IsConsistent (finished (turned_by (add_chassis m.config c) m)) after
+  chassis_comes c after bound =
       let mid = turned_by (add_chassis m.config c) m in
       let n = counted mid in
-      let more = names_few m.config.chassis c in
-      finished_consistent mid zones (record {
+      finished_consistent mid after (record {
         built = old.built;
         clock = clock_still m.clock m.accepted m.refused old.clock;
         lists = turned_keep (add_chassis m.config c) m old.lists;
         at_rest = record {
           valid = old.at_rest.valid;
-          distributed = old.at_rest.distributed;
           bound_virtual = old.at_rest.bound_virtual;
           at_home = turned_at_home m (add_chassis m.config c);
           keys = old.at_rest.keys;
-          bound = bound_kept m n zones old.at_rest.bound refl (λ q h. h) (λ d h. name_kept m.config.chassis c d h) (names_sorted m.config.chassis c old.at_rest.bound.chassis_sorted) (omega (arith, few, more));
+          bound = bound;
           born = born_kept m n old.at_rest.born (omega arith) (λ h. absurd (omega arith)) refl refl;
           on_the_way = way_on m n old.at_rest.born (same_kept m n refl refl old.at_rest.keys.hold) old.at_rest.on_the_way refl refl (omega arith) (λ h. omega arith);
           few = omega (arith, room);
@@ -57,7 +55,6 @@ module _ (m : State) (zones : Zoned) (old : IsConsistent m zones) (room : event_
         lists = turned_keep (bind m.config p c) m old.lists;
         at_rest = record {
           valid = old.at_rest.valid;
-          distributed = old.at_rest.distributed;
           bound_virtual = still_virtual;
           at_home = turned_at_home m (bind m.config p c);
           keys = old.at_rest.keys;

@@ -1,10 +1,11 @@
 -- A planned edit: what it does to the state, and that the state stays consistent.
-use Rattle.std.specs.Prelude.{◌≡◌, ◌<◌, ◌+◌, ◌^◌, ◌↔◌, ℕ, List, [], None, Some, IsSome, map, option_map, true, refl, false}
+use Rattle.std.specs.Prelude.{◌≡◌, ◌<◌, ◌+◌, ◌^◌, ◌↔◌, ℕ, List, [], None, Some, IsSome, map, true, refl}
 use Rattle.std.proofs.Common.{arith, sym, ap, subst, ◌∙◌, inl, inr}
 use Rattle.std.proofs.lemmas.Option.{same_Some}
 use Rattle.chassis_sim.specs.Settings.{set_in_turn}
 use Rattle.chassis_sim.specs.declared.change.SimChange.{SimChange}
-use Rattle.conn_zones.specs.Zoning.{Zoned}
+use Rattle.conn_zones.specs.Rezoning.{IsHomeChange, IsRezoned}
+use Rattle.conn_zones.specs.Zoning.{KnownHomes, Zoned}
 use Rattle.edit_reader.specs.Fitting.{IsEventInGrammar}
 use Rattle.edit_reader.specs.declared.event.Event.TheVariants as event_of
 use Rattle.nb_edits.proofs.RecordLaws.{same_birth}
@@ -17,7 +18,6 @@ use Rattle.nb_records.specs.Switches.{is_virtual_kind}
 use Rattle.nb_records.specs.declared.switch.SwitchPort.{SwitchPort}
 use Rattle.nb_records.specs.declared.change.Op.{Op}
 use Rattle.nb_edits.specs.declared.plan.EditPlan.{EditPlan}
-use Rattle.nb_rules.specs.Valid as rules
 use Rattle.net_model.proofs.ListLaws.{turned_keep}
 use Rattle.net_model.specs.Owners.{owners_only_in}
 use Rattle.net_model.specs.State.{State, event_count, finished}
@@ -35,13 +35,16 @@ use Rattle.physical_flows.specs.declared.unit.FlowUnit.{FlowUnit}
 use Rattle.physical_flows.specs.declared.unit.FlowUnit.TheVariants as unit
 use Rattle.world_setup.specs.Consistent.{IsConsistent}
 use Rattle.net_model.specs.Transition.{edit, identity_at, is_still_there}
-use Rattle.sim_laws.specs.journeys.TurnedZones.{IsTurnOfZones}
+use Rattle.physical_flows.specs.Bindings.{AreBound}
+use Rattle.sim_laws.specs.journeys.TurnedZones.{IsTurnOfZones, OnlyComeHome, coming_home, routers_coming, zones_begun}
 use Rattle.sim_laws.specs.journeys.UnderWay.{BoundAreVirtual, IsUnderWay}
 use Rattle.sim_laws.proofs.journey_laws.Finishing.{begins}
+use Rattle.sim_laws.proofs.turn_laws.ComingHome.{comes_home}
 use Rattle.sim_laws.proofs.turn_laws.KeepingTurns.{edits_keep}
-use Rattle.sim_laws.proofs.turn_laws.KeptHomes.{keeps_homes}
 use Rattle.sim_laws.proofs.turn_laws.TurnedLists.{turned_at_home}
 use Rattle.world_setup.proofs.BuiltTables.{on_switch}
+use Rattle.world_setup.proofs.ComingHomes.{begun_by_homes, bound_home, homes_after, may_come_home, number_same, rezoned_by_homes}
+use Rattle.world_setup.proofs.TurnedUnits.{PortsKeep}
 use Rattle.sim_laws.specs.Sound.{AreBorn}
 use Rattle.switch_engine.specs.declared.effect.NetEffect.{NetEffect}
 use Rattle.tunnel_keys.proofs.Births.{born_later}
@@ -54,6 +57,7 @@ use Rattle.world_setup.specs.Built.{IsBuilt, is_built_edit}
 use Rattle.world_setup.specs.Editing.{edited, next_net, Edits}
 use Rattle.world_setup.specs.KeyCauses.{key_lack}
 use Rattle.world_setup.specs.Ground.{ground_of}
+use Rattle.world_setup.specs.Homecoming.{homes_by}
 use Rattle.world_setup.specs.KeyLines.{key_effects, key_name}
 use Rattle.world_setup.specs.Refusing.{refusal}
 use Rattle.world_setup.specs.Touched.{touched_by}
@@ -63,12 +67,11 @@ use Rattle.world_setup.proofs.EditedNames.{AreNamesOf, names_listed, names_set}
 use Rattle.world_setup.proofs.EditedRecords.{edited_built}
 use Rattle.world_setup.proofs.StayingOwners.{bindings_stay, none_gone, still_there}
 use Rattle.world_setup.proofs.StayingRecords.{ports_stay, router_ports_stay, routers_stay, switches_stay}
-use Rattle.world_setup.proofs.TouchedRecords.{port_kept, port_with_switch, router_kept, router_port_kept, router_port_touched, switch_kept, to_router_touched}
+use Rattle.world_setup.proofs.TouchedRecords.{port_kept, port_with_switch, router_port_touched, switch_kept, to_router_touched}
 use Rattle.world_setup.proofs.EditedWaiting.{edit_kept}
 use Rattle.world_setup.proofs.FreedKeys.{clock_still, counted, finished_consistent}
 use Rattle.world_setup.proofs.KeyLacks.{IsLack, datapaths_after, enough_keys, lack_is}
 use Rattle.world_setup.proofs.NewKeys.{given_beside}
-use Rattle.world_setup.proofs.RecordChanges.{bound_kept}
 use Rattle.world_setup.proofs.RefusedTurns.{edit_allowed}
 use Rattle.world_setup.proofs.WaitingFrames.{AreKept, frames_same, way_on}
 
@@ -162,8 +165,8 @@ module _ (m : State) (zones : Zoned) (old : IsConsistent m zones) (room : event_
       bindings_stay net ops (event_count m + 1) old.at_rest.valid grammar.each planned.faultless planned.built m.config.bindings
       (λ e among. old.at_rest.bound.port_there e.0 e.1 (among_at e.0 e.1 m.config.bindings old.at_rest.bound.bindings_sorted among))
 
-  pub mid_ground : ground_of mid zones ≡ record { config = record m.config { net = next }; keys = keys; zones = zones }
-  mid_ground = λ i. record { config = record m.config { net = next; bindings = bindings_are i }; keys = keys; zones = zones }
+  pub mid_ground : (after : Zoned) → ground_of mid after ≡ record { config = record m.config { net = next }; keys = keys; zones = after }
+  mid_ground after = λ i. record { config = record m.config { net = next; bindings = bindings_are i }; keys = keys; zones = after }
 
   pub edits_so : (effects : List NetEffect) → effects ≡ key_effects plan.added keys → Edits m ops effects mid
   edits_so effects named = record {
@@ -187,43 +190,25 @@ module _ (m : State) (zones : Zoned) (old : IsConsistent m zones) (room : event_
     none = λ h. absurd (omega (arith, h));
   }
 
-  pub consistent_then : IsConsistent (finished mid) zones
-  consistent_then = finished_consistent mid zones (record {
-    built = next_built;
-    clock = clock_still m.clock m.accepted m.refused old.clock;
-    lists = turned_keep (edit m.config next) m old.lists;
-    at_rest = record {
-      valid = sound.valid;
-      distributed = next_built.distributed;
-      bound_virtual = still_virtual;
-      at_home = turned_at_home m (edit m.config next);
-      keys = have;
-      bound = bound_kept m (counted mid) zones old.at_rest.bound bindings_are (λ q h. port_there q h) (λ c h. h) old.at_rest.bound.chassis_sorted old.at_rest.bound.few_chassis;
-      born = born_then;
-      on_the_way = way_on m (counted mid) old.at_rest.born kept_then old.at_rest.on_the_way refl refl (omega arith) (λ h. omega arith);
-      few = omega (arith, room);
-    };
-  })
-    where
-      port_there : (q : Name) → IsSome (at net.switch_ports q) → IsSome (at next.switch_ports q)
-      port_there q h =
-          let port = some_of (at net.switch_ports q) h in
-          let stays = records_from.ports q port.0 port.1 in
-          is_some_of (at next.switch_ports q) stays.0 stays.1
+  port_stays : (q : Name) → IsSome (at net.switch_ports q) → IsSome (at next.switch_ports q)
+  port_stays q h =
+      let port = some_of (at net.switch_ports q) h in
+      let stays = records_from.ports q port.0 port.1 in
+      is_some_of (at next.switch_ports q) stays.0 stays.1
 
-      -- each port that is bound was so before, and keeps its kind
-      still_virtual : BoundAreVirtual (counted mid).config
-      still_virtual q chassis port bound is =
-          let was : at m.config.bindings q ≡ Some chassis = ap (λ l. at l q) (sym bindings_are) ∙ bound in
-          let had = some_of (at net.switch_ports q) (old.at_rest.bound.port_there q chassis was) in
-          let stays = records_from.ports q had.0 had.1 in
-          let same : port ≡ stays.0 = same_Some port stays.0 (sym is ∙ stays.1) in
-          ap is_virtual_kind (ap (λ (p : SwitchPort). p.kind) same ∙ stays.4) ∙ old.at_rest.bound_virtual q chassis had.0 was had.1
+  -- each port that is bound was so before, and keeps its kind
+  still_virtual : BoundAreVirtual (counted mid).config
+  still_virtual q chassis port bound is =
+      let was : at m.config.bindings q ≡ Some chassis = ap (λ l. at l q) (sym bindings_are) ∙ bound in
+      let had = some_of (at net.switch_ports q) (old.at_rest.bound.port_there q chassis was) in
+      let stays = records_from.ports q had.0 had.1 in
+      let same : port ≡ stays.0 = same_Some port stays.0 (sym is ∙ stays.1) in
+      ap is_virtual_kind (ap (λ (p : SwitchPort). p.kind) same ∙ stays.4) ∙ old.at_rest.bound_virtual q chassis had.0 was had.1
 
-      kept_then : AreKept m (counted mid)
-      kept_then = edit_kept m (counted mid) (owners_only_in next net) next keys (event_count m + 1) old.at_rest.keys.hold after.hold gives (omega arith) records_from sound.owners refl refl
+  kept_then : AreKept m (counted mid)
+  kept_then = edit_kept m (counted mid) (owners_only_in next net) next keys (event_count m + 1) old.at_rest.keys.hold after.hold gives (omega arith) records_from sound.owners refl refl
 
-  -- ---- lists
+  -- ---- who comes home
 
   -- each bound port stays
   still : (q c : Name) → at m.config.bindings q ≡ Some c → is_still_there next (identity_at net q) ≡ true
@@ -234,8 +219,50 @@ module _ (m : State) (zones : Zoned) (old : IsConsistent m zones) (room : event_
   under : IsUnderWay m zones 0
   under = begins m zones old.at_rest
 
-  lists_then : (emptied : List (Name × ℕ)) → emptied ≡ [] → IsTurnOfZones m (edit m.config next) zones.numbers zones.numbers emptied
-  lists_then emptied none = subst (λ l. IsTurnOfZones m (edit m.config next) zones.numbers zones.numbers l) (sym none) (keeps_homes m zones 0 (edit m.config next) under (edits_keep m zones 0 next under sound.valid next_built.distributed still)).1
+  only_come : OnlyComeHome m (edit m.config next)
+  only_come = edits_keep m zones 0 next under sound.valid still (routers_stay net ops (event_count m + 1) old.at_rest.valid grammar.each planned.faultless planned.built)
+
+  -- gateway routers that the edit adds may come home
+  pub edit_brings : IsHomeChange zones.homes (coming_home zones.homes (homes_by zones.homes next m.config.chassis))
+  edit_brings = may_come_home m.config zones old.at_rest.bound next sound.valid m.config.chassis port_stays only_come.routers
+
+  module _ (later : Zoned) (rezoned : IsRezoned zones (coming_home zones.homes (homes_by zones.homes next m.config.chassis)) later) where
+    pub edit_homes : later.homes.ports ≡ m.config.bindings
+    edit_homes = ap (λ (h : KnownHomes). h.ports) (homes_after m.config zones old.at_rest.bound next sound.valid m.config.chassis port_stays only_come.routers later rezoned)
+
+    pub edit_numbers : PortsKeep m zones old later
+    edit_numbers q d = number_same m.config zones old.at_rest.bound next sound.valid m.config.chassis port_stays only_come.routers later rezoned q d
+
+    rezoned_then : IsRezoned zones (coming_home zones.homes later.homes) later
+    rezoned_then = rezoned_by_homes m.config zones old.at_rest.bound next sound.valid m.config.chassis port_stays only_come.routers later rezoned
+
+    bound_then : AreBound mid.config later
+    bound_then =
+        subst (λ (b : List (Name × Name)). AreBound (record m.config { net = next; bindings = b }) later) (sym bindings_are)
+        (bound_home m.config zones old.at_rest.bound next sound.valid m.config.chassis port_stays only_come.routers later rezoned (λ c h. h) old.at_rest.bound.chassis_sorted old.at_rest.bound.few_chassis)
+
+    pub consistent_then : IsConsistent (finished mid) later
+    consistent_then = finished_consistent mid later (record {
+      built = next_built;
+      clock = clock_still m.clock m.accepted m.refused old.clock;
+      lists = turned_keep (edit m.config next) m old.lists;
+      at_rest = record {
+        valid = sound.valid;
+        bound_virtual = still_virtual;
+        at_home = turned_at_home m (edit m.config next);
+        keys = have;
+        bound = bound_then;
+        born = born_then;
+        on_the_way = way_on m (counted mid) old.at_rest.born kept_then old.at_rest.on_the_way refl refl (omega arith) (λ h. omega arith);
+        few = omega (arith, room);
+      };
+    })
+
+    begun_then : (emptied : List (Name × ℕ)) → emptied ≡ zones_begun later.numbers (routers_coming zones.homes (homes_by zones.homes next m.config.chassis)) → emptied ≡ zones_begun later.numbers (routers_coming zones.homes later.homes)
+    begun_then emptied is = begun_by_homes m.config zones old.at_rest.bound next sound.valid m.config.chassis port_stays only_come.routers later rezoned emptied is
+
+    lists_then : (emptied : List (Name × ℕ)) → emptied ≡ zones_begun later.numbers (routers_coming zones.homes later.homes) → IsTurnOfZones m (edit m.config next) zones.numbers later.numbers emptied
+    lists_then emptied begun = subst (λ l. IsTurnOfZones m (edit m.config next) zones.numbers later.numbers l) (sym begun) (comes_home m zones later 0 (edit m.config next) under bound_then only_come rezoned_then)
 
   -- ---- nothing is refused
 
@@ -275,21 +302,22 @@ module _ (m : State) (zones : Zoned) (old : IsConsistent m zones) (room : event_
       subst (λ l. AreNamesOf keys (owners_only_in next net) l) (sym (is ∙ ap (λ owners. map (key_name keys) owners) planned.stands.added))
       (names_listed m.keys keys (owners_only_in next net) (given_beside m.keys (owners_only_in next net) keys gives) (key_name keys) (λ a birth. refl) (λ d q birth. refl))
 
-  pub edit_turned : (effects : List NetEffect) → effects ≡ key_effects plan.added keys → (change : SimChange TupleSpace) → change.bound ≡ [] → change.emptied ≡ [] → change.names ≡ map (key_name keys) plan.added
-      → IsTurned m zones (event_of.Edit ops) effects change (record { config = record m.config { net = next }; keys = keys; zones = zones })
-  edit_turned effects named change bound emptied names = record {
+  pub edit_turned : (later : Zoned) → IsRezoned zones (coming_home zones.homes (homes_by zones.homes next m.config.chassis)) later → (effects : List NetEffect) → effects ≡ key_effects plan.added keys
+      → (change : SimChange TupleSpace) → change.bound ≡ [] → change.emptied ≡ zones_begun later.numbers (routers_coming zones.homes (homes_by zones.homes next m.config.chassis)) → change.names ≡ map (key_name keys) plan.added
+      → IsTurned m zones (event_of.Edit ops) effects change (record { config = record m.config { net = next }; keys = keys; zones = later })
+  edit_turned later rezoned effects named change bound emptied names = record {
     allowed = allowed;
     turn = edit m.config next;
     keys = keys;
     does = edits_so effects named;
-    ground = mid_ground;
-    consistent = consistent_then;
+    ground = mid_ground later;
+    consistent = consistent_then later rezoned;
     unretired = unretired;
-    zones = refl;
-    emptied = emptied;
+    zones = rezoned_then later rezoned;
+    emptied = begun_then later rezoned change.emptied emptied;
     frames = frames_same m mid old.at_rest.born kept old.at_rest.keys.hold m.waiting old.at_rest.on_the_way.crossings.may;
-    lists = lists_then change.emptied emptied;
+    lists = lists_then later rezoned change.emptied (begun_then later rezoned change.emptied emptied);
     bindings = λ q. ap (λ l. set_in_turn same_name l q (at m.config.bindings q)) bound ∙ ap (λ l. at l q) (sym bindings_are);
-    names = λ before later called set.
-        names_set next m.keys keys (owners_only_in next net) change.names before later old.at_rest.keys.hold have (given_beside m.keys (owners_only_in next net) keys gives) (are_names change.names names) set called;
+    names = λ before later' called set.
+        names_set next m.keys keys (owners_only_in next net) change.names before later' old.at_rest.keys.hold have (given_beside m.keys (owners_only_in next net) keys gives) (are_names change.names names) set called;
   }

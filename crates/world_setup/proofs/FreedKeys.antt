@@ -26,7 +26,6 @@ module _ (c : State) (zones : Zoned) (old : IsAtRest c zones) where
   settle : c.waiting ≡ [] → IsAtRest (under (settled c.keys)) zones
   settle e = record {
     valid = old.valid;
-    distributed = old.distributed;
     bound_virtual = old.bound_virtual;
     keys = record {
       hold = settled_hold c.keys old.keys.hold;

@@ -1,6 +1,8 @@
 -- Lemmas.
 pub mod ApartTables
 pub mod BuiltTables
+pub mod Comers
+pub mod ComingHomes
 pub mod ComingOwners
 pub mod ConsistentTurns
 pub mod Counts

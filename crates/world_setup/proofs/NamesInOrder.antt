@@ -16,15 +16,6 @@ use Rattle.ovn_base.proofs.ByNameLaws.{put_sorted, same_name}
 
 -- ---- those that are there afterwards
 
-pub name_kept : (names : List Name) (name c : Name) → Among c names → Among c (insert_key (slice_cmp nat_cmp) names name)
-name_kept [] name c among = absurd (among_none c among)
-name_kept (d ∷ names) name c among = by (slice_cmp nat_cmp name d) (name_kept names name c)
-  where
-    by : (o : Ordering) → (Among c names → Among c (insert_key (slice_cmp nat_cmp) names name)) → Among c (match_ordering o (name ∷ d ∷ names) (d ∷ names) (d ∷ insert_key (slice_cmp nat_cmp) names name))
-    by Less ih = there among
-    by Equal ih = among
-    by Greater ih = elim (among_cases c d names among) [ inl same ↦ among_same c d (insert_key (slice_cmp nat_cmp) names name) same | inr later ↦ there (ih later) ]
-
 pub name_put : (names : List Name) (name : Name) → Among name (insert_key (slice_cmp nat_cmp) names name)
 name_put [] name = here
 name_put (d ∷ names) name = by (slice_cmp nat_cmp name d) refl (name_put names name)

@@ -24,6 +24,7 @@ use Rattle.ovn_base.specs.names.ByName.{at, put}
 use Rattle.ovn_base.specs.names.SameName.{bytes_decides, same_name}
 use Rattle.ovn_base.proofs.AmongLaws.{among_any}
 use Rattle.ovn_base.proofs.ByNameLaws.{put_there}
+use Rattle.physical_flows.specs.Touching.{HasLeading}
 use Rattle.physical_flows.specs.Units.{ChangeOnly}
 use Rattle.physical_flows.specs.declared.unit.FlowUnit.{FlowUnit}
 use Rattle.switch_engine.specs.declared.effect.NetEffect.{NetEffect}
@@ -34,8 +35,10 @@ use Rattle.world_setup.specs.Editing.{next_net}
 use Rattle.world_setup.specs.KeyLines.{key_effects, key_name}
 use Rattle.world_setup.specs.Refusing.{is_virtual_port, refusal}
 use Rattle.world_setup.specs.Setup.{AreTouched, HasDelta, IsTurnOfTables, lowering_in, rows_on, units_of}
-use Rattle.world_setup.specs.Touched.{touched_by}
+use Rattle.world_setup.specs.Homecoming.{homes_by}
+use Rattle.world_setup.specs.Touched.{leading_units, touched_by}
 use Rattle.world_setup.specs.Turning.{IsPlannedEdit, IsTurned, LacksFor, MayTurn, Tells, fault_of_keys}
+use Rattle.sim_laws.specs.journeys.TurnedZones.{coming_home, routers_coming, zones_begun}
 use Rattle.world_setup.specs.Zones.{home_change}
 use Rattle.world_setup.specs.declared.ground.GroundChange.{GroundChange}
 use Rattle.world_setup.specs.Consistent.{IsConsistent}
@@ -43,7 +46,7 @@ use Rattle.conn_zones.specs.Zoning.{KnownHomes, Zoned, number_on}
 use Rattle.conn_zones.specs.declared.numbers.ZoneUse.TheVariants.{Port}
 use Rattle.northd_core.specs.Lowering.{CanCompile}
 use Rattle.physical_flows.specs.Switched.{IsKeyed}
-use Rattle.world_setup.proofs.BuiltTables.{can_compile, few_ports, keyed}
+use Rattle.world_setup.proofs.BuiltTables.{can_compile, few_ports, few_routers, keyed}
 use Rattle.event_lines.specs.declared.refusal.Refusal.TheVariants as why
 use Rattle.event_lines.specs.declared.refusal.StepFault.{StepFault}
 use Rattle.event_lines.specs.declared.refusal.StepFault.TheVariants.{Refused, Memory}
@@ -59,13 +62,14 @@ use Rattle.world_setup.specs.Built.{is_built_edit}
 use Rattle.world_setup.specs.KeyCauses.{datapath_keys, key_lack, port_keys}
 use Rattle.world_setup.proofs.KeyLacks.{IsLack}
 use Rattle.world_setup.proofs.RefusedTurns.{bind_allowed, bind_no_chassis, chassis_allowed, chassis_full, edit_faulty, edit_lacks}
-use Rattle.world_setup.proofs.EditedStates.{after, edit_fits, edit_lack, edit_turned, fits, have, same_beside, sound}
+use Rattle.world_setup.proofs.EditedStates.{after, edit_brings, edit_fits, edit_homes, edit_lack, edit_numbers, edit_turned, fits, have, same_beside, sound}
 use Rattle.world_setup.proofs.SetupTurns.{units_once}
 use Rattle.world_setup.proofs.PortHomes.{can_come, homes_after}
 use Rattle.world_setup.proofs.Refusals.{chassis_new}
 use Rattle.world_setup.proofs.Names.{names_once}
-use Rattle.world_setup.proofs.TurnedHomes.{binding_turned, chassis_turned}
-use Rattle.world_setup.proofs.TurnedUnits.{binding_units, chassis_units, edited_units, homes_bound}
+use Rattle.world_setup.proofs.TouchedRecords.{has_leading}
+use Rattle.world_setup.proofs.TurnedHomes.{binding_turned, chassis_brings, chassis_homes, chassis_numbers, chassis_turned}
+use Rattle.world_setup.proofs.TurnedUnits.{binding_units, chassis_units, edited_units}
 
 -- tables can be made of the records and the keys
 pub record AreTables (g : GroundView) : Type 0 where
@@ -104,27 +108,42 @@ tables_then h g same own change is s t added removed tables turn =
     } in
     subst (λ ch. IsTurnOfTables g (changed ch g) t) (sym is) (subst (λ x. IsTurnOfTables x (changed change x) t) same all)
 
+-- the homes that come, in the terms in which the setup has records and chassis
+module _ (g h : GroundView) (is : h ≡ g) (net other : Network) (same : other ≡ net) (names others : List Name) (equal : others ≡ names) where
+  together : ◌≡◌ {A = GroundView × Network × List Name} (h, other, others) (g, net, names)
+  together = λ i. (is i, same i, equal i)
+
+  pub may_come_there : IsHomeChange g.zones.homes (coming_home g.zones.homes (homes_by g.zones.homes net names)) → IsHomeChange h.zones.homes (coming_home h.zones.homes (homes_by h.zones.homes other others))
+  may_come_there may = subst (λ (t : GroundView × Network × List Name). IsHomeChange t.0.zones.homes (coming_home t.0.zones.homes (homes_by t.0.zones.homes t.1 t.2))) (sym together) may
+
+  pub rezoned_there : (later : Zoned) → IsRezoned h.zones (coming_home h.zones.homes (homes_by h.zones.homes other others)) later → IsRezoned g.zones (coming_home g.zones.homes (homes_by g.zones.homes net names)) later
+  rezoned_there later rezoned = subst (λ (t : GroundView × Network × List Name). IsRezoned t.0.zones (coming_home t.0.zones.homes (homes_by t.0.zones.homes t.1 t.2)) later) together rezoned
+
+  pub begun_there : (later : Zoned) (emptied : List (Name × ℕ)) → emptied ≡ zones_begun later.numbers (routers_coming h.zones.homes (homes_by h.zones.homes other others))
+      → emptied ≡ zones_begun later.numbers (routers_coming g.zones.homes (homes_by g.zones.homes net names))
+  begun_there later emptied begun = begun ∙ ap (λ (t : GroundView × Network × List Name). zones_begun later.numbers (routers_coming t.0.zones.homes (homes_by t.0.zones.homes t.1 t.2))) together
+
 -- ---- an edit
 
 -- the change of the ground that an edit makes
-abbrev pub edit_change : EditPlan → Keys → GroundChange
-edit_change plan keys = record { records = Some plan; chassis = None; keys = Some keys; zones = None }
+abbrev pub edit_change : EditPlan → Keys → Zoned → GroundChange
+edit_change plan keys later = record { records = Some plan; chassis = None; keys = Some keys; zones = Some later }
 
 module _ (m : State) (zones : Zoned) (old : IsConsistent m zones) (room : event_count m < 2 ^ 42) (ops : List Op) (grammar : IsEventInGrammar (event_of.Edit ops)) (plan : EditPlan) (keys : Keys)
-    (planned : IsPlannedEdit (ground_of m zones) (event_count m + 1) ops plan keys) where
+    (planned : IsPlannedEdit (ground_of m zones) (event_count m + 1) ops plan keys) (later : Zoned) (rezoned : IsRezoned zones (coming_home zones.homes (homes_by zones.homes (next_net m ops) m.config.chassis)) later) where
   abbrev next : Network
   next = next_net m ops
 
-  edit_ground : changed (edit_change plan keys) (ground_of m zones) ≡ record { config = record m.config { net = next }; keys = keys; zones = zones }
-  edit_ground = λ i. record { config = record m.config { net = planned.stands.after i; bindings = homes_bound m zones old i }; keys = keys; zones = zones }
+  edit_ground : changed (edit_change plan keys later) (ground_of m zones) ≡ record { config = record m.config { net = next }; keys = keys; zones = later }
+  edit_ground = λ i. record { config = record m.config { net = planned.stands.after i; bindings = edit_homes m zones old room ops grammar plan keys planned later rezoned i }; keys = keys; zones = later }
 
-  pub edit_tables_then : AreTables (changed (edit_change plan keys) (ground_of m zones))
+  pub edit_tables_then : AreTables (changed (edit_change plan keys later) (ground_of m zones))
   edit_tables_then = subst (λ g. AreTables g) (sym edit_ground) (record {
     keyed = keyed next keys (sound m zones old room ops grammar plan keys planned).valid (have m zones old room ops grammar plan keys planned);
     compiled = can_compile next keys (sound m zones old room ops grammar plan keys planned).valid (have m zones old room ops grammar plan keys planned);
   })
 
-  pub edit_is_readied : (units : List FlowUnit) → EachOnce units → ((u : FlowUnit) → Among u units ↔ Among u (touched_by m.config.net next ops)) → IsReadied (ground_of m zones) (edit_change plan keys) units
+  pub edit_is_readied : (units : List FlowUnit) → EachOnce units → ((u : FlowUnit) → Among u units ↔ Among u (touched_by m.config.net next ops)) → IsReadied (ground_of m zones) (edit_change plan keys later) units
   edit_is_readied units once are = record {
     fits = record {
       keys = record {
@@ -133,7 +152,11 @@ module _ (m : State) (zones : Zoned) (old : IsConsistent m zones) (room : event_
         fits = fits m zones old room ops grammar plan keys planned;
         gives = (after m zones old room ops grammar plan keys planned).gives;
       };
-      zones = tt;
+      zones = record {
+        change = coming_home zones.homes (homes_by zones.homes next m.config.chassis);
+        fits = edit_brings m zones old room ops grammar plan keys planned;
+        rezoned = rezoned;
+      };
     };
     once = names_once m.config.chassis old.at_rest.bound.chassis_sorted;
     tables = tables_of_state m zones old;
@@ -141,14 +164,16 @@ module _ (m : State) (zones : Zoned) (old : IsConsistent m zones) (room : event_
     touched_alone = record {
       once = once;
       only = λ d among. subst (λ g. ChangeOnly units (rows_on (ground_of m zones) d) (rows_on g d)) (sym edit_ground)
-          (edited_units m zones old next keys units (sound m zones old room ops grammar plan keys planned).valid.in_order.switch_ports (same_beside m zones old room ops grammar plan keys planned units are) d);
+          (edited_units m zones old next keys later units (edit_numbers m zones old room ops grammar plan keys planned later rezoned) (sound m zones old room ops grammar plan keys planned).valid.in_order.switch_ports
+          (same_beside m zones old room ops grammar plan keys planned units are) d);
     };
   }
 
-  pub edit_is_turned : (effects : List NetEffect) → effects ≡ key_effects plan.added keys → (change : SimChange TupleSpace) → change.bound ≡ [] → change.emptied ≡ [] → change.names ≡ map (key_name keys) plan.added
-      → IsTurned m zones (event_of.Edit ops) effects change (changed (edit_change plan keys) (ground_of m zones))
+  pub edit_is_turned : (effects : List NetEffect) → effects ≡ key_effects plan.added keys → (change : SimChange TupleSpace) → change.bound ≡ []
+      → change.emptied ≡ zones_begun later.numbers (routers_coming zones.homes (homes_by zones.homes next m.config.chassis)) → change.names ≡ map (key_name keys) plan.added
+      → IsTurned m zones (event_of.Edit ops) effects change (changed (edit_change plan keys later) (ground_of m zones))
   edit_is_turned effects named change bound emptied names =
-      subst (λ g. IsTurned m zones (event_of.Edit ops) effects change g) (sym edit_ground) (edit_turned m zones old room ops grammar plan keys planned effects named change bound emptied names)
+      subst (λ g. IsTurned m zones (event_of.Edit ops) effects change g) (sym edit_ground) (edit_turned m zones old room ops grammar plan keys planned later rezoned effects named change bound emptied names)
 
 -- why an edit is refused, in the terms in which the setup has it
 module _ (g : GroundView) (n : ℕ) (ops : List Op) (m : State) (may : MayTurn g n (event_of.Edit ops) m) where
@@ -203,22 +228,40 @@ module _ (g : GroundView) (n : ℕ) (ops : List Op) (m : State) (may : MayTurn g
   pub planned_here : IsPlannedEdit (ground_of m g.zones) (event_count m + 1) ops plan keys
   planned_here = subst (λ k. IsPlannedEdit (ground_of m g.zones) k ops plan keys) may.number (subst (λ x. IsPlannedEdit x n ops plan keys) (sym may.ground) planned)
 
-  -- tables can be made before and after
-  pub edit_tables : AreTables g × AreTables (changed (edit_change plan keys) g)
-  edit_tables = subst (λ x. AreTables x × AreTables (changed (edit_change plan keys) x)) may.ground (tables_of_state m g.zones may.consistent, edit_tables_then m g.zones may.consistent may.few ops may.in_grammar plan keys planned_here)
+  -- the rows can be lowered, before and after
+  pub edit_compiled : CanCompile (record { net = g.config.net; keys = g.keys }) × CanCompile (record { net = plan.after; keys = keys })
+  edit_compiled = (
+    subst (λ (x : GroundView). CanCompile (record { net = x.config.net; keys = x.keys })) may.ground (tables_of_state m g.zones may.consistent).compiled,
+    subst (λ net. CanCompile (record { net = net; keys = keys })) (sym (planned.stands.after ∙ edit_leaves g n ops m may)) (can_compile (next_net m ops) keys
+        (sound m g.zones may.consistent may.few ops may.in_grammar plan keys planned_here).valid (have m g.zones may.consistent may.few ops may.in_grammar plan keys planned_here)),
+  )
 
-  pub edit_readied : (h : GroundView) → h ≡ g → (units : List FlowUnit) → EachOnce units → ((u : FlowUnit) → Among u units ↔ Among u (touched_by g.config.net (accepted g.config.net ops n) ops)) → IsReadied h (edit_change plan keys) units
-  edit_readied h is units once are =
-      subst (λ x. IsReadied x (edit_change plan keys) units) (may.ground ∙ sym is)
-      (edit_is_readied m g.zones may.consistent may.few ops may.in_grammar plan keys planned_here units once
-      (subst (λ net. (u : FlowUnit) → Among u units ↔ Among u (touched_by m.config.net net ops)) (edit_leaves g n ops m may)
-      (subst (λ (x : GroundView). (u : FlowUnit) → Among u units ↔ Among u (touched_by x.config.net (accepted g.config.net ops n) ops)) (sym may.ground) are)))
+  -- the homes that follow from the plan are those by the records that the edit leaves
+  homes_same : homes_by g.zones.homes plan.after g.config.chassis ≡ homes_by g.zones.homes (next_net m ops) m.config.chassis
+  homes_same = λ i. homes_by g.zones.homes ((planned.stands.after ∙ edit_leaves g n ops m may) i) (sym may.ground i).config.chassis
 
-  pub edit_turns : (effects : List NetEffect) → effects ≡ key_effects plan.added keys → (change : SimChange TupleSpace) → change.bound ≡ [] → change.emptied ≡ [] → change.names ≡ map (key_name keys) plan.added
-      → IsTurned m g.zones (event_of.Edit ops) effects change (changed (edit_change plan keys) g)
-  edit_turns effects named change bound emptied names =
-      subst (λ x. IsTurned m g.zones (event_of.Edit ops) effects change (changed (edit_change plan keys) x)) may.ground
-      (edit_is_turned m g.zones may.consistent may.few ops may.in_grammar plan keys planned_here effects named change bound emptied names)
+  -- the gateway routers that it adds may come home
+  pub edit_may_come : IsHomeChange g.zones.homes (coming_home g.zones.homes (homes_by g.zones.homes plan.after g.config.chassis))
+  edit_may_come = subst (λ h. IsHomeChange g.zones.homes (coming_home g.zones.homes h)) (sym homes_same) (edit_brings m g.zones may.consistent may.few ops may.in_grammar plan keys planned_here)
+
+  module _ (later : Zoned) (rezoned : IsRezoned g.zones (coming_home g.zones.homes (homes_by g.zones.homes plan.after g.config.chassis)) later) where
+    rezoned_here : IsRezoned g.zones (coming_home g.zones.homes (homes_by g.zones.homes (next_net m ops) m.config.chassis)) later
+    rezoned_here = subst (λ h. IsRezoned g.zones (coming_home g.zones.homes h) later) homes_same rezoned
+
+    pub edit_readied : (h : GroundView) → h ≡ g → (units : List FlowUnit) → EachOnce units → ((u : FlowUnit) → Among u units ↔ Among u (touched_by g.config.net (accepted g.config.net ops n) ops)) → IsReadied h (edit_change plan keys later) units
+    edit_readied h is units once are =
+        subst (λ x. IsReadied x (edit_change plan keys later) units) (may.ground ∙ sym is)
+        (edit_is_readied m g.zones may.consistent may.few ops may.in_grammar plan keys planned_here later rezoned_here units once
+        (subst (λ net. (u : FlowUnit) → Among u units ↔ Among u (touched_by m.config.net net ops)) (edit_leaves g n ops m may)
+        (subst (λ (x : GroundView). (u : FlowUnit) → Among u units ↔ Among u (touched_by x.config.net (accepted g.config.net ops n) ops)) (sym may.ground) are)))
+
+    pub edit_turns : (effects : List NetEffect) → effects ≡ key_effects plan.added keys → (change : SimChange TupleSpace) → change.bound ≡ []
+        → change.emptied ≡ zones_begun later.numbers (routers_coming g.zones.homes (homes_by g.zones.homes plan.after g.config.chassis)) → change.names ≡ map (key_name keys) plan.added
+        → IsTurned m g.zones (event_of.Edit ops) effects change (changed (edit_change plan keys later) g)
+    edit_turns effects named change bound emptied names =
+        subst (λ x. IsTurned m g.zones (event_of.Edit ops) effects change (changed (edit_change plan keys later) x)) may.ground
+        (edit_is_turned m g.zones may.consistent may.few ops may.in_grammar plan keys planned_here later rezoned_here effects named change bound
+        (emptied ∙ ap (λ h. zones_begun later.numbers (routers_coming g.zones.homes h)) homes_same) names)
 
 -- ---- a chassis comes
 
@@ -233,49 +276,68 @@ module _ (g : GroundView) (n : ℕ) (c : Name) (m : State) (may : MayTurn g n (e
   pub chassis_too_many : is_chassis h.config c ≡ false → nat_le 64 (length h.config.chassis) ≡ true → refusal m (event_of.AddChassis c) ≡ Some why.LimitChassis
   chassis_too_many new full = chassis_full m c (ap (λ (x : Config). is_chassis x c) config_same ∙ new) (ap (λ (x : Config). nat_le 64 (length x.chassis)) config_same ∙ full)
 
-module _ (g : GroundView) (n : ℕ) (c : Name) (m : State) (may : MayTurn g n (event_of.AddChassis c) m) (allowed : refusal m (event_of.AddChassis c) ≡ None) where
-  abbrev chassis_change : List Name → GroundChange
-  chassis_change names = record { records = None; chassis = Some names; keys = None; zones = None }
+-- the change of the ground that it makes
+abbrev pub chassis_change : List Name → Zoned → GroundChange
+chassis_change names later = record { records = None; chassis = Some names; keys = None; zones = Some later }
 
+module _ (g : GroundView) (n : ℕ) (c : Name) (m : State) (may : MayTurn g n (event_of.AddChassis c) m) where
   abbrev longer : List Name
   longer = insert_key (slice_cmp nat_cmp) m.config.chassis c
 
   -- it isn't there yet
-  pub chassis_absent : ¬ Among c g.config.chassis
-  chassis_absent among =
+  pub chassis_absent : refusal m (event_of.AddChassis c) ≡ None → ¬ Among c g.config.chassis
+  chassis_absent allowed among =
       let there : Among c m.config.chassis = subst (λ (x : GroundView). Among c x.config.chassis) (sym may.ground) among in
       false≢true (sym (chassis_new m c allowed).0 ∙ among_any (λ d. same_name d c) c m.config.chassis there ((bytes_decides c c).1 refl))
 
-  chassis_names : (names : List Name) → names ≡ insert_key (slice_cmp nat_cmp) g.config.chassis c → names ≡ longer
-  chassis_names names is = is ∙ ap (λ (x : GroundView). insert_key (slice_cmp nat_cmp) x.config.chassis c) (sym may.ground)
+  module _ (names : List Name) (are : names ≡ insert_key (slice_cmp nat_cmp) g.config.chassis c) where
+    names_same : names ≡ longer
+    names_same = are ∙ ap (λ (x : GroundView). insert_key (slice_cmp nat_cmp) x.config.chassis c) (sym may.ground)
 
-  chassis_ground : changed (chassis_change longer) (ground_of m g.zones) ≡ record { config = record m.config { chassis = longer }; keys = m.keys; zones = g.zones }
-  chassis_ground = λ i. record { config = record m.config { chassis = longer; bindings = homes_bound m g.zones may.consistent i }; keys = m.keys; zones = g.zones }
+    homes_same_then : homes_by g.zones.homes g.config.net names ≡ homes_by g.zones.homes m.config.net longer
+    homes_same_then = λ i. homes_by g.zones.homes (sym may.ground i).config.net (names_same i)
 
-  chassis_is_readied : IsReadied (ground_of m g.zones) (chassis_change longer) []
-  chassis_is_readied = record {
-    fits = record { keys = tt; zones = tt };
-    once = names_once m.config.chassis may.consistent.at_rest.bound.chassis_sorted;
-    tables = tables_of_state m g.zones may.consistent;
-    tables_then = record { keyed = (tables_of_state m g.zones may.consistent).keyed; compiled = (tables_of_state m g.zones may.consistent).compiled };
-    touched_alone = record {
-      once = tt;
-      only = λ d among. subst (λ x. ChangeOnly [] (rows_on (ground_of m g.zones) d) (rows_on x d)) (sym chassis_ground)
-          (chassis_units m g.zones may.consistent c (λ there. chassis_absent (subst (λ (x : GroundView). Among c x.config.chassis) may.ground there)) d);
-    };
-  }
+    -- the gateway routers that wait for it may come home
+    pub chassis_may_bring : IsHomeChange g.zones.homes (coming_home g.zones.homes (homes_by g.zones.homes g.config.net names))
+    chassis_may_bring = subst (λ h. IsHomeChange g.zones.homes (coming_home g.zones.homes h)) (sym homes_same_then) (chassis_brings m g.zones may.consistent c)
 
-  pub chassis_readied : (h : GroundView) → h ≡ g → (names : List Name) → names ≡ insert_key (slice_cmp nat_cmp) g.config.chassis c → IsReadied h (chassis_change names) []
-  chassis_readied h is names longer' =
-      subst (λ x. IsReadied x (chassis_change names) []) (may.ground ∙ sym is) (subst (λ x. IsReadied (ground_of m g.zones) (chassis_change x) []) (sym (chassis_names names longer')) chassis_is_readied)
+    module _ (allowed : refusal m (event_of.AddChassis c) ≡ None) (later : Zoned) (rezoned : IsRezoned g.zones (coming_home g.zones.homes (homes_by g.zones.homes g.config.net names)) later) where
+      rezoned_then : IsRezoned g.zones (coming_home g.zones.homes (homes_by g.zones.homes m.config.net longer)) later
+      rezoned_then = subst (λ h. IsRezoned g.zones (coming_home g.zones.homes h) later) homes_same_then rezoned
 
-  pub chassis_turns : (names : List Name) → names ≡ insert_key (slice_cmp nat_cmp) g.config.chassis c → (effects : List NetEffect) → effects ≡ [] → (change : SimChange TupleSpace) → change.bound ≡ [] → change.names ≡ [] → change.emptied ≡ []
-      → IsTurned m g.zones (event_of.AddChassis c) effects change (changed (chassis_change names) g)
-  chassis_turns names longer' effects none change bound called emptied =
-      subst (λ x. IsTurned m g.zones (event_of.AddChassis c) effects change (changed (chassis_change names) x)) may.ground
-      (subst (λ x. IsTurned m g.zones (event_of.AddChassis c) effects change (changed (chassis_change x) (ground_of m g.zones))) (sym (chassis_names names longer'))
-      (subst (λ x. IsTurned m g.zones (event_of.AddChassis c) effects change x) (sym chassis_ground)
-      (chassis_turned m g.zones may.consistent may.few effects none change c allowed bound called emptied)))
+      chassis_ground : changed (chassis_change names later) (ground_of m g.zones) ≡ record { config = record m.config { chassis = longer }; keys = m.keys; zones = later }
+      chassis_ground = λ i. record { config = record m.config { chassis = names_same i; bindings = chassis_homes m g.zones may.consistent c later rezoned_then i }; keys = m.keys; zones = later }
+
+      chassis_is_readied : (units : List FlowUnit) → EachOnce units → HasLeading units m.config.net → IsReadied (ground_of m g.zones) (chassis_change names later) units
+      chassis_is_readied units once leading = record {
+        fits = record {
+          keys = tt;
+          zones = record { change = coming_home g.zones.homes (homes_by g.zones.homes m.config.net longer); fits = chassis_brings m g.zones may.consistent c; rezoned = rezoned_then };
+        };
+        once = names_once m.config.chassis may.consistent.at_rest.bound.chassis_sorted;
+        tables = tables_of_state m g.zones may.consistent;
+        tables_then = record { keyed = (tables_of_state m g.zones may.consistent).keyed; compiled = (tables_of_state m g.zones may.consistent).compiled };
+        touched_alone = record {
+          once = once;
+          only = λ d among. subst (λ x. ChangeOnly units (rows_on (ground_of m g.zones) d) (rows_on x d)) (sym chassis_ground)
+              (chassis_units m g.zones may.consistent c later units (chassis_numbers m g.zones may.consistent c later rezoned_then)
+              (λ there. chassis_absent allowed (subst (λ (x : GroundView). Among c x.config.chassis) may.ground there)) leading d);
+        };
+      }
+
+      pub chassis_readied : (h : GroundView) → h ≡ g → (units : List FlowUnit) → EachOnce units → ((u : FlowUnit) → Among u units ↔ Among u (leading_units g.config.net g.config.net)) → IsReadied h (chassis_change names later) units
+      chassis_readied h is units once all =
+          subst (λ x. IsReadied x (chassis_change names later) units) (may.ground ∙ sym is)
+          (chassis_is_readied units once (has_leading m.config.net may.consistent.at_rest.valid units
+          (subst (λ (x : GroundView). (u : FlowUnit) → Among u units ↔ Among u (leading_units x.config.net x.config.net)) (sym may.ground) all)))
+
+      pub chassis_turns : (effects : List NetEffect) → effects ≡ [] → (change : SimChange TupleSpace) → change.bound ≡ [] → change.names ≡ []
+          → change.emptied ≡ zones_begun later.numbers (routers_coming g.zones.homes (homes_by g.zones.homes g.config.net names)) → IsTurned m g.zones (event_of.AddChassis c) effects change (changed (chassis_change names later) g)
+      chassis_turns effects none change bound called emptied =
+          subst (λ x. IsTurned m g.zones (event_of.AddChassis c) effects change (changed (chassis_change names later) x)) may.ground
+          (subst (λ x. IsTurned m g.zones (event_of.AddChassis c) effects change x) (sym chassis_ground)
+          (chassis_turned m g.zones may.consistent c later rezoned_then may.few allowed effects none change bound called
+          (emptied ∙ ap (λ h. zones_begun later.numbers (routers_coming g.zones.homes h)) homes_same_then)))
 
 -- ---- a port is bound
 
@@ -295,7 +357,7 @@ module _ (g : GroundView) (n : ℕ) (p c : Name) (m : State) (may : MayTurn g n 
   zone_change zones = record { records = None; chassis = None; keys = None; zones = Some zones }
 
   pub binding_can_come : IsHomeChange g.zones.homes (home_change p c)
-  binding_can_come = can_come m.config g.zones may.consistent.at_rest.bound p c (few_ports m.config.net may.consistent.at_rest.valid)
+  binding_can_come = can_come m.config g.zones may.consistent.at_rest.bound p c (few_ports m.config.net may.consistent.at_rest.valid) (few_routers m.config.net may.consistent.at_rest.valid)
 
   module _ (after : Zoned) (rezoned : IsRezoned g.zones (home_change p c) after) where
     binding_is_readied : IsReadied (ground_of m g.zones) (zone_change after) (units_of (at m.config.net.switch_ports p) p)

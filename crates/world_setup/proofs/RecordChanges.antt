@@ -1,5 +1,5 @@
--- What stays true of bindings and births where records stay, and where a port is bound or a chassis comes.
-use Rattle.std.specs.Prelude.{◌≡◌, ◌≢◌, ◌≤◌, ◌⊎◌, [], Some, Option, IsSome, length}
+-- What stays true of bindings and births where a port is bound, and where records stay.
+use Rattle.std.specs.Prelude.{◌≡◌, ◌≢◌, ◌≤◌, ◌⊎◌, Some, IsSome, length}
 use mathlib.Core.Path.{sym, ap, subst, ◌∙◌}
 use mathlib.Core.Logic.{inl, inr}
 use native.Mathlib.Omega.{arith}
@@ -16,29 +16,12 @@ use Rattle.conn_zones.specs.Zoning.{Zoned}
 use Rattle.tunnel_keys.specs.Births.{AreKeysBorn}
 use Rattle.tunnel_keys.proofs.Births.{born_later}
 use Rattle.net_model.specs.State.{State, event_count}
-use Rattle.physical_flows.specs.Bindings.{AreBound}
+use Rattle.physical_flows.specs.Bindings.{AreBound, router_homes}
 use Rattle.sim_laws.specs.Sound.{AreBorn}
 use Rattle.world_setup.specs.Zones.{home_change}
 use Rattle.world_setup.proofs.PortHomes.{homes_after}
 
 -- ---- bindings
-
-module _ (m n : State) (zones : Zoned) where
-  -- bindings hold on to ports that stay, and to chassis that stay
-  pub bound_kept : AreBound m.config zones → n.config.bindings ≡ m.config.bindings → ((q : Name) → IsSome (at m.config.net.switch_ports q) → IsSome (at n.config.net.switch_ports q)) → ((c : Name) → Among c m.config.chassis → Among c n.config.chassis)
-      → IsStrictlySortedBy (slice_cmp nat_cmp) n.config.chassis → length n.config.chassis ≤ 64 → AreBound n.config zones
-  bound_kept bound same ports chassis sorted few = record {
-    bindings_sorted = subst (λ l. IsByName l) (sym same) bound.bindings_sorted;
-    port_there = λ q c e. ports q (bound.port_there q c (before q (Some c) e));
-    chassis_there = λ q c e. chassis c (bound.chassis_there q c (before q (Some c) e));
-    chassis_sorted = sorted;
-    few_chassis = few;
-    homes = bound.homes ∙ (λ i. record { ports = sym same i; routers = [] });
-    zoned = bound.zoned;
-  }
-    where
-      before : (q : Name) (o : Option Name) → at n.config.bindings q ≡ o → at m.config.bindings q ≡ o
-      before q o e = ap (λ l. at l q) (sym same) ∙ e
 
 -- a port is bound to a chassis
 pub bound_fresh : (m n : State) (zones after : Zoned) (p c : Name) → AreBound m.config zones → n.config.net ≡ m.config.net → n.config.chassis ≡ m.config.chassis → n.config.bindings ≡ put m.config.bindings p c → IsSome (at m.config.net.switch_ports p) → Among c m.config.chassis
@@ -55,7 +38,9 @@ bound_fresh m n zones after p c bound net chassis bindings port known rezoned = 
   ]);
   chassis_sorted = subst (λ l. IsStrictlySortedBy (slice_cmp nat_cmp) l) (sym chassis) bound.chassis_sorted;
   few_chassis = subst (λ l. length l ≤ 64) (sym chassis) bound.few_chassis;
-  homes = homes_after m.config zones bound p c after rezoned ∙ (λ i. record { ports = sym bindings i; routers = [] });
+  homes =
+      homes_after m.config zones bound p c after rezoned
+      ∙ (λ i. record { ports = sym bindings i; routers = router_homes (record { net = sym net i; chassis = sym chassis i; bindings = sym bindings i }) });
   zoned = rezoned.zoned;
 }
   where

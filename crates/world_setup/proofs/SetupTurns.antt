@@ -38,7 +38,8 @@ use Rattle.tuple_space.specs.declared.space.TupleSpace.{TupleSpace}
 use Rattle.world_setup.specs.Ground.{GroundView, basis_in}
 use Rattle.world_setup.specs.Setup.{ArePatches, ComesOver, HasCome, HasDelta, HasStore, IsFlowOn, IsLoweredOrDone, IsReadyOrDone, IsTurnOfTables, StandsForGround, every_delta, joined, lowering_in, rows_on, units_of}
 use Rattle.world_setup.proofs.FlowStores.{found_so}
-use Rattle.world_setup.proofs.NamesInOrder.{name_cases, name_kept, name_put}
+use Rattle.sim_laws.proofs.turn_laws.KeepingTurns.{name_kept}
+use Rattle.world_setup.proofs.NamesInOrder.{name_cases, name_put}
 use Rattle.nb_records.specs.Routers.{Partner, switch_side, router_side}
 use Rattle.nb_records.specs.Switches.{is_virtual}
 use Rattle.nb_records.specs.declared.router.RouterPort.{RouterPort}

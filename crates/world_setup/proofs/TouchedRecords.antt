@@ -1,5 +1,5 @@
 -- Switches, routers and ports that an edit doesn't touch stay as they are, with a port its switch is touched, and each port that leads into another datapath is.
-use Rattle.std.specs.Prelude.{◌≡◌, ◌⊎◌, ◌++◌, ℕ, true, false, cond, not, List, [], ◌∷◌, Option, Some, None, filter, map, refl}
+use Rattle.std.specs.Prelude.{◌≡◌, ◌⊎◌, ◌↔◌, ◌++◌, ℕ, true, false, cond, not, List, [], ◌∷◌, Option, Some, None, filter, map, refl}
 use Rattle.std.specs.List.{AllByRecursion}
 use mathlib.Core.Path.{sym, ap, subst, ◌∙◌}
 use mathlib.Core.Logic.{inl, inr}
@@ -24,6 +24,7 @@ use Rattle.nb_rules.specs.FirstBroken.{first_broken}
 use Rattle.nb_rules.specs.Valid.{IsValid}
 use Rattle.nb_edits.proofs.EditValidity.{IsFit, no_first, operated_fit, valid_fit}
 use Rattle.nb_edits.specs.OpFaults.{op_fault, ops_fault, fault_of}
+use Rattle.physical_flows.specs.Touching.{HasLeading}
 use Rattle.physical_flows.specs.declared.unit.FlowUnit.{FlowUnit}
 use Rattle.physical_flows.specs.declared.unit.FlowUnit.TheVariants as unit
 use Rattle.world_setup.specs.Touched.{leading_units, named_by, ports_leading, router_port_units, switch_of, to_routers, touched_by, units_by, units_leading, units_named}
@@ -255,6 +256,14 @@ module _ (before after : Network) (ops : List Op) where
   router_port_touched p port (inr now) =
       among_right (unit.RouterPort p) (named_by before after ops) (leading_units before after)
       (among_right (unit.RouterPort p) (first ++ second ++ third) (router_port_units after) (among_map (λ (e : Name × RouterPort). unit.RouterPort e.0) (p, port) after.router_ports (at_among after.router_ports p port now)))
+
+-- all ports that lead into another datapath are among their units, with the switches of those that lead to routers
+pub has_leading : (net : Network) → IsValid net → (units : List FlowUnit) → ((u : FlowUnit) → Among u units ↔ Among u (leading_units net net)) → HasLeading units net
+has_leading net valid units all = record {
+  router_ports = λ p port is. (all (unit.RouterPort p)).1 (router_port_touched net net [] p port (inl is));
+  to_routers = λ q port is leads. (all (unit.Port q)).1 (to_router_touched net net [] valid valid q port (inl is) leads);
+  on = λ q port is leads. (all (unit.Switch port.switch)).1 (port_with_switch net net [] q port (to_router_touched net net [] valid valid q port (inl is) leads) (inl is));
+}
 
 -- ---- who isn't touched stays
 

@@ -6,6 +6,7 @@ pub mod Editing
 pub mod Frames
 pub mod Ground
 pub mod Holding
+pub mod Homecoming
 pub mod KeyCauses
 pub mod KeyLines
 pub mod Refusing

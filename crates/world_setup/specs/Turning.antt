@@ -60,7 +60,7 @@ pub record IsTurned (m : State) (homes : Zoned) (event : Event) (effects : List 
   pub consistent : IsConsistent (finished (turned_with turn keys m)) after.zones
   pub unretired : held.settled keys ≡ keys
   pub zones : Rezones event homes after.zones
-  pub emptied : change.emptied ≡ emptied_by event after.zones
+  pub emptied : change.emptied ≡ emptied_by event homes after.zones
   -- the frames that wait are spelled as before
   pub frames : map (frame_of_crossing keys) m.waiting ≡ map (frame_of_crossing m.keys) m.waiting
   pub bindings : (q : Name) → set_in_turn same_name change.bound q (at m.config.bindings q) ≡ at turn.next.bindings q

@@ -195,6 +195,16 @@ pub(crate) fn touched_units(
     each_once(alloc, touched.as_slice())
 }
 
+/// The units of flows of all ports that lead into another datapath, with their switches, each once.
+pub(crate) fn leading_units(alloc: Global, records: &Records) -> Result<List<FlowUnit>, NoMemory>
+    ensures once { IfOk result (λ units. EachOnce units) }
+    ensures all { IfOk result (λ units. (u : FlowUnit) → Among u units ↔ Among u (leading_units records.now records.now)) }
+{
+    let mut leading = List::new(alloc);
+    push_all_leading(records, records, &mut leading)?;
+    each_once(alloc, leading.as_slice())
+}
+
 /// The units of rows that those units of flows are: of the flows that every chassis has come none of a switch or a port.
 pub(crate) fn row_units(alloc: Global, touched: &[FlowUnit]) -> Result<List<UnitId>, NoMemory>
     ensures { IfOk result (λ units. units ≡ filter_map row_unit touched.now) }

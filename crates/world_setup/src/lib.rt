@@ -5,6 +5,7 @@ mod built;
 mod edited;
 pub mod ground;
 pub mod held;
+mod homes;
 pub mod setup;
 mod stores;
 pub mod turn_event;

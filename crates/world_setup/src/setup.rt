@@ -34,9 +34,12 @@ ghost use Rattle.sim_laws.specs.journeys.First.{nobody_home};
 ghost use Rattle.world_setup.specs.Zones.{home_change};
 
 use crate::built::is_built_edit;
-use crate::edited::{key_effects, key_names, row_units, touched_rules, touched_units};
+use crate::edited::{
+    key_effects, key_names, leading_units, row_units, touched_rules, touched_units,
+};
 use crate::ground::{Ground, GroundChange};
 use crate::held::{Held, holding};
+use crate::homes::come_home;
 use crate::stores::{Stores, apply_each, deltas_of, prepare_each};
 use crate::turn_event::TurnEvent;
 use chassis_sim::change::SimChange;
@@ -424,7 +427,8 @@ impl Setup {
         Ok(plan)
     }
 
-    // What planned records and keys, and the lowered flows of them, make of the setup and of the simulated chassis.
+    // What planned records and keys, and the lowered flows of them, make of the setup and of the simulated chassis: gateway routers come
+    // home with them.
     fn edited(
         &mut self,
         alloc: Global,
@@ -440,6 +444,12 @@ impl Setup {
         ensures kept { self.new.ground ≡ self.old.ground }
         ensures turn { IfOk result (IsTurn self.old.ground self.new number (event_of.Edit ops.now)) }
     {
+        let home = come_home(
+            alloc,
+            &mut self.ground.zones,
+            records.after(),
+            self.ground.chassis.as_slice(),
+        )?;
         let effects = key_effects(alloc, records.added(), keys.after())?;
         let names = key_names(alloc, records.added(), keys.after())?;
         let touched = touched_units(alloc, &self.ground.records, records.after(), ops)?;
@@ -447,16 +457,17 @@ impl Setup {
             records: Some(records),
             chassis: None,
             keys: Some(keys),
-            zones: None,
+            zones: Some(home.zones),
         };
         let mut turn = self.prepare(alloc, change, Some(lowered), touched.as_slice(), None)?;
         turn.effects = effects;
         turn.sim.names = names;
+        turn.sim.emptied = home.begun;
         Ok(turn)
     }
 
     // Prepares what an edit makes of the setup and of the simulated chassis: the records that its operations leave, keys for who
-    // comes, and the rows of the units that it touches.
+    // comes, the rows of the units that it touches, and the zones of the gateway routers that come home.
     fn edit<L>(
         &mut self,
         alloc: Global,
@@ -479,7 +490,8 @@ impl Setup {
         Ok(self.edited(alloc, number, ops, records, keys, lowered)?)
     }
 
-    // Prepares what a chassis that comes makes of the setup and of the simulated chassis.
+    // Prepares what a chassis that comes makes of the setup and of the simulated chassis: the gateway routers that wait for it come
+    // home, and the rows of all ports that lead into another datapath follow from that.
     fn add_chassis(&mut self, alloc: Global, number: u64, chassis: Name) -> Result<Turn, StepFault>
         requires may { (m : State) × MayTurn self.old.ground number (event_of.AddChassis chassis) m }
         ensures kept { self.new.ground ≡ self.old.ground }
@@ -492,13 +504,22 @@ impl Setup {
         if self.ground.chassis.len() >= MAX_CHASSIS {
             return Err(StepFault::Refused(Refusal::LimitChassis));
         }
+        let all = names_with(alloc, self.ground.chassis.as_slice(), chassis)?;
+        let home = come_home(
+            alloc,
+            &mut self.ground.zones,
+            &self.ground.records,
+            all.as_slice(),
+        )?;
+        let touched = leading_units(alloc, &self.ground.records)?;
         let change = GroundChange {
             records: None,
-            chassis: Some(names_with(alloc, self.ground.chassis.as_slice(), chassis)?),
+            chassis: Some(all),
             keys: None,
-            zones: None,
+            zones: Some(home.zones),
         };
-        let turn = self.prepare(alloc, change, None, &[], Some(chassis))?;
+        let mut turn = self.prepare(alloc, change, None, touched.as_slice(), Some(chassis))?;
+        turn.sim.emptied = home.begun;
         Ok(turn)
     }
 

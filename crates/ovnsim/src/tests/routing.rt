@@ -1,4 +1,4 @@
-//! Rows of distributed routers, and what isn't built beside them.
+//! Rows of routers, distributed and on their chassis, and what isn't built beside them.
 use super::replayed;
 use std::test::Fail;
 
@@ -85,12 +85,70 @@ const NO_ROUTE_OUTPUT: &[u8] = b"1 key datapath ra 1
 end events=4 accepted=4 refused=0 waiting=0
 ";
 
-// A router on a chassis, translations, balancers, what takes a record, a binding or a chassis away, other ranges of keys, and marks of backends.
-const NOT_BUILT: &[u8] = b"{\"edit\":[{\"add\":\"router\",\"name\":\"g\",\"chassis\":\"hv1\"}]}
-{\"edit\":[{\"add\":\"nat\",\"name\":\"n\",\"router\":\"r\",\"type\":\"snat\",\"external_ip\":\"172.16.0.1\",\"logical_ip\":\"10.0.0.0/24\"}]}
-{\"edit\":[{\"add\":\"load_balancer\",\"name\":\"l\",\"vips\":{\"10.0.0.9:80\":\"10.0.0.1:8080\"}}]}
-{\"edit\":[{\"set\":\"load_balancer\",\"name\":\"l\"}]}
-{\"edit\":[{\"add\":\"router\",\"name\":\"r\"},{\"remove\":\"switch\",\"name\":\"s0\"}]}
+// Two switches joined by a gateway router, whose chassis comes after a first packet. From then on packets cross to it for the router and on from
+// there, also one that is kept and arrives twice, and an echo that the router answers. A second gateway router comes to a chassis that is there.
+const GATEWAYS: &[u8] =
+    b"{\"edit\":[{\"add\":\"switch\",\"name\":\"s0\"},{\"add\":\"switch\",\"name\":\"s1\"},{\"add\":\"switch_port\",\"name\":\"p1\",\"switch\":\"s0\",\"addresses\":[\"0a:00:00:00:00:01 10.0.0.1\"]},{\"add\":\"switch_port\",\"name\":\"p2\",\"switch\":\"s1\",\"addresses\":[\"0a:00:00:00:00:02 10.0.1.2\"]},{\"add\":\"router\",\"name\":\"g\",\"chassis\":\"hv2\"},{\"add\":\"router_port\",\"name\":\"g0\",\"router\":\"g\",\"mac\":\"0a:00:00:00:00:fe\",\"networks\":[\"10.0.0.254/24\"]},{\"add\":\"router_port\",\"name\":\"g1\",\"router\":\"g\",\"mac\":\"0a:00:00:00:01:fe\",\"networks\":[\"10.0.1.254/24\"]},{\"add\":\"switch_port\",\"name\":\"s0-g\",\"switch\":\"s0\",\"type\":\"router\",\"router_port\":\"g0\",\"addresses\":[\"router\"]},{\"add\":\"switch_port\",\"name\":\"s1-g\",\"switch\":\"s1\",\"type\":\"router\",\"router_port\":\"g1\",\"addresses\":[\"router\"]}]}
+{\"chassis\":{\"add\":\"hv1\"}}
+{\"bind\":{\"port\":\"p1\",\"chassis\":\"hv1\"}}
+{\"bind\":{\"port\":\"p2\",\"chassis\":\"hv1\"}}
+{\"packet\":{\"port\":\"p1\",\"frame\":\"0a00000000fe0a000000000108004500001c00010000401165ce0a0000010a0001021388138800080000\"}}
+{\"chassis\":{\"add\":\"hv2\"}}
+{\"packet\":{\"port\":\"p1\",\"frame\":\"0a00000000fe0a000000000108004500001c00010000401165ce0a0000010a0001021388138800080000\"}}
+{\"packet\":{\"port\":\"p1\",\"frame\":\"0a00000000fe0a000000000108004500001c00010000400165e20a0000010a0000fe0800f7f700070001\"}}
+{\"inject\":{\"port\":\"p1\",\"frame\":\"0a00000000fe0a000000000108004500001c00010000401165ce0a0000010a0001021388138800080000\"}}
+{\"repeat\":{\"frame\":5}}
+{\"deliver\":{\"frame\":5}}
+{\"drain\":{}}
+{\"edit\":[{\"add\":\"router\",\"name\":\"h\",\"chassis\":\"hv1\"},{\"add\":\"router_port\",\"name\":\"h0\",\"router\":\"h\",\"mac\":\"0a:00:00:00:00:fd\",\"networks\":[\"10.0.0.253/24\"]},{\"add\":\"switch_port\",\"name\":\"s0-h\",\"switch\":\"s0\",\"type\":\"router\",\"router_port\":\"h0\",\"addresses\":[\"router\"]}]}
+{\"packet\":{\"port\":\"p1\",\"frame\":\"0a00000000fd0a000000000108004500001c00010000400165e30a0000010a0000fd0800f7f700070001\"}}
+";
+
+const GATEWAYS_OUTPUT: &[u8] = b"1 key datapath g 1
+1 key datapath s0 2
+1 key datapath s1 3
+1 key port g0 1
+1 key port g1 2
+1 key port p1 1
+1 key port s0-g 2
+1 key port p2 1
+1 key port s1-g 2
+1 ok walks=0
+2 ok walks=0
+3 ok walks=0
+4 ok walks=0
+5 drop s0 s0-g unbound
+5 ok walks=9
+6 ok walks=0
+7 tunnel 1 hv1 hv2 024065580000020001028001000100020a00000000fe0a000000000108004500001c00010000401165ce0a0000010a0001021388138800080000
+7 tunnel 2 hv2 hv1 024065580000030001028001000200010a00000000020a00000001fe08004500001c000100003f1166ce0a0000010a0001021388138800080000
+7 out p2 0a00000000020a00000001fe08004500001c000100003f1166ce0a0000010a0001021388138800080000
+7 ok walks=46
+8 tunnel 3 hv1 hv2 024065580000020001028001000100020a00000000fe0a000000000108004500001c00010000400165e20a0000010a0000fe0800f7f700070001
+8 tunnel 4 hv2 hv1 024065580000020001028001000200010a00000000010a00000000fe08004500001c00010000fe01a7e10a0000fe0a0000010000fff700070001
+8 out p1 0a00000000010a00000000fe08004500001c00010000fe01a7e10a0000fe0a0000010000fff700070001
+8 ok walks=43
+9 tunnel 5 hv1 hv2 024065580000020001028001000100020a00000000fe0a000000000108004500001c00010000401165ce0a0000010a0001021388138800080000
+9 ok walks=9
+10 tunnel 6 hv2 hv1 024065580000030001028001000200010a00000000020a00000001fe08004500001c000100003f1166ce0a0000010a0001021388138800080000
+10 ok walks=29
+11 tunnel 7 hv2 hv1 024065580000030001028001000200010a00000000020a00000001fe08004500001c000100003f1166ce0a0000010a0001021388138800080000
+11 ok walks=29
+12 out p2 0a00000000020a00000001fe08004500001c000100003f1166ce0a0000010a0001021388138800080000
+12 out p2 0a00000000020a00000001fe08004500001c000100003f1166ce0a0000010a0001021388138800080000
+12 ok walks=16
+13 key datapath h 4
+13 key port h0 1
+13 key port s0-h 3
+13 ok walks=0
+14 out p1 0a00000000010a00000000fd08004500001c00010000fe01a7e20a0000fd0a0000010000fff700070001
+14 ok walks=41
+end events=14 accepted=14 refused=0 waiting=0
+";
+
+// What takes a record, a binding or a chassis away, other ranges of keys, and marks of backends.
+const NOT_BUILT: &[u8] =
+    b"{\"edit\":[{\"add\":\"router\",\"name\":\"r\"},{\"remove\":\"switch\",\"name\":\"s0\"}]}
 {\"unbind\":{\"port\":\"p1\"}}
 {\"keys\":{\"datapaths\":10,\"ports\":10}}
 {\"health\":{\"balancer\":\"l\",\"backend\":\"10.0.0.1:8080\",\"online\":true}}
@@ -102,15 +160,11 @@ const NOT_BUILT_OUTPUT: &[u8] = b"1 refused NotBuilt
 3 refused NotBuilt
 4 refused NotBuilt
 5 refused NotBuilt
-6 refused NotBuilt
-7 refused NotBuilt
-8 refused NotBuilt
-9 refused NotBuilt
-end events=9 accepted=0 refused=9 waiting=0
+end events=5 accepted=0 refused=5 waiting=0
 ";
 
 // What each of these inputs is, with its status and output.
-const ROUTED: [(&str, &[u8], u8, &[u8]); 4] = [
+const ROUTED: [(&str, &[u8], u8, &[u8]); 5] = [
     (
         "a request to all beside a router",
         BROADCAST,
@@ -124,11 +178,12 @@ const ROUTED: [(&str, &[u8], u8, &[u8]); 4] = [
         0,
         NO_ROUTE_OUTPUT,
     ),
+    ("gateway routers", GATEWAYS, 0, GATEWAYS_OUTPUT),
     ("what isn't built", NOT_BUILT, 3, NOT_BUILT_OUTPUT),
 ];
 
 #[test]
-fn distributed_routers_route(rt: HostRuntime) -> Result<(), Fail> {
+fn routers_route(rt: HostRuntime) -> Result<(), Fail> {
     for (what, events, status, output) in ROUTED {
         let events = Vec::from_slice(rt.alloc(), events)?;
         let (given, sink) = replayed(rt.alloc(), events, 2000)?;

@@ -1,7 +1,5 @@
 -- In each stage of a switch, and in each of a router, rows agree, wherever the packet is.
-use Rattle.std.proofs.Common.{refl}
 use Rattle.row_laws.proofs.agreeing.ArpStage.{arp_agrees}
-use Rattle.row_laws.proofs.agreeing.FlowsAgree.{flows_by_rows, none_in_routers}
 use Rattle.row_laws.proofs.agreeing.GradedStages.{admit_agrees, port_security_agrees, track_agrees, acl_in_agrees, track_out_agrees, acl_out_agrees, security_out_agrees}
 use Rattle.row_laws.proofs.agreeing.GradedRouterStages.{router_admit_agrees, router_own_agrees, router_undo_agrees, router_dnat_agrees, router_find_agrees, router_snat_agrees}
 use Rattle.row_laws.proofs.agreeing.LookupStage.{lookup_agrees}
@@ -9,9 +7,7 @@ use Rattle.row_laws.proofs.agreeing.RouterAnswers.{router_input_agrees}
 use Rattle.row_laws.proofs.agreeing.RouterNeighbours.{router_neighbour_agrees}
 use Rattle.row_laws.proofs.agreeing.RouterRoutes.{router_route_agrees}
 use Rattle.row_laws.proofs.agreeing.StateStages.{state_in_agrees, state_out_agrees}
-use Rattle.logical_flows.specs.Stages.{stage_table}
-use Rattle.logical_flows.specs.declared.stage.Stage.TheVariants as stage
-use Rattle.row_laws.specs.AgreeAnywhere.{AgreeAnywhereLaw, FlowsAgreeLaw, RouterAgreeAnywhereLaw}
+use Rattle.row_laws.specs.AgreeAnywhere.{AgreeAnywhereLaw, RouterAgreeAnywhereLaw}
 use Rattle.row_laws.specs.StageLaws.{OfEachStage}
 use Rattle.row_laws.specs.routers.RouterLaws.{OfEachRouterStage}
 
@@ -41,19 +37,4 @@ each_agrees_on_routers = record {
   neighbour = router_neighbour_agrees;
   find = router_find_agrees;
   snat = router_snat_agrees;
-}
-
-pub each_flows_agree : OfEachStage FlowsAgreeLaw
-each_flows_agree = record {
-  admit = flows_by_rows stage.SwitchAdmit admit_agrees router_admit_agrees;
-  port_security = flows_by_rows stage.SwitchPortSecurity port_security_agrees router_input_agrees;
-  track = flows_by_rows stage.SwitchTrack track_agrees router_undo_agrees;
-  acl_in = flows_by_rows stage.SwitchAclIn acl_in_agrees router_dnat_agrees;
-  state_in = flows_by_rows stage.SwitchStateIn state_in_agrees router_own_agrees;
-  arp = flows_by_rows stage.SwitchArp arp_agrees router_route_agrees;
-  lookup = flows_by_rows stage.SwitchLookup lookup_agrees router_neighbour_agrees;
-  track_out = flows_by_rows stage.SwitchTrackOut track_out_agrees router_find_agrees;
-  acl_out = flows_by_rows stage.SwitchAclOut acl_out_agrees router_snat_agrees;
-  state_out = flows_by_rows stage.SwitchStateOut state_out_agrees (none_in_routers (stage_table stage.SwitchStateOut) refl);
-  security_out = flows_by_rows stage.SwitchSecurityOut security_out_agrees (none_in_routers (stage_table stage.SwitchSecurityOut) refl);
 }

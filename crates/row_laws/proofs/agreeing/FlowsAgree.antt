@@ -45,15 +45,15 @@ use Rattle.row_laws.proofs.records.ValidPorts.{on_switch, port_named, in_grammar
 use Rattle.row_laws.proofs.routers.RouterUnits.{of_table, no_row_at}
 use Rattle.row_laws.proofs.routers.TakenAtRouter as router
 use Rattle.row_laws.proofs.suited.LiveDatapaths.{IsThere, as_switch, as_router, there}
-use Rattle.row_laws.specs.AgreeAnywhere.{AgreeAnywhereLaw, HoldsStageRows, IsOwnKey, FlowsAgreeLaw}
+use Rattle.row_laws.specs.AgreeAnywhere.{AgreeAnywhereLaw, IsOwnKey, HoldsStageRows, FlowsAgreeLaw}
 use Rattle.row_laws.specs.Numbers.{IsDatapathKey, IsPortKey, StandsFor, AreSameMembers, HasNumbersInRange}
 use Rattle.row_laws.specs.Rows.{IsBestRow}
 use Rattle.row_laws.specs.routers.RouterCopies.{router_port_identity, router_roster}
 
--- two unbeaten rows of the table that hold of one packet on a distributed router have equal actions
+-- two unbeaten rows of the table that hold of one packet on a router have equal actions
 abbrev pub RoutersAgreeIn : ℕ → Type 0
 RoutersAgreeIn table =
-    (net : Network) → IsValid net → (d : Name) (router : Router) → at net.routers d ≡ Some router → router.chassis ≡ None → (regs : Regs) (sight : Sight) → HasFieldsInRange sight.packet
+    (net : Network) → IsValid net → (d : Name) (router : Router) → at net.routers d ≡ Some router → (regs : Regs) (sight : Sight) → HasFieldsInRange sight.packet
     → (row other : LFlow) → IsBestRow net (router_roster net) table d regs sight row → IsBestRow net (router_roster net) table d regs sight other → row.actions ≡ other.actions
 
 module _ (net : Network) (keys : Keys) (sets : Sets) (flows : List Flow) (s : Stage) (h : HoldsStageRows net keys sets flows s) where
@@ -211,8 +211,8 @@ module _ (net : Network) (keys : Keys) (sets : Sets) (flows : List Flow) (s : St
       let other = best_in_range net keys sets flows (stage_table s) h.holds who d x sight numbers g two in
       row.ops ∙ ap (lowered_ops keys) (law x sight (low_fields packet) row.row other.row row.best other.best) ∙ sym other.ops
 
-  flows_agree : AgreeAnywhereLaw s → RoutersAgreeIn (stage_table s) → (regs : Regs) (packet : Packet) (f g : Flow) → IsBest flows (stage_table s) regs packet f → IsBest flows (stage_table s) regs packet g → f.ops ≡ g.ops
-  flows_agree law in_routers regs packet f g first second =
+  flows_agree : AgreeAnywhereLaw s → ((d : Name) (y : Router) → at net.routers d ≡ Some y → AgreeOn (router_roster net) d) → (regs : Regs) (packet : Packet) (f g : Flow) → IsBest flows (stage_table s) regs packet f → IsBest flows (stage_table s) regs packet g → f.ops ≡ g.ops
+  flows_agree law on_routers regs packet f g first second =
       let one = low_best regs packet f first in
       let two = low_best regs packet g second in
       let on = of_flow regs packet f one in
@@ -220,11 +220,11 @@ module _ (net : Network) (keys : Keys) (sets : Sets) (flows : List Flow) (s : St
     where
       by : (d : Name) → IsDatapathKey keys d (low_regs regs).dp → IsThere net d → IsBest flows (stage_table s) (low_regs regs) (low_packet packet) f → IsBest flows (stage_table s) (low_regs regs) (low_packet packet) g → f.ops ≡ g.ops
       by d key (as_switch x is) one two = agree_on (roster_of net) d (at_switch d x is) (law net h.valid d (is_found (at net.switches d) x is)) regs packet key f g one two
-      by d key (as_router y is) one two = agree_on (router_roster net) d (at_router d y is) (in_routers net h.valid d y is (h.distributed d y is)) regs packet key f g one two
+      by d key (as_router y is) one two = agree_on (router_roster net) d (at_router d y is) (on_routers d y is) regs packet key f g one two
 
 pub flows_by_rows : (s : Stage) → AgreeAnywhereLaw s → RoutersAgreeIn (stage_table s) → FlowsAgreeLaw s
-flows_by_rows s law in_routers net keys sets flows h regs packet f g first second = flows_agree net keys sets flows s h law in_routers regs packet f g first second
+flows_by_rows s law in_routers net keys sets flows h = flows_agree net keys sets flows s h law (in_routers net h.valid)
 
 -- a router has no row in a table that no stage of routers has
 pub none_in_routers : (n : ℕ) → of_table n ≡ None → RoutersAgreeIn n
-none_in_routers n none net valid d router is off regs sight fields row other first second = absurd (no_row_at net valid d router is n none row first.is_row)
+none_in_routers n none net valid d router is regs sight fields row other first second = absurd (no_row_at net valid d router is n none row first.is_row)

@@ -7,6 +7,7 @@ use Rattle.ovn_base.specs.declared.address.Mac.{Mac}
 use Rattle.ovn_base.specs.declared.name.Name.{Name}
 use Rattle.flow_table.specs.declared.flow.Cause.TheVariants as cause
 use Rattle.flow_table.specs.declared.flow.ZoneOf.TheVariants as zone
+use Rattle.inet_packet.specs.declared.regs.Regs.{Regs}
 use Rattle.nb_records.specs.Network.{Network}
 use Rattle.nb_records.specs.declared.router.Route.{Route}
 use Rattle.nb_records.specs.declared.router.RouterPort.{RouterPort}
@@ -18,21 +19,23 @@ use Rattle.stage_rows.specs.Facts.{own_ips}
 use Rattle.stage_rows.specs.RouterRows.{known_dnat, own_row}
 use Rattle.stage_rows.specs.Rows.{go_on}
 use Rattle.stage_rows.specs.Units.{router_port_rows, route_rows, neighbour_rows, router_rows}
+use Rattle.net_model.specs.Sights.{Sight}
 use Rattle.row_laws.proofs.agreeing.GradedStages.{Told, IsTold, AreTold, each}
-use Rattle.row_laws.proofs.agreeing.TwoRouterRows.{OwnRow, of_port, of_route, of_neighbour, of_router, law_by, same_priority, same_rank}
+use Rattle.row_laws.proofs.agreeing.TwoRouterRows.{AreTakenThere, OwnRow, of_port, of_route, of_neighbour, of_router, law_by, same_priority, same_rank}
 use Rattle.row_laws.proofs.units.StageRows.{is_of_switches}
 use Rattle.row_laws.specs.AgreeAnywhere.{RouterAgreeAnywhereLaw}
 
 -- the rows of all units of the stage are so
-record IsGraded (s : Stage) (f : Told) : Type 0 where
+pub record IsGraded (s : Stage) (f : Told) : Type 0 where
   ports : (net : Network) (q : RouterPort) → AreTold f (router_port_rows s net q)
   routes : (net : Network) (x : Route) → AreTold f (route_rows s net x)
   neighbours : (q : Name) (ip : Ip4) (mac : Mac) → AreTold f (neighbour_rows s q ip mac)
   routers : (translating : Bool) → AreTold f (router_rows s translating)
 
-by_grade : (s : Stage) → is_of_switches s ≡ false → (f : Told) → IsGraded s f → RouterAgreeAnywhereLaw s
-by_grade s of f graded = law_by s of (λ net d regs sight r q t first second.
-    told net d r first ∙ (λ i. f (same_priority t i) (same_rank t i)) ∙ sym (told net d q second))
+-- so two of them that may be taken have equal actions
+pub two_by_grade : (s : Stage) (f : Told) → IsGraded s f
+    → (net : Network) (d : Name) (regs : Regs) (sight : Sight) (r q : LFlow) → AreTakenThere net s d regs sight r q → OwnRow net s d r → OwnRow net s d q → r.actions ≡ q.actions
+two_by_grade s f graded net d regs sight r q t first second = told net d r first ∙ (λ i. f (same_priority t i) (same_rank t i)) ∙ sym (told net d q second)
   where
     told : (net : Network) (d : Name) (r : LFlow) → OwnRow net s d r → IsTold f r
     told net d r (of_port q port is on m) = among_all (IsTold f) r (router_port_rows s net port) (graded.ports net port) m
@@ -40,46 +43,58 @@ by_grade s of f graded = law_by s of (λ net d regs sight r q t first second.
     told net d r (of_neighbour q port is on ip mac known m) = among_all (IsTold f) r (neighbour_rows s q ip mac) (graded.neighbours q ip mac) m
     told net d r (of_router x is m) = among_all (IsTold f) r (router_rows s _) (graded.routers _) m
 
+by_grade : (s : Stage) → is_of_switches s ≡ false → (f : Told) → IsGraded s f → RouterAgreeAnywhereLaw s
+by_grade s of f graded = law_by s of (two_by_grade s f graded)
+
 -- ---- r_admit, r_own
 
-abbrev at_admit : Told
+abbrev pub at_admit : Told
 at_admit p k = cond (nat_eq p 50) (go_on stage.RouterAdmit ∷ []) (a.Drop cause.NotForRouter ∷ [])
 
-pub router_admit_agrees : RouterAgreeAnywhereLaw stage.RouterAdmit
-router_admit_agrees = by_grade stage.RouterAdmit refl at_admit (record {
+pub admit_graded : IsGraded stage.RouterAdmit at_admit
+admit_graded = record {
   ports = λ net q. (refl, (refl, tt));
   routes = λ net x. tt;
   neighbours = λ q ip mac. tt;
   routers = λ translating. (refl, tt);
-})
+}
 
-abbrev at_own : Told
+pub router_admit_agrees : RouterAgreeAnywhereLaw stage.RouterAdmit
+router_admit_agrees = by_grade stage.RouterAdmit refl at_admit admit_graded
+
+abbrev pub at_own : Told
 at_own p k = cond (nat_eq p 100) (a.Drop cause.ForRouter ∷ []) (go_on stage.RouterOwn ∷ [])
 
-pub router_own_agrees : RouterAgreeAnywhereLaw stage.RouterOwn
-router_own_agrees = by_grade stage.RouterOwn refl at_own (record {
+pub own_graded : IsGraded stage.RouterOwn at_own
+own_graded = record {
   ports = λ net q. each at_own own_row (λ ip. refl) (own_ips q);
   routes = λ net x. tt;
   neighbours = λ q ip mac. tt;
   routers = λ translating. (refl, tt);
-})
+}
+
+pub router_own_agrees : RouterAgreeAnywhereLaw stage.RouterOwn
+router_own_agrees = by_grade stage.RouterOwn refl at_own own_graded
 
 -- ---- r_undo, r_dnat, r_find, r_snat
 
-abbrev at_undo : Told
+abbrev pub at_undo : Told
 at_undo p k = cond (nat_eq p 100) (a.Undo ∷ a.Find zone.Dnat ∷ go_on stage.RouterUndo ∷ []) (go_on stage.RouterUndo ∷ [])
 
 undo_rows : (translating : Bool) → AreTold at_undo (router_rows stage.RouterUndo translating)
 undo_rows true = (refl, (refl, tt))
 undo_rows false = (refl, tt)
 
-pub router_undo_agrees : RouterAgreeAnywhereLaw stage.RouterUndo
-router_undo_agrees = by_grade stage.RouterUndo refl at_undo (record {
+pub undo_graded : IsGraded stage.RouterUndo at_undo
+undo_graded = record {
   ports = λ net q. tt;
   routes = λ net x. tt;
   neighbours = λ q ip mac. tt;
   routers = undo_rows;
-})
+}
+
+pub router_undo_agrees : RouterAgreeAnywhereLaw stage.RouterUndo
+router_undo_agrees = by_grade stage.RouterUndo refl at_undo undo_graded
 
 abbrev at_dnat : Told
 at_dnat p k = cond (nat_eq p 100) known_dnat (go_on stage.RouterDnat ∷ [])
@@ -92,20 +107,23 @@ router_dnat_agrees = by_grade stage.RouterDnat refl at_dnat (record {
   routers = λ translating. (refl, (refl, (refl, tt)));
 })
 
-abbrev at_find : Told
+abbrev pub at_find : Told
 at_find p k = cond (nat_eq p 100) (a.Find zone.Snat ∷ go_on stage.RouterFind ∷ []) (go_on stage.RouterFind ∷ [])
 
 find_rows : (translating : Bool) → AreTold at_find (router_rows stage.RouterFind translating)
 find_rows true = (refl, (refl, tt))
 find_rows false = (refl, tt)
 
-pub router_find_agrees : RouterAgreeAnywhereLaw stage.RouterFind
-router_find_agrees = by_grade stage.RouterFind refl at_find (record {
+pub find_graded : IsGraded stage.RouterFind at_find
+find_graded = record {
   ports = λ net q. tt;
   routes = λ net x. tt;
   neighbours = λ q ip mac. tt;
   routers = find_rows;
-})
+}
+
+pub router_find_agrees : RouterAgreeAnywhereLaw stage.RouterFind
+router_find_agrees = by_grade stage.RouterFind refl at_find find_graded
 
 abbrev at_snat : Told
 at_snat p k = cond (nat_eq p 200) (a.Touch ∷ a.Translate ∷ go_on stage.RouterSnat ∷ []) (go_on stage.RouterSnat ∷ [])

@@ -90,7 +90,7 @@ module _ (net : Network) (d : Name) (regs : Regs) (sight : Sight) (r q : LFlow) 
   agree (answers h x) (does l m) = absurd (false≢true (sym l ∙ ap (λ n. nat_eq n 100) (sym (same_priority t)) ∙ h))
   agree (answers h x) (answers l y) = one_answer x y
 
-  taken_in : OwnRow net stage.RouterInput d r → OwnRow net stage.RouterInput d q → r.actions ≡ q.actions
+  pub taken_in : OwnRow net stage.RouterInput d r → OwnRow net stage.RouterInput d q → r.actions ≡ q.actions
   taken_in first second = agree (kind r t.first.holds_here first) (kind q t.second.holds_here second)
 
 pub router_input_agrees : RouterAgreeAnywhereLaw stage.RouterInput

@@ -79,7 +79,7 @@ module _ (net : Network) (d : Name) (regs : Regs) (sight : Sight) (r q : LFlow) 
   agree (sends h x) (drops l m) = let same = same_priority t in absurd (omega (arith, same, h, l))
   agree (sends h x) (sends l y) = one_neighbour x y
 
-  sent : OwnRow net stage.RouterNeighbour d r → OwnRow net stage.RouterNeighbour d q → r.actions ≡ q.actions
+  pub sent : OwnRow net stage.RouterNeighbour d r → OwnRow net stage.RouterNeighbour d q → r.actions ≡ q.actions
   sent first second = agree (kind r t.first.holds_here first) (kind q t.second.holds_here second)
 
 pub router_neighbour_agrees : RouterAgreeAnywhereLaw stage.RouterNeighbour

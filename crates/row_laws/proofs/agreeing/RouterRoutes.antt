@@ -79,7 +79,7 @@ module _ (net : Network) (d : Name) (regs : Regs) (sight : Sight) (r q : LFlow) 
       let parts = same_weight w.length v.length w.is_network v.is_network heavy in
       k ∙ ap (λ y. route_actions (Some y)) (same_way net t.valid d dst w v way other parts.0 parts.1) ∙ sym m
 
-  routed : OwnRow net stage.RouterRoute d r → OwnRow net stage.RouterRoute d q → r.actions ≡ q.actions
+  pub routed : OwnRow net stage.RouterRoute d r → OwnRow net stage.RouterRoute d q → r.actions ≡ q.actions
   routed first second = agree (kind r t.first.holds_here first) (kind q t.second.holds_here second)
 
 pub router_route_agrees : RouterAgreeAnywhereLaw stage.RouterRoute

@@ -45,19 +45,19 @@ use Rattle.row_laws.specs.Rows.{RowHolds}
 
 -- ---- virtual addresses to which a packet goes
 
-abbrev proto_of : BalancerProtocol → ℕ
+abbrev pub proto_of : BalancerProtocol → ℕ
 proto_of balanced.Tcp = 6
 proto_of balanced.Udp = 17
 
-abbrev port_of : BalancerProtocol → Packet → ℕ
+abbrev pub port_of : BalancerProtocol → Packet → ℕ
 port_of balanced.Tcp packet = field.tcp_dst packet.body
 port_of balanced.Udp packet = field.udp_dst packet.body
 
 -- what the terms of a virtual address ask of a packet: the protocol's number and the destination
-record GoesAt (packet : Packet) (kind : BalancerProtocol) (at : Backend) : Type 0 where
-  ip : field.ip4_dst packet.body ≡ at.ip.0
-  proto : field.ip_proto packet.body ≡ proto_of kind
-  port : port_of kind packet ≡ at.port
+pub record GoesAt (packet : Packet) (kind : BalancerProtocol) (at : Backend) : Type 0 where
+  pub ip : field.ip4_dst packet.body ≡ at.ip.0
+  pub proto : field.ip_proto packet.body ≡ proto_of kind
+  pub port : port_of kind packet ≡ at.port
 
 module _ (who : Roster) (s : Sight) (range : HasFieldsInRange s.packet) where
   -- the field is there, and has the number
@@ -72,7 +72,7 @@ module _ (who : Roster) (s : Sight) (range : HasFieldsInRange s.packet) where
   udp_needs : has_needs f.UdpDst no_regs s.packet ≡ (carries_ip4 s.packet && (field.ip_proto s.packet.body == 17))
   udp_needs = λ i. whole 16 (field.ether_type s.packet.body) 0x800 (small who s range f.EthType refl 16 refl) (omega arith) i && (and-true _ ∙ whole 8 (field.ip_proto s.packet.body) 17 (small who s range f.IpProto refl 8 refl) (omega arith)) i
 
-  goes : (kind : BalancerProtocol) (at : Backend) → IsBackend at → list_all (says who s) (to_vip kind at) ≡ true → GoesAt s.packet kind at
+  pub goes : (kind : BalancerProtocol) (at : Backend) → IsBackend at → list_all (says who s) (to_vip kind at) ≡ true → GoesAt s.packet kind at
   goes balanced.Tcp at ok h =
       let one = and_parts (says who s (e.Is p.Tcp)) _ h in
       let two = and_parts (says who s (ip_is f.Ip4Dst at.ip)) _ one.1 in
@@ -86,13 +86,13 @@ module _ (who : Roster) (s : Sight) (range : HasFieldsInRange s.packet) where
       let proto = and_parts (carries_ip4 s.packet) _ (sym udp_needs ∙ port.0) in
       record { ip = (has f.Ip4Dst refl at.ip.0 ok.ip two.0).1; proto = eqb-true (field.ip_proto s.packet.body) 17 proto.1; port = port.1 }
 
-one_kind : (x y : BalancerProtocol) → proto_of x ≡ proto_of y → x ≡ y
+pub one_kind : (x y : BalancerProtocol) → proto_of x ≡ proto_of y → x ≡ y
 one_kind balanced.Tcp balanced.Tcp h = refl
 one_kind balanced.Udp balanced.Udp h = refl
 one_kind balanced.Tcp balanced.Udp h = absurd (omega (arith, h))
 one_kind balanced.Udp balanced.Tcp h = absurd (omega (arith, h))
 
-one_place : (packet : Packet) (x y : BalancerProtocol) (v w : Backend) → x ≡ y → GoesAt packet x v → GoesAt packet y w → v ≡ w
+pub one_place : (packet : Packet) (x y : BalancerProtocol) (v w : Backend) → x ≡ y → GoesAt packet x v → GoesAt packet y w → v ≡ w
 one_place packet x y v w same h k =
     let ip : v.ip.0 ≡ w.ip.0 = sym h.ip ∙ k.ip in
     let port : v.port ≡ w.port = sym h.port ∙ ap (λ z. port_of z packet) same ∙ k.port in

@@ -1,4 +1,4 @@
--- Of the balancers of a switch one alone has a virtual address, with its port and protocol, and has it once.
+-- Of the balancers of a switch or router one alone has a virtual address, with its port and protocol, and has it once.
 use Rattle.std.specs.Prelude.{◌≡◌, ◌==◌, ◌&&◌, Bool, true, false, cond, List, [], ◌∷◌, map, Option, Some, None, refl}
 use Rattle.std.specs.Cmp.{IsTotalOrder}
 use Rattle.std.specs.List.{AllByRecursion}
@@ -23,6 +23,7 @@ use Rattle.nb_records.specs.declared.balancer.BalancerProtocol.TheVariants as ba
 use Rattle.nb_records.specs.declared.balancer.LoadBalancer.{LoadBalancer}
 use Rattle.nb_records.specs.declared.balancer.Vip.{Vip}
 use Rattle.nb_records.specs.declared.record.Record.TheVariants as row
+use Rattle.nb_records.specs.declared.router.Router.{Router}
 use Rattle.nb_records.specs.declared.switch.Switch.{Switch}
 use Rattle.nb_rules.specs.First.{least_of}
 use Rattle.nb_rules.specs.Holders.{is_before, ip_number, vip_ip, same_protocol, has_vip_at, is_balancer_before, is_taken_vip, taken_vip, repeated_vip_from, repeated_vip}
@@ -99,49 +100,75 @@ own_protocol balanced.Udp = refl
 own_backend : (b : Backend) → same_backend b b ≡ true
 own_backend b = and_from (b.ip.0 == b.ip.0) (b.port == b.port) (eq-eqb b.ip.0 b.ip.0 refl) (eq-eqb b.port b.port refl)
 
+-- a balancer that is there and serves the switch or router
+pub record IsServingAt (net : Network) (d : Name) (name : Name) (b : LoadBalancer) : Type 0 where
+  pub there' : at net.load_balancers name ≡ Some b
+  pub serves : serves_at d b ≡ true
+
+module _ (net : Network) (valid : IsValid net) where
+  pub own_name : (name : Name) (b : LoadBalancer) → at net.load_balancers name ≡ Some b → b.name ≡ name
+  own_name name b is = among_all (λ (e : Name × LoadBalancer). e.1.name ≡ e.0) (name, b) net.load_balancers valid.named.load_balancers (at_among net.load_balancers name b is)
+
+  pub in_grammar : (name : Name) (b : LoadBalancer) → at net.load_balancers name ≡ Some b → IsLoadBalancer b
+  in_grammar name b is =
+      let r = row.LoadBalancer b in
+      let own = among_map (λ (e : Name × LoadBalancer). row.LoadBalancer e.1) (name, b) net.load_balancers (at_among net.load_balancers name b is) in
+      among_all IsInGrammar r (records_of net) valid.in_grammar (among_left r _ _ (among_right r _ _ own))
+
+  -- a balancer has an address once
+  pub one_of_its : (name : Name) (b : LoadBalancer) → at net.load_balancers name ≡ Some b → (v w : Vip) → Among v b.vips → Among w b.vips → v.at ≡ w.at → v ≡ w
+  one_of_its name b is v w m n e = one_vip b.vips (in_grammar name b is).vips.in_order v w m n e
+
+  module _ (d : Name) (once : repeated_vip net d ≡ None) where
+    -- one before another has no address of it
+    before_clash : (m n : Name) (x y : LoadBalancer) → IsServingAt net d m x → IsServingAt net d n y → x.protocol ≡ y.protocol → (v w : Vip) → Among v x.vips → Among w y.vips → v.at ≡ w.at → is_before x.name y.name ≡ true → ⊥
+    before_clash m n x y a b kind v w in_x in_y same earlier =
+        let free = none_taken net d net.load_balancers once (n, y) (at_among net.load_balancers n y b.there') b.serves w in_y in
+        let has : has_vip_at w.at x ≡ true = among_any (λ (u : Vip). same_backend w.at u.at) v x.vips in_x (ap (same_backend w.at) same ∙ own_backend w.at) in
+        let taken : is_taken_vip net d y w ≡ true =
+        among_any (λ (e : Name × LoadBalancer). is_balancer_before d y e.1 && (same_protocol e.1.protocol y.protocol && has_vip_at w.at e.1)) (m, x) net.load_balancers (at_among net.load_balancers m x a.there')
+        (and_from (is_balancer_before d y x) (same_protocol x.protocol y.protocol && has_vip_at w.at x) (and_from (serves_at d x) (is_before x.name y.name) a.serves earlier)
+        (and_from (same_protocol x.protocol y.protocol) (has_vip_at w.at x) (ap (λ k. same_protocol k y.protocol) kind ∙ own_protocol y.protocol) has)) in
+        false≢true (sym free ∙ taken)
+
+    pub one_serving : (m n : Name) (x y : LoadBalancer) → IsServingAt net d m x → IsServingAt net d n y → x.protocol ≡ y.protocol → (v w : Vip) → Among v x.vips → Among w y.vips → v.at ≡ w.at → x ≡ y
+    one_serving m n x y a b kind v w in_x in_y same = by (ordered x.name y.name)
+      where
+        by : InOrder x.name y.name → x ≡ y
+        by (InOrder.same e) = same_Some x y (sym a.there' ∙ ap (λ k. at net.load_balancers k) (sym (own_name m x a.there') ∙ e ∙ own_name n y b.there') ∙ b.there')
+        by (InOrder.before e) = absurd (before_clash m n x y a b kind v w in_x in_y same e)
+        by (InOrder.behind e) = absurd (before_clash n m y x b a (sym kind) w v in_y in_x (sym same) e)
+
+  -- no virtual address stands twice on a router
+  pub once_on_router : (d : Name) (x : Router) → at net.routers d ≡ Some x → repeated_vip net d ≡ None
+  once_on_router d x is =
+      let e = at_among net.routers d x is in
+      subst (λ n. repeated_vip net n ≡ None) (among_all (λ (e : Name × Router). e.1.name ≡ e.0) (d, x) net.routers valid.named.routers e)
+      (among_all (λ (e : Name × Router). repeated_vip net e.1.name ≡ None) (d, x) net.routers (whole net valid).router_vips e)
+
+-- ---- on a switch
+
 module _ (net : Network) (valid : IsValid net) (d : Name) (sw : Switch) (is_switch : at net.switches d ≡ Some sw) where
-  none_repeated : repeated_vip net d ≡ None
+  -- no virtual address stands twice on the switch
+  pub none_repeated : repeated_vip net d ≡ None
   none_repeated =
       let e = at_among net.switches d sw is_switch in
       subst (λ n. repeated_vip net n ≡ None) (among_all (λ (e : Name × Switch). e.1.name ≡ e.0) (d, sw) net.switches valid.named.switches e)
       (among_all (λ (e : Name × Switch). repeated_vip net e.1.name ≡ None) (d, sw) net.switches (whole net valid).switch_vips e)
 
   -- a balancer that is there and serves the switch
-  pub record IsServing (name : Name) (b : LoadBalancer) : Type 0 where
-    pub there' : at net.load_balancers name ≡ Some b
-    pub serves : serves_at d b ≡ true
-
-  named : (name : Name) (b : LoadBalancer) → at net.load_balancers name ≡ Some b → b.name ≡ name
-  named name b is = among_all (λ (e : Name × LoadBalancer). e.1.name ≡ e.0) (name, b) net.load_balancers valid.named.load_balancers (at_among net.load_balancers name b is)
-
-  -- one before another has no address of it
-  before_clash : (m n : Name) (x y : LoadBalancer) → IsServing m x → IsServing n y → x.protocol ≡ y.protocol → (v w : Vip) → Among v x.vips → Among w y.vips → v.at ≡ w.at → is_before x.name y.name ≡ true → ⊥
-  before_clash m n x y a b kind v w in_x in_y same earlier =
-      let free = none_taken net d net.load_balancers none_repeated (n, y) (at_among net.load_balancers n y b.there') b.serves w in_y in
-      let has : has_vip_at w.at x ≡ true = among_any (λ (u : Vip). same_backend w.at u.at) v x.vips in_x (ap (same_backend w.at) same ∙ own_backend w.at) in
-      let taken : is_taken_vip net d y w ≡ true =
-      among_any (λ (e : Name × LoadBalancer). is_balancer_before d y e.1 && (same_protocol e.1.protocol y.protocol && has_vip_at w.at e.1)) (m, x) net.load_balancers (at_among net.load_balancers m x a.there')
-      (and_from (is_balancer_before d y x) (same_protocol x.protocol y.protocol && has_vip_at w.at x) (and_from (serves_at d x) (is_before x.name y.name) a.serves earlier)
-      (and_from (same_protocol x.protocol y.protocol) (has_vip_at w.at x) (ap (λ k. same_protocol k y.protocol) kind ∙ own_protocol y.protocol) has)) in
-      false≢true (sym free ∙ taken)
+  abbrev pub IsServing : Name → LoadBalancer → Type 0
+  IsServing name b = IsServingAt net d name b
 
   pub one_balancer : (m n : Name) (x y : LoadBalancer) → IsServing m x → IsServing n y → x.protocol ≡ y.protocol → (v w : Vip) → Among v x.vips → Among w y.vips → v.at ≡ w.at → x ≡ y
-  one_balancer m n x y a b kind v w in_x in_y same = by (ordered x.name y.name)
-    where
-      by : InOrder x.name y.name → x ≡ y
-      by (InOrder.same e) = same_Some x y (sym a.there' ∙ ap (λ k. at net.load_balancers k) (sym (named m x a.there') ∙ e ∙ named n y b.there') ∙ b.there')
-      by (InOrder.before e) = absurd (before_clash m n x y a b kind v w in_x in_y same e)
-      by (InOrder.behind e) = absurd (before_clash n m y x b a (sym kind) w v in_y in_x (sym same) e)
+  one_balancer = one_serving net valid d none_repeated
 
   pub balancer_ok : (name : Name) (b : LoadBalancer) → at net.load_balancers name ≡ Some b → IsLoadBalancer b
-  balancer_ok name b is =
-      let r = row.LoadBalancer b in
-      let own = among_map (λ (e : Name × LoadBalancer). row.LoadBalancer e.1) (name, b) net.load_balancers (at_among net.load_balancers name b is) in
-      among_all IsInGrammar r (records_of net) valid.in_grammar (among_left r _ _ (among_right r _ _ own))
+  balancer_ok = in_grammar net valid
 
   -- and one alone of its own
   pub one_of_vips : (name : Name) (b : LoadBalancer) → at net.load_balancers name ≡ Some b → (v w : Vip) → Among v b.vips → Among w b.vips → v.at ≡ w.at → v ≡ w
-  one_of_vips name b is v w m n e = one_vip b.vips (balancer_ok name b is).vips.in_order v w m n e
+  one_of_vips = one_of_its net valid
 
   pub name_of_balancer : (name : Name) (b : LoadBalancer) → at net.load_balancers name ≡ Some b → b.name ≡ name
-  name_of_balancer name b is = named name b is
+  name_of_balancer = own_name net valid

@@ -42,13 +42,13 @@ weigh m n false false = grind (arith, nat_tests)
 pub better_is : (a b : Way) → is_better_way a b ≡ nat_lt (weight b) (weight a)
 better_is a b = weigh a.length b.length a.is_network b.is_network
 
-less_other : (m n : ℕ) → nat_lt n m ≡ true → nat_lt m n ≡ false
+pub less_other : (m n : ℕ) → nat_lt n m ≡ true → nat_lt m n ≡ false
 less_other m n h = grind (arith, nat_tests)
 
-less_itself : (m : ℕ) → nat_lt m m ≡ false
+pub less_itself : (m : ℕ) → nat_lt m m ≡ false
 less_itself m = grind (arith, nat_tests)
 
-less_along : (m n k : ℕ) → nat_lt n m ≡ false → nat_lt k n ≡ false → nat_lt k m ≡ false
+pub less_along : (m n k : ℕ) → nat_lt n m ≡ false → nat_lt k n ≡ false → nat_lt k m ≡ false
 less_along m n k h j = grind (arith, nat_tests)
 
 pub ways_order : IsOrder is_better_way

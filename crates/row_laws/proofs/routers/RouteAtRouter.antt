@@ -43,7 +43,7 @@ use Rattle.row_laws.specs.routers.RouterCopies.{RouterCopy, router_roster}
 use Rattle.row_laws.specs.routers.RouterLaws.{RouterStageLaw}
 
 -- numbers of which neither is less are one
-tied : (n k : ℕ) → nat_lt k n ≡ false → (n < k → ⊥) → n ≡ k
+pub tied : (n k : ℕ) → nat_lt k n ≡ false → (n < k → ⊥) → n ≡ k
 tied n k low high = elim (cases_lt k n) [ inl less ↦ absurd (false≢true (sym low ∙ lt-ltb k n less)) | inr ge ↦ elim (cases_lt n k) [ inl more ↦ absurd (high more) | inr le ↦ omega (arith, le, ge) ] ]
 
 -- the row of a route that leaves by the best way to its next hop stands in the table

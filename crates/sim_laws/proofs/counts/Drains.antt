@@ -77,32 +77,32 @@ none_first w ws e = cc e
 
 -- ---- all that wait
 
-module _ (law : ChassisWalksLaw) (arrival : ArrivalJourneyLaw) (zones : Zoned) (sets : Sets) (more : ℕ) where
+module _ (law : ChassisWalksLaw) (arrival : ArrivalJourneyLaw) (zones : Zoned) (sets : Sets) where
   waiting_same : (m : State) (s t : SimState) → BothHold m zones sets s t → s.waiting ≡ t.waiting
   waiting_same m s t h = h.first.waiting ∙ sym h.second.waiting
 
-  arrived_at : (m : State) (s t mid other : SimState) (before between then middle : SimOut) → IsUnderWay m zones more → BothHold m zones sets s t → (now : ℕ) → m.clock ≡ now → (n l : ℕ) → n ≡ l
+  arrived_at : (more : ℕ) (m : State) (s t mid other : SimState) (before between then middle : SimOut) → IsUnderWay m zones more → BothHold m zones sets s t → (now : ℕ) → m.clock ≡ now → (n l : ℕ) → n ≡ l
       → (a : IsArrived any_legal s n false now before between mid) (b : IsArrived any_legal t l false now then middle other) → Alike (came_arrived a) (came_arrived b) mid other
-  arrived_at m s t mid other before between then middle u h now is n l same =
+  arrived_at more m s t mid other before between then middle u h now is n l same =
       subst (λ k. (a : IsArrived any_legal s n false k before between mid) (b : IsArrived any_legal t l false k then middle other) → Alike (came_arrived a) (came_arrived b) mid other) is
       (λ a. subst (λ e. (b : IsArrived any_legal t e false m.clock then middle other) → Alike (came_arrived a) (came_arrived b) mid other) same (λ b. arrived_alike law m zones sets more u s t h mid other before between then middle n false a b))
 
-  pub drained_alike : (k now : ℕ) (m : State) (s t new end : SimState) (before after then later : SimOut) → m.clock ≡ now → IsUnderWay m zones more → BothHold m zones sets s t
+  pub drained_alike : (k now more : ℕ) (m : State) (s t new end : SimState) (before after then later : SimOut) → m.clock ≡ now → IsUnderWay m zones more → BothHold m zones sets s t
       → (a : AreDrained now k s before after new) (b : AreDrained now k t then later end) → Alike (came_drained k now s new before after a) (came_drained k now t end then later b) new end
-  drained_alike zero now m s t new end before after then later is u h a b = alike_none a.0 b.0 a.1 b.1 h.same_zones
-  drained_alike (suc k) now m s t new end before after then later is u h (inl a) (inl b) = alike_none a.1 b.1 a.2 b.2 h.same_zones
-  drained_alike (suc k) now m s t new end before after then later is u h (inl a) (inr g) = absurd (none_first (g.n, g.frame) g.behind (sym a.0 ∙ waiting_same m s t h ∙ g.first))
-  drained_alike (suc k) now m s t new end before after then later is u h (inr f) (inl b) = absurd (none_first (f.n, f.frame) f.behind (sym b.0 ∙ sym (waiting_same m s t h) ∙ f.first))
-  drained_alike (suc k) now m s t new end before after then later is u h (inr f) (inr g) =
+  drained_alike zero now more m s t new end before after then later is u h a b = alike_none a.0 b.0 a.1 b.1 h.same_zones
+  drained_alike (suc k) now more m s t new end before after then later is u h (inl a) (inl b) = alike_none a.1 b.1 a.2 b.2 h.same_zones
+  drained_alike (suc k) now more m s t new end before after then later is u h (inl a) (inr g) = absurd (none_first (g.n, g.frame) g.behind (sym a.0 ∙ waiting_same m s t h ∙ g.first))
+  drained_alike (suc k) now more m s t new end before after then later is u h (inr f) (inl b) = absurd (none_first (f.n, f.frame) f.behind (sym b.0 ∙ sym (waiting_same m s t h) ∙ f.first))
+  drained_alike (suc k) now more m s t new end before after then later is u h (inr f) (inr g) =
       let n : f.n ≡ g.n = ap first_number (sym f.first ∙ waiting_same m s t h ∙ g.first) in
-      let j =
-      (arrival m zones sets more s f.mid any_legal f.n false before f.between u h.first (subst (λ c. IsArrived any_legal s f.n false c before f.between f.mid) (sym is) f.arrives)).journey in
-      let i =
-      (arrival m zones sets more t g.mid any_legal g.n false then g.between u h.second (subst (λ c. IsArrived any_legal t g.n false c then g.between g.mid) (sym is) g.arrives)).journey in
+      let came = arrival m zones sets more s f.mid any_legal f.n false before f.between u h.first (subst (λ c. IsArrived any_legal s f.n false c before f.between f.mid) (sym is) f.arrives) in
+      let comes = arrival m zones sets more t g.mid any_legal g.n false then g.between u h.second (subst (λ c. IsArrived any_legal t g.n false c then g.between g.mid) (sym is) g.arrives) in
+      let j = came.journey in
+      let i = comes.journey in
       let still = j.moves.rest in
       alike_then zones sets m (came_arrived f.arrives) (came_arrived g.arrives) (came_drained k now f.mid new f.between after f.others) (came_drained k now g.mid end g.between later g.others) j i (ap (λ l. arrive_one l false) n)
-      (arrived_at m s t f.mid g.mid before f.between then g.between u h now is f.n g.n n f.arrives g.arrives)
-      (λ left zs. drained_alike k now j.left f.mid g.mid new end f.between after g.between later (ap (λ (l : State). l.clock) still ∙ is) j.sound
+      (arrived_at more m s t f.mid g.mid before f.between then g.between u h now is f.n g.n n f.arrives g.arrives)
+      (λ left zs. drained_alike k now (more + came.sent) j.left f.mid g.mid new end f.between after g.between later (ap (λ (l : State). l.clock) still ∙ is) j.sound
       (record { first = j.held; second = subst (λ (l : State). HoldsNetwork l zones.numbers sets g.mid) (sym left) i.held; same_zones = zs }) f.others g.others)
 
 -- ---- the laws
@@ -111,7 +111,7 @@ pub drains_count : ChassisWalksLaw → ArrivalJourneyLaw → DrainCountLaw
 drains_count law arrival m zones sets more most s t new end before after then later u h a b = record {
   one = came_drained most m.clock s new before after a;
   other = came_drained most m.clock t end then later b;
-  alike = drained_alike law arrival zones sets more most m.clock m s t new end before after then later refl u h a b;
+  alike = drained_alike law arrival zones sets most m.clock more m s t new end before after then later refl u h a b;
 }
 
 pub through_count : ChassisWalksLaw → EntryJourneyLaw → ArrivalJourneyLaw → ThroughCountLaw
@@ -129,6 +129,6 @@ through_count law entry arrival m zones sets more s t new end port frame after l
           (came_drained most_arrivals m.clock b.mid end b.between later b.drained) j i (ap (enter_one port) (sym packet))
           (subst (λ p. (x : IsInjected any_legal t port m.clock p no_out b.between b.mid) → Alike (came_injected a.goes_in.injected) (came_injected x) a.mid b.mid) (sym packet)
           (λ x. injected_alike law m zones sets more u s t h a.mid b.mid no_out a.between no_out b.between port a.goes_in.packet a.goes_in.injected x) b.goes_in.injected)
-          (λ left zs. drained_alike law arrival zones sets (more + e.sent) most_arrivals m.clock j.left a.mid b.mid new end a.between after b.between later (ap (λ (l : State). l.clock) still) j.sound
+          (λ left zs. drained_alike law arrival zones sets most_arrivals m.clock (more + e.sent) j.left a.mid b.mid new end a.between after b.between later (ap (λ (l : State). l.clock) still) j.sound
           (record { first = j.held; second = subst (λ (l : State). HoldsNetwork l zones.numbers sets b.mid) (sym left) i.held; same_zones = zs }) a.drained b.drained);
     }

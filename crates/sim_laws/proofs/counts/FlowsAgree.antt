@@ -51,7 +51,7 @@ module _ (stages : OfEachStage FlowsAgreeLaw) (m : State) (zones : Zoned) (more 
   ]
 
   holds : (s : Stage) → HoldsRows m.config.net m.keys sets flows (stage_table s) → HoldsStageRows m.config.net m.keys sets flows s
-  holds s h = record { valid = u.valid; distributed = u.distributed; holds = h; members = members; owned = owned }
+  holds s h = record { valid = u.valid; holds = h; members = members; owned = owned }
 
   module _ (regs : Regs) (packet : Packet) (f g : Flow) where
     abbrev Agree : ℕ → Type 0

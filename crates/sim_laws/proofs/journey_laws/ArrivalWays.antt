@@ -1,4 +1,4 @@
--- A packet that arrives leaves no crossing, and writes no list but those of ports that are bound to the chassis.
+-- A packet that arrives leaves no crossing where it comes to virtual ports alone, and writes no list but those of ports that are bound to the chassis.
 use Rattle.std.specs.Prelude.{◌≡◌, ◌&&◌, not, ℕ, Bool, true, false, cond, [], Option, Some, None, refl}
 use Rattle.std.proofs.Common.{sym, ap, ◌∙◌}
 use Rattle.std.proofs.lemmas.Bool.{and_parts}

@@ -4,7 +4,7 @@ use Rattle.std.specs.BTreeMap.{is_at}
 use Rattle.std.specs.List.{AllZip}
 use Rattle.std.specs.Map.{remove_entry}
 use Rattle.std.specs.Ordering.{nat_cmp}
-use Rattle.std.proofs.Common.{sym, ap, ◌∙◌, subst, append-nil, arith, inl, inr}
+use Rattle.std.proofs.Common.{sym, ap, ◌∙◌, subst, arith, inl, inr}
 use Rattle.std.proofs.lemmas.Bool.{cases_Bool}
 use Rattle.std.proofs.lemmas.Option.{none-some}
 use Rattle.chassis_sim.specs.Frames.{Carries}
@@ -24,7 +24,7 @@ use Rattle.nb_records.specs.declared.switch.SwitchPort.{SwitchPort}
 use Rattle.net_model.specs.Arrival.{is_reached, arrival}
 use Rattle.net_model.specs.Config.{is_chassis}
 use Rattle.net_model.specs.Entry.{Scene}
-use Rattle.net_model.specs.Journey.{joined_by, kept_or_not, arrive_at, comes_as, arrive_one, scene_at, scenes_of, go, numbered_from}
+use Rattle.net_model.specs.Journey.{joined_by, kept_or_not, arrive_at, comes_as, arrive_one, scene_at, scenes_of, go}
 use Rattle.net_model.specs.Leads.{list_owners}
 use Rattle.net_model.specs.State.{State, event_count}
 use Rattle.net_model.specs.Trail.{Trail, Lists, End, is_lost, choices_in, crossings_in}
@@ -36,6 +36,7 @@ use Rattle.ovn_base.specs.declared.name.Name.{Name}
 use Rattle.ovn_base.specs.lists.Among.{Among}
 use Rattle.ovn_base.specs.names.SameName.{same_name, bytes_decides}
 use Rattle.physical_flows.proofs.FlowSearch.{is_some_of}
+use Rattle.row_laws.specs.Distributed.{AreDistributed}
 use Rattle.switch_engine.specs.Outcome.{Choosing}
 use Rattle.switch_engine.specs.Walk.{start}
 use Rattle.switch_engine.specs.Zones.{ZoneLists}
@@ -58,6 +59,8 @@ use Rattle.sim_laws.proofs.journey_laws.Rezoning.{rezoned_hold, zoned_still}
 use Rattle.sim_laws.proofs.journey_laws.SentCrossings.{member_enabled}
 use Rattle.sim_laws.proofs.journey_laws.Telling.{at_home_still, other, led, led_sound, told_effects, told_held}
 use Rattle.sim_laws.proofs.journey_laws.ArrivalWays.{IsAimed, arrival_on}
+use Rattle.sim_laws.proofs.journey_laws.ReachedWays.{arrival_left}
+use Rattle.sim_laws.proofs.journey_laws.Ways.{WayOn, one_way}
 use Rattle.sim_laws.proofs.journey_laws.Walked.{IsWalked, walked}
 use Rattle.sim_laws.specs.Held.{frame_of_crossing}
 use Rattle.sim_laws.specs.Naming.{IsNumbered}
@@ -105,25 +108,29 @@ module _ (m : State) (zones : Zoned) (sets : Sets) (more : ℕ) (s new : sim.Sim
   abbrev IsArrival : Type 0
   IsArrival = IsComing m zones sets more n keep before after new
 
+  -- the crossings may wait, and there is none where all routers are distributed
+  abbrev Such : List Crossing → Type 0
+  Such xs = ((y : Crossing) → Among y xs → MayWait m y) × (AreDistributed m.config.net → xs ≡ [])
+
   -- ---- with its ends
 
   module _ (x : Crossing) (waits : sim.numbered m.waiting n ≡ Some x) (own : List End) (lists : Lists) (zs : List (Name × ZoneLists)) (hold : (c : Name) (held : ZoneLists) → at_name zs c ≡ Some held → HoldLists (zones_on zones.numbers c) held lists) (zoned : AreZoned s.chassis zs)
-      (steps : List Step) (effects : List Effect) (owners : list_owners lists ≡ list_owners m.lists) (numbered : AllZip (IsNumbered m.keys) own effects) (on : AreEndsOn x.home n own) (none : crossings_in own ≡ [])
+      (steps : List Step) (effects : List Effect) (owners : list_owners lists ≡ list_owners m.lists) (numbered : AllZip (IsNumbered m.keys) own effects) (on : AreEndsOn x.home n own) (such : Such (crossings_in own))
       (is : (choices : List Choice) → arrive_at (scenes_of m x.home) n x (trail_with m.lists (choices_in own ++ choices) []) ≡ trail_with lists choices own)
       (told : IsTold (record (arrived s n keep) { zones = zs }) x.home (start_of.Frame n) steps effects before after new) where
     abbrev rest : List (ℕ × Crossing)
     rest = rest_of keep m n
 
-    may_none : (y : Crossing) → Among y (crossings_in own) → MayWait m y
-    may_none y among = absurd (among_none y (subst (λ xs. Among y xs) none among))
+    abbrev sent : ℕ
+    sent = length (crossings_in own)
 
-    few_then : m.next + length (crossings_in own) ≤ 1 + 2 ^ 64 * event_count m + more
-    few_then = let zero' : length (crossings_in own) ≡ 0 = ap (λ (xs : List Crossing). length xs) none in let few = u.few_sent in omega (arith, zero', few)
+    few_then : m.next + sent ≤ 1 + 2 ^ 64 * event_count m + (more + sent)
+    few_then = let few = u.few_sent in omega (arith, few)
 
     pub came : IsArrival
     came =
         let frames = frames_kept keep m s n h.waiting in
-        let journey : IsJourney m zones sets more (arrive_one n keep) before after new = record {
+        let journey : IsJourney m zones sets (more + sent) (arrive_one n keep) before after new = record {
           ends = own;
           effects = told_effects m zones.numbers sets s h lists rest zs (arrived s n keep).waiting hold frames x.home (start_of.Frame n) steps own effects numbered on before after new told;
           left = led m lists rest own;
@@ -136,10 +143,10 @@ module _ (m : State) (zones : Zoned) (sets : Sets) (more : ℕ) (s new : sim.Sim
                 ∙ ap (joined_by (journey_in (other m m.lists rest m.next) (choices_in own ++ choices) ends)) (is choices);
             rest = refl;
           };
-          sound = led_sound m zones more more lists rest own u (at_home_still m.config m.lists lists owners u.at_home) (crossings_rest keep m n u.crossings) may_none few_then;
+          sound = led_sound m zones more (more + sent) lists rest own u (at_home_still m.config m.lists lists owners u.at_home) (crossings_rest keep m n u.crossings) such.0 few_then;
           held = told_held m zones.numbers sets s h lists rest zs (arrived s n keep).waiting hold frames x.home (start_of.Frame n) steps own effects numbered on before after new told zoned;
         } in
-        record { journey = journey; none_sent = none; waiting = ap (λ xs. rest ++ numbered_from m.next xs) none ∙ append-nil rest }
+        record { sent = sent; journey = journey; count = refl; may = such.0; waiting = refl; none_sent = such.1 }
 
   -- ---- through the tables
 
@@ -161,19 +168,24 @@ module _ (m : State) (zones : Zoned) (sets : Sets) (more : ℕ) (s new : sim.Sim
     may_wait : MayWait m x
     may_wait = u.crossings.may n x (numbered_among m.waiting n x waits)
 
-    -- a port that is reached is virtual: those that lead to routers are at home everywhere
-    aimed_virtual : (aim : Aim) → (q : SwitchPort) → IsAimed scene n x aim q → is_reached scene q ≡ true → is_virtual q ≡ true
-    aimed_virtual (ToPort id) q aimed at_home = reached_virtual m.config u.valid u.distributed x.home id.name q aimed.0 at_home
-    aimed_virtual (ToGroup g) q among at_home = let e = member_enabled m.config.net u.valid x.datapath.name g q among in reached_virtual m.config u.valid u.distributed x.home q.name q e.there at_home
+    module _ (distributed : AreDistributed m.config.net) where
+      -- a port that is reached is virtual: those that lead to routers are at home everywhere
+      aimed_virtual : (aim : Aim) → (q : SwitchPort) → IsAimed scene n x aim q → is_reached scene q ≡ true → is_virtual q ≡ true
+      aimed_virtual (ToPort id) q aimed at_home = reached_virtual m.config u.valid distributed x.home id.name q aimed.0 at_home
+      aimed_virtual (ToGroup g) q among at_home = let e = member_enabled m.config.net u.valid x.datapath.name g q among in reached_virtual m.config u.valid distributed x.home q.name q e.there at_home
 
-    abbrev Such : List Crossing → Type 0
-    Such xs = xs ≡ []
+      -- so nothing crosses
+      none_crosses : (xs : List Crossing) (t : Trail) → WayOn m.config x.home n xs t (way t) → xs ≡ []
+      none_crosses xs t on = one_way m.config x.home n xs [] t (way t) on (arrival_on scene n x (λ is q aimed at_home. aimed_virtual x.aim q aimed at_home) t)
 
     w : IsWalked k n Such way m.lists effects left
     w =
         let may = may_arrive m zones.numbers sets by flows (tunnel_entry_of m.keys x) x.home x may_wait in
-        walked k n Such whole_walk way m.lists lists (start (tunnel_entry_of m.keys x) x.packet ∷ []) (arrives k zones.numbers ready.around ready.distributed ready.owned n x may refl m.lists lists (h.zones x.home lists listed))
-        (λ choices legal. record { crossings = []; such = refl; way = arrival_on scene n x (λ is q aimed at_home. aimed_virtual x.aim q aimed at_home) (trail_with m.lists choices []) }) steps effects left walk
+        walked k n Such whole_walk way m.lists lists (start (tunnel_entry_of m.keys x) x.packet ∷ []) (arrives k zones.numbers ready.around ready.owned n x may refl m.lists lists (h.zones x.home lists listed))
+        (λ choices.
+        let first : Trail = trail_with m.lists choices [] in
+        let a = arrival_left m u.valid u.keys x.home n x first in
+        record { crossings = a.crossings; such = λ wholes. ((λ y among. a.may y among (wholes y among)), λ distributed. none_crosses distributed a.crossings first a.way); way = a.way }) steps effects left walk
 
     pub comes_through : IsArrival
     comes_through =
@@ -185,7 +197,7 @@ module _ (m : State) (zones : Zoned) (sets : Sets) (more : ℕ) (s new : sim.Sim
 
   pub comes_lost : (x : Crossing) → sim.numbered m.waiting n ≡ Some x → ¬ Among x.home m.config.chassis → IsTold (arrived s n keep) x.home (start_of.Frame n) [] (effect.Lost ∷ []) before after new → IsArrival
   comes_lost x waits gone told =
-      came x waits (is_lost n ∷ []) m.lists s.zones h.zones h.zoned [] (effect.Lost ∷ []) refl (IsNumbered.lost, tt) (refl, tt) refl
+      came x waits (is_lost n ∷ []) m.lists s.zones h.zones h.zoned [] (effect.Lost ∷ []) refl (IsNumbered.lost, tt) (refl, tt) ((λ y among. absurd (among_none y among)), λ distributed. refl)
       (λ choices. ap (λ o. arrive_at o n x (trail_with m.lists choices [])) (no_scene m x.home gone)) told
 
   pub arrives_by : FillingLaw → RoutedArrivalLaw → WholeWalkLaw → (by : Choosing) → passing.IsArrived by s n keep m.clock before after new → IsArrival
@@ -208,4 +220,5 @@ module _ (m : State) (zones : Zoned) (sets : Sets) (more : ℕ) (s new : sim.Sim
       (subst (λ d. IsTold (arrived s n keep) d (start_of.Frame n) [] (effect.Lost ∷ []) before after new) home told)
 
 pub arrives_so : FillingLaw → RoutedArrivalLaw → WholeWalkLaw → ArrivalJourneyLaw
-arrives_so fills arrives whole_walk m zones sets more s new by n keep before after u h told = arrives_by m zones sets more s new n keep before after u h fills arrives whole_walk by told
+arrives_so fills arrives whole_walk m zones sets more s new by n keep before after u h told =
+    arrives_by m zones sets more s new n keep before after u h fills arrives whole_walk by told

@@ -1,6 +1,6 @@
 -- Frames that arrive on the simulated chassis one after another, and a packet that goes in before.
 use Rattle.std.specs.Prelude.{◌≡◌, ◌+◌, ◌++◌, ℕ, zero, suc, false, List, [], ◌∷◌, length, map, refl}
-use Rattle.std.proofs.Common.{sym, ap, ◌∙◌, subst, append_assoc, append-nil, arith, inl, inr}
+use Rattle.std.proofs.Common.{sym, ap, ◌∙◌, subst, append_assoc, append-nil, length-append, arith, inl, inr}
 use Rattle.chassis_sim.specs.State.{SimState}
 use Rattle.chassis_sim.specs.declared.out.SimOut.{SimOut}
 use Rattle.chassis_sim.specs.declared.underlay.WaitingFrame.{WaitingFrame}
@@ -20,7 +20,7 @@ use Rattle.sim_laws.proofs.journey_laws.Ways.{crossings_append}
 use Rattle.sim_laws.specs.Effects.{effects_of, spelled}
 use Rattle.sim_laws.specs.Held.{frame_of_crossing}
 use Rattle.sim_laws.specs.Passing.{most_arrivals, AreDrained, no_out, GoesThrough}
-use Rattle.sim_laws.specs.journeys.Events.{AllArriveLaw, GoesThroughLaw}
+use Rattle.sim_laws.specs.journeys.Events.{IsThrough, AllArriveLaw, GoesThroughLaw}
 use Rattle.sim_laws.specs.journeys.Holding.{HoldsNetwork}
 use Rattle.sim_laws.specs.journeys.Moves.{AreMoved}
 use Rattle.sim_laws.specs.journeys.Refining.{IsJourney, EntryJourneyLaw, ArrivalJourneyLaw}
@@ -68,14 +68,13 @@ none_of m e = by m.waiting e
 
 -- ---- one after another
 
--- what came of the frames that arrived, for which none was sent
+-- what came of the frames that arrived, and of those that were sent for them
 pub record IsDrained (k : ℕ) (m : State) (zones : Zoned) (sets : Sets) (more : ℕ) (before after : SimOut) (new : SimState) : Type 0 where
   pub ends : List End
   pub effects : after.effects ≡ before.effects ++ effects_of m.keys m.next ends
-  pub none_sent : crossings_in ends ≡ []
   pub left : State
   pub moved : AreMoved k m ends left
-  pub sound : IsUnderWay left zones more
+  pub sound : IsUnderWay left zones (more + length (crossings_in ends))
   pub held : HoldsNetwork left zones.numbers sets new
 
 -- the effects of ends that come behind others
@@ -88,73 +87,85 @@ behind_effects m mid own more first second third keys next is also =
     ∙ ap (λ es. first ++ (effects_of m.keys m.next own ++ es)) (ap (λ k. effects_of k mid.next more) keys ∙ ap (λ n. effects_of m.keys n more) next)
     ∙ ap (λ es. first ++ es) (sym (effects_append m.keys m.next own more))
 
-module _ (arrival : ArrivalJourneyLaw) (zones : Zoned) (sets : Sets) (more : ℕ) where
-  drained : (k : ℕ) (m : State) (s new : SimState) (before after : SimOut) → IsUnderWay m zones more → HoldsNetwork m zones.numbers sets s → AreDrained m.clock k s before after new → IsDrained k m zones sets more before after new
-  drained zero m s new before after u h d = record {
+-- the frames that were sent for one and for the others are those sent for both
+sound_both : (m : State) (zones : Zoned) (more sent : ℕ) (es fs : List End) → length (crossings_in es) ≡ sent → IsUnderWay m zones ((more + sent) + length (crossings_in fs)) → IsUnderWay m zones (more + length (crossings_in (es ++ fs)))
+sound_both m zones more sent es fs count u =
+    let all : length (crossings_in (es ++ fs)) ≡ length (crossings_in es) + length (crossings_in fs) = ap (λ (xs : List Crossing). length xs) (crossings_append es fs) ∙ length-append (crossings_in es) (crossings_in fs) in
+    let same : (more + sent) + length (crossings_in fs) ≡ more + length (crossings_in (es ++ fs)) = omega (arith, all, count) in
+    subst (λ n. IsUnderWay m zones n) same u
+
+none_more : (m : State) (zones : Zoned) (more : ℕ) → IsUnderWay m zones more → IsUnderWay m zones (more + length (crossings_in []))
+none_more m zones more u = let same : more ≡ more + 0 = omega arith in subst (λ n. IsUnderWay m zones n) same u
+
+module _ (arrival : ArrivalJourneyLaw) (zones : Zoned) (sets : Sets) where
+  drained : (k more : ℕ) (m : State) (s new : SimState) (before after : SimOut) → IsUnderWay m zones more → HoldsNetwork m zones.numbers sets s → AreDrained m.clock k s before after new → IsDrained k m zones sets more before after new
+  drained zero more m s new before after u h d = record {
     ends = [];
     effects = ap (λ (o : SimOut). o.effects) d.0 ∙ sym (append-nil before.effects);
-    none_sent = refl;
     left = m;
     moved = (refl, refl);
-    sound = u;
+    sound = none_more m zones more u;
     held = subst (λ (z : SimState). HoldsNetwork m zones.numbers sets z) (sym d.1) h;
   }
-  drained (suc k) m s new before after u h (inl d) = record {
+  drained (suc k) more m s new before after u h (inl d) = record {
     ends = [];
     effects = ap (λ (o : SimOut). o.effects) d.1 ∙ sym (append-nil before.effects);
-    none_sent = refl;
     left = m;
     moved = inl (none_of m (sym h.waiting ∙ d.0), refl, refl);
-    sound = u;
+    sound = none_more m zones more u;
     held = subst (λ (z : SimState). HoldsNetwork m zones.numbers sets z) (sym d.2) h;
   }
-  drained (suc k) m s new before after u h (inr f) =
+  drained (suc k) more m s new before after u h (inr f) =
       let first = first_of m f.n f.frame f.behind (sym h.waiting ∙ f.first) in
       let came = arrival m zones sets more s f.mid any_legal f.n false before f.between u h f.arrives in
       let a = came.journey in
       let still = a.moves.rest in
       let r =
-      drained k a.left f.mid new f.between after a.sound a.held (subst (λ t. AreDrained t k f.mid f.between after new) (sym (ap (λ (l : State). l.clock) still)) f.others) in
+      drained k (more + came.sent) a.left f.mid new f.between after a.sound a.held (subst (λ t. AreDrained t k f.mid f.between after new) (sym (ap (λ (l : State). l.clock) still)) f.others) in
       record {
         ends = a.ends ++ r.ends;
         effects = behind_effects m a.left a.ends r.ends before.effects f.between.effects after.effects (ap (λ (l : State). l.keys) still) (ap (λ (l : State). l.next) still) a.effects r.effects;
-        none_sent = crossings_append a.ends r.ends ∙ ap (λ cs. cs ++ crossings_in r.ends) came.none_sent ∙ r.none_sent;
         left = r.left;
         moved = inr (record { n = f.n; crossing = first.crossing; behind = first.behind; first = first.first; own = a.ends; more = r.ends; all = refl; mid = a.left; arrives = a.moves; others = r.moved });
-        sound = r.sound;
+        sound = sound_both r.left zones more came.sent a.ends r.ends came.count r.sound;
         held = r.held;
       }
 
-  pub all_arrive : (m : State) (s new : SimState) (before after : SimOut) → IsUnderWay m zones more → HoldsNetwork m zones.numbers sets s → AreDrained m.clock most_arrivals s before after new → IsDrained most_arrivals m zones sets more before after new
-  all_arrive m s new before after u h d = drained most_arrivals m s new before after u h d
+  pub all_arrive : (more : ℕ) (m : State) (s new : SimState) (before after : SimOut) → IsUnderWay m zones more → HoldsNetwork m zones.numbers sets s → AreDrained m.clock most_arrivals s before after new → IsDrained most_arrivals m zones sets more before after new
+  all_arrive more m s new before after u h d = drained most_arrivals more m s new before after u h d
 
 pub all_arrives : ArrivalJourneyLaw → AllArriveLaw
 all_arrives arrival m zones sets more s new before after u h d =
     let r = all_arrive arrival zones sets more m s new before after u h d in
-    record { ends = r.ends; effects = r.effects; left = r.left; moves = all_drain m r.ends r.left r.moved; sound = r.sound; held = r.held }
+    record {
+      sent = length (crossings_in r.ends);
+      journey = record { ends = r.ends; effects = r.effects; left = r.left; moves = all_drain m r.ends r.left r.moved; sound = r.sound; held = r.held };
+      count = refl;
+    }
 
--- what a packet left that went in, and what all left that waited then: the frames that it sent are all
-then_drained : ArrivalJourneyLaw → (m : State) (zones : Zoned) (sets : Sets) (more : ℕ) (s new : SimState) (port : Name) (frame : List ℕ) (after : SimOut) (through : GoesThrough m.clock s port frame after new)
-    → (a : IsJourney m zones sets more (enter_one port through.goes_in.packet) no_out through.between through.mid)
-    → (j : IsJourney m zones sets more (enter_and_arrive port through.goes_in.packet) no_out after new) × (crossings_in j.ends ≡ crossings_in a.ends)
-then_drained arrival m zones sets more s new port frame after through a =
+-- what a packet left that went in, and what all left that waited then
+then_drained : ArrivalJourneyLaw → (m : State) (zones : Zoned) (sets : Sets) (more first : ℕ) (s new : SimState) (port : Name) (frame : List ℕ) (after : SimOut) (through : GoesThrough m.clock s port frame after new)
+    → (a : IsJourney m zones sets (more + first) (enter_one port through.goes_in.packet) no_out through.between through.mid) → length (crossings_in a.ends) ≡ first
+    → IsThrough m zones sets more (enter_and_arrive port through.goes_in.packet) no_out after new
+then_drained arrival m zones sets more first s new port frame after through a count =
     let still = a.moves.rest in
     let r =
-    all_arrive arrival zones sets more a.left through.mid new through.between after a.sound a.held (subst (λ t. AreDrained t most_arrivals through.mid through.between after new) (sym (ap (λ (l : State). l.clock) still)) through.drained) in (
-      record {
+    all_arrive arrival zones sets (more + first) a.left through.mid new through.between after a.sound a.held (subst (λ t. AreDrained t most_arrivals through.mid through.between after new) (sym (ap (λ (l : State). l.clock) still)) through.drained) in
+    record {
+      sent = length (crossings_in (a.ends ++ r.ends));
+      journey = record {
         ends = a.ends ++ r.ends;
         effects = behind_effects m a.left a.ends r.ends no_out.effects through.between.effects after.effects (ap (λ (l : State). l.keys) still) (ap (λ (l : State). l.next) still) a.effects r.effects;
         left = r.left;
         moves = enters_and_drains m port through.goes_in.packet a.ends r.ends a.left r.left a.moves r.moved;
-        sound = r.sound;
+        sound = sound_both r.left zones more first a.ends r.ends count r.sound;
         held = r.held;
-      },
-      crossings_append a.ends r.ends ∙ ap (λ cs. crossings_in a.ends ++ cs) r.none_sent ∙ append-nil (crossings_in a.ends),
-    )
+      };
+      count = refl;
+    }
 
 pub goes_through : EntryJourneyLaw → ArrivalJourneyLaw → GoesThroughLaw
 goes_through entry arrival m zones sets more s new port frame after u h through =
     let g = through.goes_in in
     let e = entry m zones sets more s through.mid any_legal port g.packet no_out through.between u h g.whole g.injected in
-    let t = then_drained arrival m zones sets (more + e.sent) s new port frame after through e.journey in
-    record { sent = e.sent; journey = t.0; count = ap length t.1 ∙ e.count }
+    then_drained arrival m zones sets more e.sent s new port frame after through e.journey e.count

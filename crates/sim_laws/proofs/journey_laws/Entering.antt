@@ -2,7 +2,7 @@
 use Rattle.std.specs.Prelude.{◌≡◌, ◌+◌, ◌++◌, ℕ, true, cond, List, [], ◌∷◌, length, Some, None, refl}
 use Rattle.std.specs.Option.{option_and_then}
 use Rattle.std.proofs.Common.{sym, ap, ◌∙◌, subst, arith}
-use Rattle.std.proofs.lemmas.Option.{none-some}
+use Rattle.std.proofs.lemmas.Option.{none-some, same_Some}
 use Rattle.chassis_sim.specs.Holding.{IsWalkBy, with_lists}
 use Rattle.chassis_sim.specs.Passing as passing
 use Rattle.chassis_sim.specs.Passing.{IsTold, rezoned}
@@ -19,7 +19,7 @@ use Rattle.nb_records.specs.declared.switch.SwitchPort.{SwitchPort}
 use Rattle.net_model.specs.Entry.{Scene}
 use Rattle.net_model.specs.Journey.{joined_by, enter_by, enter_on, scene_at, scenes_of}
 use Rattle.net_model.specs.State.{State}
-use Rattle.net_model.specs.Trail.{Trail, of_port, list_of, choices_in, crossings_in}
+use Rattle.net_model.specs.Trail.{Trail, choices_in, crossings_in}
 use Rattle.net_model.specs.Visit.{visit}
 use Rattle.net_model.specs.declared.crossing.Crossing.{Crossing}
 use Rattle.ovn_base.proofs.AmongLaws.{among_any}
@@ -28,7 +28,6 @@ use Rattle.ovn_base.specs.lists.Among.{Among}
 use Rattle.ovn_base.specs.names.ByName.{at}
 use Rattle.ovn_base.specs.names.SameName.{same_name, bytes_decides}
 use Rattle.row_laws.proofs.records.ValidPorts.{port_named, own_place}
-use Rattle.row_laws.specs.routers.RouterThrough.{IntakeLaw}
 use Rattle.switch_engine.specs.Outcome.{Choosing}
 use Rattle.switch_engine.specs.Walk.{start}
 use Rattle.switch_engine.specs.Zones.{ZoneLists}
@@ -39,22 +38,22 @@ use Rattle.switch_engine.specs.declared.walk.Step.{Step}
 use Rattle.tunnel_keys.proofs.HeldKeys.{found}
 use Rattle.sim_laws.proofs.journey_laws.Ready.{is_ready}
 use Rattle.sim_laws.proofs.journey_laws.Rezoning.{rezoned_hold, zoned_still}
+use Rattle.sim_laws.proofs.journey_laws.StraightWays.{visit_sends}
 use Rattle.sim_laws.proofs.journey_laws.Telling.{at_home_still, led, led_sound, told_effects, told_held}
 use Rattle.sim_laws.proofs.journey_laws.VisitWays.{visit_left}
 use Rattle.sim_laws.proofs.journey_laws.Walked.{IsWalked, walked}
-use Rattle.sim_laws.proofs.journey_laws.WholePackets.{enter_whole}
-use Rattle.sim_laws.proofs.pipelines.HeldLists.{list_is}
+use Rattle.sim_laws.proofs.journey_laws.Ways.{WayOn, one_way}
 use Rattle.sim_laws.specs.journeys.Filling.{FillingLaw}
 use Rattle.sim_laws.specs.journeys.Holding.{HoldsNetwork}
 use Rattle.sim_laws.specs.journeys.InState.{chassis_at, zones_on}
 use Rattle.sim_laws.specs.journeys.Moves.{journey_in}
 use Rattle.sim_laws.specs.journeys.Premises.{IsReady}
-use Rattle.sim_laws.specs.journeys.Refining.{IsEntry, EntryJourneyLaw}
+use Rattle.sim_laws.specs.journeys.Refining.{AreStraight, HasVirtualPorts, IsEntry, EntryJourneyLaw}
 use Rattle.sim_laws.specs.journeys.UnderWay.{IsUnderWay}
 use Rattle.sim_laws.specs.routers.Visits.{RoutedVisitLaw}
 use Rattle.sim_laws.specs.Sound.{MayWait}
 use Rattle.sim_laws.specs.passes.Whole.{WholeWalkLaw}
-use Rattle.sim_laws.specs.pipelines.HeldLists.{IsGoodList, HoldLists}
+use Rattle.sim_laws.specs.pipelines.HeldLists.{HoldLists}
 use Rattle.sim_laws.specs.pipelines.Pieces.{trail_with}
 use Rattle.sim_laws.specs.pipelines.Standing.{Chassis}
 
@@ -63,7 +62,7 @@ pub scene_there : (m : State) (chassis : Name) → Among chassis m.config.chassi
 scene_there m chassis is =
     ap (λ b. cond b (Some (scene_at m chassis)) None) (among_any (λ c. same_name c chassis) chassis m.config.chassis is ((bytes_decides chassis chassis).1 refl))
 
-module _ (intake_law : IntakeLaw) (fills : FillingLaw) (visits : RoutedVisitLaw) (whole_walk : WholeWalkLaw) (m : State) (zones : Zoned) (sets : Sets) (more : ℕ) (s new : sim.SimState) (by : Choosing) (before after : SimOut) (u : IsUnderWay m zones more) (h : HoldsNetwork m zones.numbers sets s)
+module _ (fills : FillingLaw) (visits : RoutedVisitLaw) (whole_walk : WholeWalkLaw) (m : State) (zones : Zoned) (sets : Sets) (more : ℕ) (s new : sim.SimState) (by : Choosing) (before after : SimOut) (u : IsUnderWay m zones more) (h : HoldsNetwork m zones.numbers sets s)
     (i : SwitchPort) (there : at m.config.net.switch_ports i.name ≡ Some i) (packet : Packet) (whole : IsWhole packet) where
   abbrev Entry : Type 0
   Entry = IsEntry m zones sets more i.name packet before after new
@@ -85,25 +84,25 @@ module _ (intake_law : IntakeLaw) (fills : FillingLaw) (visits : RoutedVisitLaw)
     hold : HoldLists k.number lists m.lists
     hold = h.zones chassis lists listed
 
-    good : IsGoodList (list_of m.lists (of_port i.name))
-    good =
-        let z = found (k.number (of_port i.name)) (ready.around.wired.zoned i.name home) in
-        let own = hold (of_port i.name) z.0 z.1 in
-        subst IsGoodList (sym (list_is m.lists (of_port i.name) own.list own.has)) own.good
-
-    abbrev Such : List Crossing → Type 0
-    Such xs = (x : Crossing) → Among x xs → MayWait m x
-
     is_one : is_virtual i ≡ true
     is_one = u.bound_virtual i.name chassis i home there
 
+    abbrev Such : List Crossing → Type 0
+    Such xs = ((x : Crossing) → Among x xs → MayWait m x) × (HasVirtualPorts m.config.net i.switch → AreStraight m.config.net i xs)
+
+    -- from a switch all whose ports are virtual it crosses straight
+    straight : HasVirtualPorts m.config.net i.switch → (xs : List Crossing) (t : Trail) → WayOn m.config chassis 0 xs t (way t) → AreStraight m.config.net i xs
+    straight virtual xs t on =
+        let r = visit_sends scene u.valid i home virtual is_one t packet in
+        subst (AreStraight m.config.net i) (one_way m.config chassis 0 r.crossings xs t (way t) r.way on) (record { few = r.few u.bound.few_chassis; each = r.own })
+
     w : IsWalked k 0 Such way m.lists effects left
     w =
-        walked k 0 Such whole_walk way m.lists lists (start (Vif i.name) packet ∷ []) (visits k zones.numbers ready.around ready.distributed i there is_one home refl packet whole m.lists lists hold)
-        (λ choices legal.
+        walked k 0 Such whole_walk way m.lists lists (start (Vif i.name) packet ∷ []) (visits k zones.numbers ready.around i there is_one home refl packet whole m.lists lists hold)
+        (λ choices.
         let first : Trail = trail_with m.lists choices [] in
-        let x = visit_left m u.valid u.keys u.distributed u.bound_virtual chassis intake_law i there is_one home first packet (enter_whole scene u.valid i there first (λ is. good) packet whole) in
-        record { crossings = x.crossings; such = x.may legal; way = x.way }) steps effects left walk
+        let x = visit_left m u.valid u.keys chassis 0 i there is_one home first packet in
+        record { crossings = x.crossings; such = λ wholes. ((λ y among. x.may y among (wholes y among)), λ virtual. straight virtual x.crossings first x.way); way = x.way }) steps effects left walk
 
     abbrev sent : ℕ
     sent = length (crossings_in w.own)
@@ -127,12 +126,15 @@ module _ (intake_law : IntakeLaw) (fills : FillingLaw) (visits : RoutedVisitLaw)
                   ap (λ o. enter_on o i.name packet j) bound ∙ ap (λ o. enter_by scene o packet j) there ∙ ap (joined_by j) (w.is choices []);
               rest = refl;
             };
-            sound = led_sound m zones more (more + sent) w.after m.waiting w.own u (at_home_still m.config m.lists w.after w.owners u.at_home) u.crossings w.crossings (omega (arith, few));
+            sound = led_sound m zones more (more + sent) w.after m.waiting w.own u (at_home_still m.config m.lists w.after w.owners u.at_home) u.crossings w.crossings.0 (omega (arith, few));
             held = told_held m zones.numbers sets s h w.after m.waiting (with_lists s.zones chassis left) s.waiting hold_after h.waiting chassis (start_of.Port i.name) steps w.own effects w.numbered w.on before after new told (zoned_still s.chassis s.zones chassis left h.zoned);
           };
           count = refl;
-          may = w.crossings;
+          may = w.crossings.0;
           waiting = refl;
+          straight = λ q found virtual.
+              let same : i ≡ q = same_Some i q (sym there ∙ found) in
+              subst (λ (o : SwitchPort). AreStraight m.config.net o (crossings_in w.own)) same (w.crossings.1 (subst (λ (o : SwitchPort). HasVirtualPorts m.config.net o.switch) (sym same) virtual));
         }
 
   enters_at : passing.IsInjected by s i.name m.clock packet before after new → Entry
@@ -147,10 +149,10 @@ bound_of : (by : Choosing) (s new : sim.SimState) (p : Name) (now : ℕ) (packet
 bound_of by s new p now packet before after (passing.IsInjected.through chassis flows lists left steps effects bound held listed walk told) = (chassis, bound)
 bound_of by s new p now packet before after (passing.IsInjected.nowhere chassis bound none told) = (chassis, bound)
 
-pub enters_so : IntakeLaw → FillingLaw → RoutedVisitLaw → WholeWalkLaw → EntryJourneyLaw
-enters_so intake_law fills visits whole_walk m zones sets more s new by p packet before after u h whole injected =
+pub enters_so : FillingLaw → RoutedVisitLaw → WholeWalkLaw → EntryJourneyLaw
+enters_so fills visits whole_walk m zones sets more s new by p packet before after u h whole injected =
     let b = bound_of by s new p m.clock packet before after injected in
     let i = found (at m.config.net.switch_ports p) (u.bound.port_there p b.0 (sym (h.bindings p) ∙ b.1)) in
     let named = port_named m.config.net u.valid p i.0 i.1 in
     subst (λ q. passing.IsInjected by s q m.clock packet before after new → IsEntry m zones sets more q packet before after new) named
-    (enters_at intake_law fills visits whole_walk m zones sets more s new by before after u h i.0 (own_place m.config.net u.valid p i.0 i.1) packet whole) injected
+    (enters_at fills visits whole_walk m zones sets more s new by before after u h i.0 (own_place m.config.net u.valid p i.0 i.1) packet whole) injected

@@ -77,7 +77,6 @@ module _ (m : State) (zones : Zoned) (sets : Sets) (more : ℕ) (s : SimState) (
   kept = (
     record {
       valid = u.valid;
-      distributed = u.distributed;
       keys = u.keys;
       bound = u.bound;
       bound_virtual = u.bound_virtual;
@@ -127,7 +126,6 @@ module _ (m : State) (zones : Zoned) (sets : Sets) (more : ℕ) (s : SimState) (
       let b = births_then m u.born in (
         record {
           valid = u.valid;
-          distributed = u.distributed;
           keys = keys_settled;
           bound = u.bound;
           bound_virtual = u.bound_virtual;
@@ -163,7 +161,6 @@ finishes m zones sets more s u few events h = over m zones sets more s u few eve
 pub begins : BeginsLaw
 begins m zones r = record {
   valid = r.valid;
-  distributed = r.distributed;
   keys = r.keys;
   bound = r.bound;
   bound_virtual = r.bound_virtual;

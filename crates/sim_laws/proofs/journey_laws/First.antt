@@ -132,7 +132,7 @@ no_members = record { entries = λ name. refl; ports = λ name. refl }
 
 pub first : FirstLaw
 first = (
-  record { valid = no_records; distributed = λ a router e. absurd (none-some router e); keys = no_keys_held; bound = nothing_bound; bound_virtual = λ q chassis port e f. absurd (none-some port f); at_home = record { ports = refl; dnats = refl; snats = refl }; born = nobody_born; on_the_way = nothing_waits; few = omega arith },
+  record { valid = no_records; keys = no_keys_held; bound = nothing_bound; bound_virtual = λ q chassis port e f. absurd (none-some port f); at_home = record { ports = refl; dnats = refl; snats = refl }; born = nobody_born; on_the_way = nothing_waits; few = omega arith },
   record {
     bindings = λ q. refl;
     names = record { datapaths = λ a k e. absurd (none-some k e); ports = λ q p k e f. absurd (none-some p e) };

@@ -12,20 +12,24 @@ use Rattle.std.proofs.lemmas.Option.{none-some, same_Some}
 use Rattle.chassis_sim.specs.State as sim
 use Rattle.chassis_sim.specs.State.{at_name}
 use Rattle.conn_table.specs.Connections.{ConnectionList}
-use Rattle.conn_zones.specs.Zoning.{Zoned, KnownHomes, number_on}
+use Rattle.conn_zones.specs.Zoning.{Zoned, KnownHomes, home_for, number_on}
 use Rattle.conn_zones.specs.declared.numbers.ZoneUse.{ZoneUse}
 use Rattle.conn_zones.specs.declared.numbers.ZoneUse.TheVariants as zone
 use Rattle.net_model.specs.ListOwners.{homed_routers}
-use Rattle.net_model.specs.Trail.{of_port}
+use Rattle.net_model.specs.Trail.{ListOwner, of_port, dnat_of, snat_of}
 use Rattle.ovn_base.proofs.ByNameLaws.{one_or_two, at_head, at_tail}
 use Rattle.ovn_base.proofs.SameEntries.{same_found}
 use Rattle.ovn_base.specs.declared.name.Name.{Name}
+use Rattle.ovn_base.specs.lists.Among.{Among}
 use Rattle.ovn_base.specs.names.ByName.{at, IsByName}
 use Rattle.physical_flows.proofs.FlowSearch.{is_some_of}
+use Rattle.physical_flows.proofs.HomedRouters.{router_names, router_homes_exact}
 use Rattle.switch_engine.specs.Zones.{ZoneLists}
 use Rattle.tunnel_keys.proofs.HeldKeys.{found}
-use Rattle.sim_laws.proofs.Homes.{no_homed}
+use Rattle.sim_laws.proofs.Homes.{home_there}
+use Rattle.sim_laws.specs.journeys.InState.{use_of}
 use Rattle.sim_laws.specs.journeys.SeenLists.{list_in, lists_at, SeenListsLaw}
+use Rattle.sim_laws.specs.pipelines.HeldLists.{list_there}
 
 -- ---- entries
 
@@ -82,33 +86,46 @@ module _ (s : sim.SimState) (zones : Zoned) (whose : Name → ZoneUse) (lists : 
       seen_too listed_too
 
 pub lists_are_seen : SeenListsLaw
-lists_are_seen m zones sets more s u h = λ i. record { ports = ports_seen i; dnats = routers_seen zone.Dnat m.lists.dnats u.at_home.dnats i; snats = routers_seen zone.Snat m.lists.snats u.at_home.snats i }
+lists_are_seen m zones sets more s u h = λ i. record { ports = ports_seen i; dnats = dnats_seen i; snats = snats_seen i }
   where
-    home_at : (q c : Name) → at zones.homes.ports q ≡ Some c → at m.config.bindings q ≡ Some c
-    home_at q c home = ap (λ (k : KnownHomes). at k.ports q) (sym u.bound.homes) ∙ home
-
-    -- a port's list is the one in its zone
-    in_zone : (q c : Name) (list : ConnectionList) → at zones.homes.ports q ≡ Some c → at m.lists.ports q ≡ Some list → list_in (at_name s.zones c) (number_on zones.numbers c (zone.Port q)) ≡ list
-    in_zone q c list home own =
-        let z = found (number_on zones.numbers c (zone.Port q)) ((u.bound.zoned.at_home c (zone.Port q)).0 home) in
-        let lists = found (at_name s.zones c) (h.zoned c ∙ (h.held c).1 (u.bound.chassis_there q c (home_at q c home))) in
-        let held = h.zones c lists.0 lists.1 (of_port q) z.0 z.1 in
-        ap (λ (o : Option ZoneLists). list_in o (number_on zones.numbers c (zone.Port q))) lists.1
+    -- a list is the one in its zone
+    in_zone : (owner : ListOwner) (c : Name) (list : ConnectionList) → home_for zones.homes (use_of owner) ≡ Some c → Among c m.config.chassis → list_there m.lists owner ≡ Some list
+        → list_in (at_name s.zones c) (number_on zones.numbers c (use_of owner)) ≡ list
+    in_zone owner c list home known own =
+        let z = found (number_on zones.numbers c (use_of owner)) ((u.bound.zoned.at_home c (use_of owner)).0 home) in
+        let lists = found (at_name s.zones c) (h.zoned c ∙ (h.held c).1 known) in
+        let held = h.zones c lists.0 lists.1 owner z.0 z.1 in
+        ap (λ (o : Option ZoneLists). list_in o (number_on zones.numbers c (use_of owner))) lists.1
         ∙ ap (list_in (Some lists.0)) z.1
         ∙ ap (λ (o : Option ConnectionList). unwrap_or o []) held.held
         ∙ same_Some held.list list (sym held.has ∙ own)
 
+    -- ---- ports
+
+    port_chassis : (q c : Name) → at zones.homes.ports q ≡ Some c → Among c m.config.chassis
+    port_chassis q c home = u.bound.chassis_there q c (ap (λ (k : KnownHomes). at k.ports q) (sym u.bound.homes) ∙ home)
+
     ports_seen : m.lists.ports ≡ lists_at zones.numbers s.zones zone.Port zones.homes.ports
     ports_seen =
-        are_seen s zones zone.Port m.lists.ports zones.homes.ports (u.at_home.ports ∙ sym (ap (λ (k : KnownHomes). keys_of k.ports) u.bound.homes)) u.bound.zoned.ports_in_order in_zone
+        are_seen s zones zone.Port m.lists.ports zones.homes.ports (u.at_home.ports ∙ sym (ap (λ (k : KnownHomes). keys_of k.ports) u.bound.homes)) u.bound.zoned.ports_in_order
+        (λ q c list home own. in_zone (of_port q) c list home (port_chassis q c home) own)
 
-    -- no router is at home
-    nobody : homed_routers m.config ≡ []
-    nobody = no_homed m.config u.valid u.distributed
+    -- ---- gateway routers
 
-    routers_seen : (whose : Name → ZoneUse) (lists : List (Name × ConnectionList)) → keys_of lists ≡ homed_routers m.config → lists ≡ lists_at zones.numbers s.zones whose zones.homes.routers
-    routers_seen whose lists owners = none_listed lists (owners ∙ nobody) ∙ sym (ap (λ (k : KnownHomes). lists_at zones.numbers s.zones whose k.routers) u.bound.homes)
-      where
-        none_listed : (lists : List (Name × ConnectionList)) → keys_of lists ≡ [] → lists ≡ []
-        none_listed [] e = refl
-        none_listed (e ∷ es) is = cc is
+    router_chassis : (r c : Name) → at zones.homes.routers r ≡ Some c → Among c m.config.chassis
+    router_chassis r c home =
+        let own = (router_homes_exact m.config u.valid.in_order.routers r c).0 (ap (λ (k : KnownHomes). at k.routers r) (sym u.bound.homes) ∙ home) in
+        home_there m.config own.router.chassis c own.lives
+
+    router_owners : (lists : List (Name × ConnectionList)) → keys_of lists ≡ homed_routers m.config → keys_of lists ≡ keys_of zones.homes.routers
+    router_owners lists owners = owners ∙ sym (router_names m.config) ∙ sym (ap (λ (k : KnownHomes). keys_of k.routers) u.bound.homes)
+
+    dnats_seen : m.lists.dnats ≡ lists_at zones.numbers s.zones zone.Dnat zones.homes.routers
+    dnats_seen =
+        are_seen s zones zone.Dnat m.lists.dnats zones.homes.routers (router_owners m.lists.dnats u.at_home.dnats) u.bound.zoned.routers_in_order
+        (λ r c list home own. in_zone (dnat_of r) c list home (router_chassis r c home) own)
+
+    snats_seen : m.lists.snats ≡ lists_at zones.numbers s.zones zone.Snat zones.homes.routers
+    snats_seen =
+        are_seen s zones zone.Snat m.lists.snats zones.homes.routers (router_owners m.lists.snats u.at_home.snats) u.bound.zoned.routers_in_order
+        (λ r c list home own. in_zone (snat_of r) c list home (router_chassis r c home) own)

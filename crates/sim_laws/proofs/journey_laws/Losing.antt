@@ -20,7 +20,6 @@ loses_so m zones sets more s n u h = (
   },
   record {
     valid = u.valid;
-    distributed = u.distributed;
     keys = u.keys;
     bound = u.bound;
     bound_virtual = u.bound_virtual;

@@ -42,6 +42,7 @@ use Rattle.tunnel_keys.specs.Same.{identity_exact}
 use Rattle.tunnel_keys.specs.declared.owner.Identity.{Identity}
 use Rattle.tunnel_keys.specs.declared.owner.KeyOwner.{KeyOwner}
 use Rattle.tunnel_keys.specs.declared.owner.PortKey.{PortKey}
+use Rattle.sim_laws.proofs.Homes.{translating_home}
 use Rattle.sim_laws.specs.Sound.{MayWait, IsOnLive, IsAimOnLive, has_birth}
 use Rattle.sim_laws.specs.Sound as old
 use Rattle.sim_laws.specs.journeys.InState.{use_of, zones_on, chassis_at}
@@ -179,6 +180,16 @@ sound_on m zones more u sets by flows entry chassis = record {
   number = λ q. refl;
   zoned = λ q home. (u.bound.zoned.at_home chassis (zone.Port q)).0 (ap (λ (h : KnownHomes). home_for h (zone.Port q)) u.bound.homes ∙ home);
   in_range = λ whose n is. (u.bound.zoned.in_range chassis whose n is).1;
+  routers_zoned = record {
+    dnat = λ r. refl;
+    snat = λ r. refl;
+    both = λ r there here on.
+        let home = translating_home m.config u.valid.in_order.routers chassis r here on in
+        let zoned : (whose : ZoneUse) → home_for zones.homes whose ≡ Some chassis → IsSome (number_on zones.numbers chassis whose) = λ whose at_home. (u.bound.zoned.at_home chassis whose).0 at_home in (
+          found (number_on zones.numbers chassis (zone.Dnat r.router)) (zoned (zone.Dnat r.router) (ap (λ (h : KnownHomes). home_for h (zone.Dnat r.router)) u.bound.homes ∙ home)),
+          found (number_on zones.numbers chassis (zone.Snat r.router)) (zoned (zone.Snat r.router) (ap (λ (h : KnownHomes). home_for h (zone.Snat r.router)) u.bound.homes ∙ home)),
+        );
+  };
   unbound = unbound_so m.config u.bound_virtual;
   arrive = λ n x waits. may_arrive m zones.numbers sets by flows entry chassis x (u.crossings.may n x waits);
 }

@@ -28,8 +28,8 @@ is_ready fills m zones more sets s u h chassis flows held by entry =
           in_range = λ q z is. sound.in_range (Port q) z is;
         };
         in_range = sound.in_range;
+        zoned = sound.routers_zoned;
         unbound = sound.unbound;
       };
-      distributed = u.distributed;
       owned = sound.owned;
     }

@@ -39,8 +39,12 @@ module _ (m : State) (zones : Zoned) (bound : AreBound m.config zones) (sets : S
   away c apart (of_port q) z is here =
       let home : home_for zones.homes (zone.Port q) ≡ Some c = (bound.zoned.at_home c (zone.Port q)).1 (is_some_of (zones_on zones.numbers c (of_port q)) z is) in
       apart (same_Some chassis c (sym here ∙ sym (ap (λ (k : KnownHomes). home_for k (zone.Port q)) bound.homes) ∙ home))
-  away c apart (dnat_of r) z is here = here
-  away c apart (snat_of r) z is here = here
+  away c apart (dnat_of r) z is here =
+      let home : home_for zones.homes (zone.Dnat r) ≡ Some c = (bound.zoned.at_home c (zone.Dnat r)).1 (is_some_of (zones_on zones.numbers c (dnat_of r)) z is) in
+      apart (same_Some chassis c (sym here ∙ sym (ap (λ (k : KnownHomes). home_for k (zone.Dnat r)) bound.homes) ∙ home))
+  away c apart (snat_of r) z is here =
+      let home : home_for zones.homes (zone.Snat r) ≡ Some c = (bound.zoned.at_home c (zone.Snat r)).1 (is_some_of (zones_on zones.numbers c (snat_of r)) z is) in
+      apart (same_Some chassis c (sym here ∙ sym (ap (λ (k : KnownHomes). home_for k (zone.Snat r)) bound.homes) ∙ home))
 
   own_zones : at_name (with_lists s.zones chassis left) chassis ≡ Some left
   own_zones = set_same (same_name chassis) s.zones left (ap (λ o. is_some o) listed)

@@ -1,5 +1,5 @@
 -- The pieces of a packet's way through a switch write no list but that of the port, and nothing crosses on them.
-use Rattle.std.specs.Prelude.{◌≡◌, ℕ, Bool, true, false, List, [], ◌∷◌, Option, Some, None, Result, Ok, Err, refl}
+use Rattle.std.specs.Prelude.{◌≡◌, ℕ, Bool, true, false, List, [], ◌∷◌, Option, Some, None, Result, Ok, Err}
 use Rattle.std.specs.List.{list_any}
 use Rattle.std.proofs.Common.{sym, subst}
 use Rattle.conn_table.specs.Connections.{ConnectionList, committed, changed, touched, blocked_as}
@@ -23,32 +23,32 @@ use Rattle.net_model.specs.Config.{Config}
 use Rattle.net_model.specs.Entry.{Scene, Onward, admission, security_in, passage_in, judge_in, secure_in, enter}
 use Rattle.net_model.specs.Exit.{exit_denial, passage_out, security_out, secure_out, judge_out, exit, give_out, leave}
 use Rattle.net_model.specs.Tracking.{refresh, Passage, desk_of, is_tracked, denial, begin_to, begin, take_new, take_forward, take_reply, invalid_denial, take, is_stateless, track_unless, pass_if, pass}
-use Rattle.net_model.specs.Trail.{Trail, of_port, list_of, write_list, leaves, is_dropped, picks_backend, after_choice, tell, spot_of, unless, Point}
+use Rattle.net_model.specs.Trail.{Trail, of_port, list_of, leaves, is_dropped, picks_backend, after_choice, tell, spot_of, unless, Point}
 use Rattle.ovn_base.specs.declared.address.Backend.{Backend}
 use Rattle.ovn_base.specs.declared.name.Name.{Name}
 use Rattle.ovn_base.specs.names.ByName.{at}
 use Rattle.tunnel_keys.specs.declared.owner.Identity.{Identity}
-use Rattle.sim_laws.proofs.journey_laws.Ways.{WayOn, PointOn, stays, both, told, written, chosen, point_on, then_on, finally_on, unless_on}
+use Rattle.sim_laws.proofs.journey_laws.Ways.{IsHere, WayOn, PointOn, stays, both, told, written, chosen, point_on, then_on, finally_on, unless_on}
 use Rattle.sim_laws.proofs.passes.Members.{virtual_is}
 
 module _ (c : Config) (here : Name) (n : ℕ) where
   -- ---- a connection begins
 
-  commit_on : (d : Desk) (q : Name) → d.owner ≡ of_port q → at c.bindings q ≡ Some here → (from back : Tuple) (t : Trail) (p : Packet) → PointOn c here n t (commit_or_drop d from back t p)
-  commit_on d q own home from back t p = by (committed (list_of t.lists d.owner) from back d.now)
+  pub commit_on : (d : Desk) → IsHere c here d.owner → (from back : Tuple) (t : Trail) (p : Packet) → PointOn c here n t (commit_or_drop d from back t p)
+  commit_on d home from back t p = by (committed (list_of t.lists d.owner) from back d.now)
     where
       by : (r : Result ConnectionList CommitFault) → PointOn c here n t (after_commit d r t p)
-      by (Ok list) = subst (λ o. WayOn c here n [] t (write_list o list t)) (sym own) (written c here n q list t home)
+      by (Ok list) = written c here n d.owner list t home
       by (Err why) = told c here n (is_dropped d.spot.datapath d.spot.port (commit_cause why)) t tt
 
-  pick_on : (d : Desk) (q : Name) → d.owner ≡ of_port q → at c.bindings q ≡ Some here → (tuple : Tuple) (vip : Backend) (bs : List Backend) (t : Trail) (p : Packet) → PointOn c here n t (pick_backend d tuple vip bs t p)
-  pick_on d q own home tuple vip [] t p = told c here n (is_dropped d.spot.datapath d.spot.port cause.NoLiveBackend) t tt
-  pick_on d q own home tuple vip (b ∷ bs) t p =
+  pub pick_on : (d : Desk) → IsHere c here d.owner → (tuple : Tuple) (vip : Backend) (bs : List Backend) (t : Trail) (p : Packet) → PointOn c here n t (pick_backend d tuple vip bs t p)
+  pick_on d home tuple vip [] t p = told c here n (is_dropped d.spot.datapath d.spot.port cause.NoLiveBackend) t tt
+  pick_on d home tuple vip (b ∷ bs) t p =
       let choice : Chosen Backend = choose_backend (λ x. list_any (same_backend x) (b ∷ bs)) vip t.choices in
       let first : Trail = after_choice choice t in
       let second : Trail = tell (picks_backend d.spot.datapath vip choice.what) first in
       point_on c here n t second (send_to_backend d tuple vip choice t p) (both c here n [] [] t first second (chosen c here n choice t) (told c here n (picks_backend d.spot.datapath vip choice.what) first tt))
-      (commit_on d q own home tuple (reversed (towards choice.what tuple)) second (with_tuple (towards choice.what tuple) p))
+      (commit_on d home tuple (reversed (towards choice.what tuple)) second (with_tuple (towards choice.what tuple) p))
 
   -- ---- a packet passes a port
 
@@ -57,11 +57,11 @@ module _ (c : Config) (here : Name) (n : ℕ) where
     On t a = PointOn c here n t a
 
     refreshed : (change : Entry → Entry) (e : Entry) (t : Trail) → WayOn c here n [] t (refresh (of_port g.port.name) change e t)
-    refreshed change e t = written c here n g.port.name (changed change e.forward (list_of t.lists (of_port g.port.name))) t home
+    refreshed change e t = written c here n (of_port g.port.name) (changed change e.forward (list_of t.lists (of_port g.port.name))) t home
 
     begin_to_on : (tuple : Tuple) (o : Option Service) (t : Trail) (p : Packet) → On t (begin_to g tuple o t p)
-    begin_to_on tuple (Some s) t p = pick_on (desk_of g) g.port.name refl home tuple s.vip.at (legal_backends g.net (list_of t.lists (desk_of g).owner) tuple s) t p
-    begin_to_on tuple None t p = commit_on (desk_of g) g.port.name refl home tuple (reversed tuple) t p
+    begin_to_on tuple (Some s) t p = pick_on (desk_of g) home tuple s.vip.at (legal_backends g.net (list_of t.lists (desk_of g).owner) tuple s) t p
+    begin_to_on tuple None t p = commit_on (desk_of g) home tuple (reversed tuple) t p
 
     begin_on : (way : Direction) (tuple : Tuple) (t : Trail) (p : Packet) → On t (begin way g tuple t p)
     begin_on FromLport tuple t p = begin_to_on tuple (service_for g.net g.port.switch tuple) t p

@@ -74,7 +74,6 @@ pub led_sound : (m : State) (zones : Zoned) (more most : ℕ) (lists : Lists) (w
     → m.next + length (crossings_in ends) ≤ 1 + 2 ^ 64 * event_count m + most → IsUnderWay (led m lists waiting ends) zones most
 led_sound m zones more most lists waiting ends u at_home c may few = record {
   valid = u.valid;
-  distributed = u.distributed;
   keys = u.keys;
   bound = u.bound;
   bound_virtual = u.bound_virtual;

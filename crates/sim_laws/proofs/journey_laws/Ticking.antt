@@ -82,7 +82,6 @@ pub ticks : TickLaw
 ticks m zones sets more s seconds u h = (
   record {
     valid = u.valid;
-    distributed = u.distributed;
     keys = u.keys;
     bound = u.bound;
     bound_virtual = u.bound_virtual;

@@ -1,8 +1,8 @@
 -- A packet's way on a chassis: its ends are told there, it leaves these crossings, and the lists of others stay.
-use Rattle.std.specs.Prelude.{◌≡◌, ◌≢◌, ◌++◌, ℕ, true, List, [], ◌∷◌, Option, Some, None, refl}
+use Rattle.std.specs.Prelude.{◌≡◌, ◌≢◌, ◌++◌, ℕ, List, [], ◌∷◌, Option, Some, None, refl}
 use Rattle.std.proofs.Common.{sym, ap, ◌∙◌, subst, append_assoc, append-nil}
+use Rattle.std.proofs.lemmas.List.{append_cancel_left}
 use Rattle.std.specs.BTreeMap.{is_at}
-use Rattle.std.specs.Cmp.{first_so}
 use Rattle.std.specs.Cmp.Lexicographic.{slice_cmp}
 use Rattle.std.specs.Map.{keys_of}
 use Rattle.std.specs.Ordering.{nat_cmp}
@@ -17,6 +17,7 @@ use Rattle.net_model.specs.declared.crossing.Crossing.{Crossing}
 use Rattle.ovn_base.proofs.ByNameLaws.{same_name, other_name}
 use Rattle.ovn_base.specs.declared.name.Name.{Name}
 use Rattle.ovn_base.specs.names.ByName.{at}
+use Rattle.physical_flows.specs.Bindings.{router_homes}
 use Rattle.sim_laws.proofs.EffectNames.{IsEndOn, AreEndsOn}
 use Rattle.sim_laws.proofs.pipelines.SetValues.{set_apart, set_keys}
 use Rattle.sim_laws.specs.pipelines.HeldLists.{list_there}
@@ -28,16 +29,28 @@ other_at : (list : ConnectionList) (lists : List (Name × ConnectionList)) (q r 
 other_at list lists q r apart =
     set_apart (is_at (slice_cmp nat_cmp q)) (is_at (slice_cmp nat_cmp r)) (λ n h. other_name r n (λ same. apart (same_name q n h ∙ sym same))) lists list
 
-other_list : (list : ConnectionList) (lists : Lists) (q : Name) (other : ListOwner) → of_port q ≢ other → list_there (with_list lists (of_port q) list) other ≡ list_there lists other
-other_list list lists q (of_port r) apart = other_at list lists.ports q r (λ same. apart (ap of_port same))
-other_list list lists q (dnat_of r) apart = refl
-other_list list lists q (snat_of r) apart = refl
+other_list : (list : ConnectionList) (lists : Lists) (owner other : ListOwner) → owner ≢ other → list_there (with_list lists owner list) other ≡ list_there lists other
+other_list list lists (of_port q) (of_port r) apart = other_at list lists.ports q r (λ same. apart (ap of_port same))
+other_list list lists (of_port q) (dnat_of r) apart = refl
+other_list list lists (of_port q) (snat_of r) apart = refl
+other_list list lists (dnat_of q) (of_port r) apart = refl
+other_list list lists (dnat_of q) (dnat_of r) apart = other_at list lists.dnats q r (λ same. apart (ap dnat_of same))
+other_list list lists (dnat_of q) (snat_of r) apart = refl
+other_list list lists (snat_of q) (of_port r) apart = refl
+other_list list lists (snat_of q) (dnat_of r) apart = refl
+other_list list lists (snat_of q) (snat_of r) apart = other_at list lists.snats q r (λ same. apart (ap snat_of same))
 
--- the list is that of a port that is bound to the chassis
+-- and the same have lists
+same_owners : (owner : ListOwner) (list : ConnectionList) (lists : Lists) → list_owners (with_list lists owner list) ≡ list_owners lists
+same_owners (of_port q) list lists = ap (λ (ks : List Name). (ks, keys_of lists.dnats, keys_of lists.snats)) (set_keys (is_at (slice_cmp nat_cmp q)) lists.ports list)
+same_owners (dnat_of r) list lists = ap (λ (ks : List Name). (keys_of lists.ports, ks, keys_of lists.snats)) (set_keys (is_at (slice_cmp nat_cmp r)) lists.dnats list)
+same_owners (snat_of r) list lists = ap (λ (ks : List Name). (keys_of lists.ports, keys_of lists.dnats, ks)) (set_keys (is_at (slice_cmp nat_cmp r)) lists.snats list)
+
+-- the list is that of a port that is bound to the chassis, or of a gateway router that is at home there
 abbrev pub IsHere : Config → Name → ListOwner → Type 0
 IsHere c here (of_port q) = at c.bindings q ≡ Some here
-IsHere c here (dnat_of r) = ⊥
-IsHere c here (snat_of r) = ⊥
+IsHere c here (dnat_of r) = at (router_homes c) r ≡ Some here
+IsHere c here (snat_of r) = at (router_homes c) r ≡ Some here
 
 -- ---- ends
 
@@ -68,10 +81,9 @@ module _ (c : Config) (here : Name) (n : ℕ) where
     pub crossing : crossings_in more ≡ xs
     pub others : (owner : ListOwner) → ¬ IsHere c here owner → list_there u.lists owner ≡ list_there t.lists owner
     pub owners : list_owners u.lists ≡ list_owners t.lists
-    pub legal : u.legal ≡ true → t.legal ≡ true
 
   pub stays : (t : Trail) → WayOn [] t t
-  stays t = record { more = []; ends = sym (append-nil t.ends); on = tt; crossing = refl; others = λ owner away. refl; owners = refl; legal = λ h. h }
+  stays t = record { more = []; ends = sym (append-nil t.ends); on = tt; crossing = refl; others = λ owner away. refl; owners = refl }
 
   pub both : (xs ys : List Crossing) (t u v : Trail) → WayOn xs t u → WayOn ys u v → WayOn (xs ++ ys) t v
   both xs ys t u v a b = record {
@@ -81,25 +93,27 @@ module _ (c : Config) (here : Name) (n : ℕ) where
     crossing = crossings_append a.more b.more ∙ ap (λ (zs : List Crossing). zs ++ crossings_in b.more) a.crossing ∙ ap (λ (zs : List Crossing). xs ++ zs) b.crossing;
     others = λ owner away. b.others owner away ∙ a.others owner away;
     owners = b.owners ∙ a.owners;
-    legal = λ h. a.legal (b.legal h);
   }
 
-  pub told : (e : End) (t : Trail) → IsEndOn here n e → WayOn (crossing_in e []) t (tell e t)
-  told e t on = record { more = e ∷ []; ends = refl; on = (on, tt); crossing = refl; others = λ owner away. refl; owners = refl; legal = λ h. h }
+  -- from one trail to another there is one
+  pub one_way : (xs ys : List Crossing) (t u : Trail) → WayOn xs t u → WayOn ys t u → xs ≡ ys
+  one_way xs ys t u a b = sym a.crossing ∙ ap crossings_in (append_cancel_left t.ends a.more b.more (sym a.ends ∙ b.ends)) ∙ b.crossing
 
-  pub written : (q : Name) (list : ConnectionList) (t : Trail) → at c.bindings q ≡ Some here → WayOn [] t (write_list (of_port q) list t)
-  written q list t home = record {
+  pub told : (e : End) (t : Trail) → IsEndOn here n e → WayOn (crossing_in e []) t (tell e t)
+  told e t on = record { more = e ∷ []; ends = refl; on = (on, tt); crossing = refl; others = λ owner away. refl; owners = refl }
+
+  pub written : (owner : ListOwner) (list : ConnectionList) (t : Trail) → IsHere c here owner → WayOn [] t (write_list owner list t)
+  written owner list t home = record {
     more = [];
     ends = sym (append-nil t.ends);
     on = tt;
     crossing = refl;
-    others = λ owner away. other_list list t.lists q owner (λ same. away (subst (IsHere c here) same home));
-    owners = ap (λ (ks : List Name). (ks, keys_of t.lists.dnats, keys_of t.lists.snats)) (set_keys (is_at (slice_cmp nat_cmp q)) t.lists.ports list);
-    legal = λ h. h;
+    others = λ other away. other_list list t.lists owner other (λ same. away (subst (IsHere c here) same home));
+    owners = same_owners owner list t.lists;
   }
 
   pub chosen : {X : Type 0} (choice : Chosen X) (t : Trail) → WayOn [] t (after_choice choice t)
-  chosen choice t = record { more = []; ends = sym (append-nil t.ends); on = tt; crossing = refl; others = λ owner away. refl; owners = refl; legal = λ h. first_so t.legal choice.legal h }
+  chosen choice t = record { more = []; ends = sym (append-nil t.ends); on = tt; crossing = refl; others = λ owner away. refl; owners = refl }
 
   -- ---- pieces, on which nothing crosses
 

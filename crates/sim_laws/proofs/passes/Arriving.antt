@@ -18,7 +18,7 @@ use Rattle.inet_packet.specs.declared.regs.Regs.{Regs}
 use Rattle.nb_records.specs.Switches.{is_virtual}
 use Rattle.nb_records.specs.declared.switch.SwitchPort.{SwitchPort}
 use Rattle.net_model.specs.Arrival.{is_switch, is_reached, port_reached, members_reached, reach_port, reach, reach_if, arrival}
-use Rattle.net_model.specs.Config.{home_if, on as home_on, is_on, port_identity}
+use Rattle.net_model.specs.Config.{home_if, home_of, on as home_on, is_on, port_identity}
 use Rattle.net_model.specs.Exit.{leave}
 use Rattle.net_model.specs.Sights.{roster_of, is_live_one}
 use Rattle.net_model.specs.Spread.{copy_to_each}
@@ -52,7 +52,7 @@ use Rattle.tunnel_keys.specs.declared.owner.HeldPort.{HeldPort}
 use Rattle.tunnel_keys.specs.declared.owner.Identity.{Identity}
 use Rattle.tunnel_keys.specs.declared.owner.PortKey.{PortKey}
 use Rattle.sim_laws.proofs.Places.{is_local}
-use Rattle.sim_laws.proofs.Homes.{reached_on}
+use Rattle.sim_laws.proofs.Homes.{reached_on, reached_here}
 use Rattle.sim_laws.proofs.KeyLookups.{port_key_is}
 use Rattle.sim_laws.proofs.passes.Members.{same_tests, home_is, member_is}
 use Rattle.sim_laws.proofs.GroupNumbers.{no_group, group_short}
@@ -297,7 +297,7 @@ module _ (s : Chassis) (laid : IsLaidOut s) (numbers : GivenNumbers) (wired : Is
           comes_then s (λ rest t. rest t x.packet) (λ p rest t. leave (passing_on s.scene) s.scene x.in_port q t x.packet) lists (IsHomed s laid numbers wired x.in_port q found unbound x.packet arrived) Never zones (arrived ∷ [])
           (homes_33 s laid numbers wired x.in_port q found unbound x.packet true lists zones arrived goes refl parts.1)
           (λ after p last next homed.
-          leaves_by s laid numbers wired law (passing_on s.scene) 0 x.in_port q found (leads.goes q found (sym switch)) x.packet after last next homed.at_exit homed.passes (λ same. absurd (apart (sym homed.from ∙ same ∙ homed.to))))
+          leaves_by s laid numbers wired law (passing_on s.scene) 0 x.in_port q found (λ kind. leads.goes q found (sym switch) kind (reached_here true s.scene.here (home_of s.scene.config q) parts.1)) x.packet after last next homed.at_exit homed.passes (λ same. absurd (apart (sym homed.from ∙ same ∙ homed.to))))
 
       by_test : (q : SwitchPort) → at (net_of s).switch_ports id.name ≡ Some q → (b : Bool) → is_reached_one q ≡ b → Arrives (λ t. reach_port s.scene n x (cond b (Some q) None) t)
       by_test q there true h = reaches q there h

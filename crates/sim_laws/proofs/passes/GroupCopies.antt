@@ -53,7 +53,7 @@ use Rattle.switch_engine.specs.declared.effect.Effect.TheVariants as effect
 use Rattle.tunnel_keys.proofs.HeldKeys.{found}
 use Rattle.tunnel_keys.specs.declared.owner.Identity.{Identity}
 use Rattle.tunnel_keys.specs.declared.owner.PortKey.{PortKey}
-use Rattle.sim_laws.proofs.Homes.{reached_bound}
+use Rattle.sim_laws.proofs.Homes.{reached_bound, reached_here}
 use Rattle.sim_laws.proofs.passes.Members.{same_tests, home_is, member_is}
 use Rattle.sim_laws.proofs.GroupNumbers.{no_group, one_group, one_flag, group_short}
 use Rattle.sim_laws.proofs.passes.Ends.{ends_none, ends_then}
@@ -152,7 +152,7 @@ module _ (s : Chassis) (laid : IsLaidOut s) (numbers : GivenNumbers) (wired : Is
         let member : Member = member_of (basis_of s numbers) q.name in
         let key = key_is q m.there_is in
         let few : member.key < 2 ^ 15 = port_low s laid q.switch q.name member.key key in
-        leaves_by s laid numbers wired law onward passes came q m.there_is (leads.goes q m.there_is m.on_it) p lists zones (copy_for copy member) (record {
+        leaves_by s laid numbers wired law onward passes came q m.there_is (λ kind. leads.goes q m.there_is m.on_it kind (reached_here arrived s.scene.here (home_of s.scene.config q) at_home)) p lists zones (copy_for copy member) (record {
           in_table = refl;
           packet = packet;
           whole = whole;
@@ -280,7 +280,7 @@ module _ (s : Chassis) (laid : IsLaidOut s) (numbers : GivenNumbers) (wired : Is
         let from : copy.regs.in_port ≡ port_key s.keys (port_identity i) = sym (port_number s laid i i.switch copy.regs.in_port i_there entered) in
         let spelled : frame_to home copy ≡ effect.Frame home (datapath_key s.keys (switch_named (net_of s) i.switch)) (port_key s.keys (port_identity i)) (group_key g) p =
         λ j. effect.Frame home (dp j) (from j) (to j) (packet j) in
-        subst (λ (e : Effect). IsNumbered s.keys (end_of home) e) (sym spelled) IsNumbered.frame
+        subst (λ (e : Effect). IsNumbered s.keys (end_of home) e) (sym spelled) (IsNumbered.frame whole)
 
     all_framed : (homes : List Name) → AllZip (IsNumbered s.keys) (map end_of homes) (map (λ home. frame_to home copy) homes)
     all_framed [] = tt

@@ -361,7 +361,7 @@ module _ (s : Chassis) (laid : IsLaidOut s) (numbers : GivenNumbers) (wired : Is
           λ j. effect.Frame (is j) (dp j) (from j) (to j) (h.packet j) in
           let x = crossing_to (sent_from s i) (ToPort (port_identity o)) other_home p in
           ends_so s crossing lists lists (frame_to name copy ∷ []) (crosses s.scene.here x ∷ []) zones
-          (subst (λ (e : Effect). IsNumbered s.keys (crosses s.scene.here x) e) (sym spelled) IsNumbered.frame, tt) h.hold (λ choices ends. refl)
+          (subst (λ (e : Effect). IsNumbered s.keys (crosses s.scene.here x) e) (sym spelled) (IsNumbered.frame h.whole), tt) h.hold (λ choices ends. refl)
 
       -- the row that sends it there
       away_row : RemoteRow (basis_of s numbers) (remote_row copy.regs.dp copy.regs.out_port other_home)

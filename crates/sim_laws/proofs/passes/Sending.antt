@@ -137,13 +137,13 @@ module _ (s : Chassis) (laid : IsLaidOut s) (numbers : GivenNumbers) (wired : Is
     goes_out is may =
         here is (λ t. leave onward s.scene (port_identity i) o t p)
         (λ after last next homed.
-        leaves_by s laid numbers wired law onward passes (port_identity i) o there (leads.goes o there on_it) p after last next homed.at_exit (homed.passes ∙ passed) (λ same. homed.loopback ∙ may (sym homed.from ∙ same ∙ homed.to)))
+        leaves_by s laid numbers wired law onward passes (port_identity i) o there (λ kind. leads.goes o there on_it kind is) p after last next homed.at_exit (homed.passes ∙ passed) (λ same. homed.loopback ∙ may (sym homed.from ∙ same ∙ homed.to)))
 
     turned : is_here s.scene.here home ≡ true → copy.regs.in_port ≡ copy.regs.out_port → reg_number reg.Loopback copy.regs ≡ 0 → Goes (λ t. drop_for cause.Loopback (spot_of o) t)
     turned is same off =
         here is (λ t. drop_for cause.Loopback (spot_of o) t)
         (λ after last next homed.
-        turns_back s laid numbers wired law onward passes (port_identity i) o there (leads.goes o there on_it) p after last next homed.at_exit (homed.passes ∙ passed) (homed.from ∙ same ∙ sym homed.to) (homed.loopback ∙ off))
+        turns_back s laid numbers wired law onward passes (port_identity i) o there (λ kind. leads.goes o there on_it kind is) p after last next homed.at_exit (homed.passes ∙ passed) (homed.from ∙ same ∙ sym homed.to) (homed.loopback ∙ off))
 
     nowhere_so : home ≡ nowhere → Goes (λ t. drop_for cause.Unbound (spot_of o) t)
     nowhere_so none =
@@ -225,7 +225,7 @@ sends_to law s laid numbers wired onward passes i i_there home leads target p is
 pub none_leads : (s : Chassis) (switch : Name) → AreVirtual s switch → (onward : Onward) (passes : ℕ) → LeadsOn s onward switch passes
 none_leads s switch virtual onward passes = record {
   unbound = λ o there on leads. absurd (false≢true (sym leads ∙ virtual o.name o there on));
-  goes = λ o there on leads. absurd (false≢true (sym leads ∙ virtual o.name o there on));
+  goes = λ o there on leads at_home. absurd (false≢true (sym leads ∙ virtual o.name o there on));
 }
 
 -- a virtual port is at home where it is bound

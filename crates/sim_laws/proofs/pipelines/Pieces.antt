@@ -66,6 +66,19 @@ module _ (s : Chassis) where
   comes_same one other lists Goes same zones copies comes =
       comes_as (course_of s) zones copies (ComesTo s one lists Goes) (ComesTo s other lists Goes) (same_piece one other lists Goes same) comes
 
+  -- the copy goes on as another word says too
+  landed_as : {X : Type 0} (Goes Then : Lists → X → ZoneLists → Carried → Type 0) → ((after : Lists) (x : X) (last : ZoneLists) (next : Carried) → Goes after x last next → Then after x last next)
+      → (l : Landing X) (last : ZoneLists) (copies : List Carried) → LandsAs s Goes l last copies → LandsAs s Then l last copies
+  landed_as Goes Then each (goes_on after x) last copies lands = (lands.0, lands.1, each after x last lands.0 lands.2)
+  landed_as Goes Then each (has_ended after) last copies lands = lands
+
+  pub comes_goes : {X : Type 0} (piece : Piece X) (lists : Lists) (Goes Then : Lists → X → ZoneLists → Carried → Type 0)
+      → ((after : Lists) (x : X) (last : ZoneLists) (next : Carried) → Goes after x last next → Then after x last next)
+      → (zones : ZoneLists) (copies : List Carried) → Comes (course_of s) zones copies (ComesTo s piece lists Goes) → Comes (course_of s) zones copies (ComesTo s piece lists Then)
+  comes_goes piece lists Goes Then each zones copies comes =
+      comes_as (course_of s) zones copies (ComesTo s piece lists Goes) (ComesTo s piece lists Then)
+      (λ told last left x. record { own = x.own; numbered = x.numbered; landing = x.landing; is = x.is; lands = landed_as Goes Then each x.landing last left x.lands }) comes
+
   module _ {X Y : Type 0} (first : Piece X) (second : X → Piece Y) (lists : Lists) (Goes : Lists → X → ZoneLists → Carried → Type 0) (Then : Lists → Y → ZoneLists → Carried → Type 0) where
     abbrev pub both : Piece Y
     both rest t = first (λ u x. second x rest u) t

@@ -82,7 +82,7 @@ module _ (net : Network) (valid : IsValid net) (d : Name) (t : Tuple) where
   served_by b true is service h = (is, served_vip b (find (is_to_vip t) b.vips) refl service h)
   served_by b false is service h = absurd (none-some service h)
 
-  is_served : (service : Service) → service_for net d t ≡ Some service → IsServed net t service
+  pub is_served : (service : Service) → service_for net d t ≡ Some service → IsServed net t service
   is_served service h =
       let a = answered_by (service_in t) (balancers_of net d) service h in
       let e = map_among (λ (x : Name × LoadBalancer). x.1) a.0 net.load_balancers (filter_among (serves_at d) a.0 (values_of net.load_balancers) a.1).0 in
@@ -96,7 +96,7 @@ module _ (net : Network) (valid : IsValid net) (d : Name) (t : Tuple) where
       }
 
 -- only TCP and UDP are served
-served_protocol : (k : BalancerProtocol) (p : Protocol) → serves_protocol k p ≡ true → is_balanced p ≡ true
+pub served_protocol : (k : BalancerProtocol) (p : Protocol) → serves_protocol k p ≡ true → is_balanced p ≡ true
 served_protocol balanced.Tcp protocol.Tcp h = refl
 served_protocol balanced.Udp protocol.Udp h = refl
 served_protocol balanced.Tcp protocol.Udp h = absurd (false≢true h)
@@ -113,7 +113,7 @@ pub record IsBackendWithin (b : Backend) : Type 0 where
   pub ip : b.ip.0 < 2 ^ 32
   pub port : b.port < 2 ^ 16
 
-one_of_good : (bs : List Backend) → ((x : Backend) → Among x bs → IsBackendWithin x) → (b : Backend) → is_backend_of bs b ≡ true → IsBackendWithin b
+pub one_of_good : (bs : List Backend) → ((x : Backend) → Among x bs → IsBackendWithin x) → (b : Backend) → is_backend_of bs b ≡ true → IsBackendWithin b
 one_of_good bs each b h =
     let x = any_among (is_backend b) bs h in
     let same = and_parts (b.ip.0 == x.0.ip.0) (b.port == x.0.port) x.2 in

@@ -1,5 +1,5 @@
 -- The registers with which a copy comes in at the partner of a port.
-use Rattle.std.specs.Prelude.{◌≡◌, ◌≤◌, ℕ, Option, Some, None, option_map, refl}
+use Rattle.std.specs.Prelude.{◌≡◌, ◌≤◌, ℕ, true, Option, Some, None, option_map, refl}
 use Rattle.std.specs.Option.{unwrap_or}
 use Rattle.std.proofs.Common.{sym, ap, ◌∙◌, arith}
 use Rattle.std.proofs.lemmas.Bool.{false≢true}
@@ -27,7 +27,7 @@ use Rattle.sim_laws.proofs.passes.LiveNumbers.{datapath_low, port_low, switch_li
 use Rattle.sim_laws.specs.passes.Physical.{basis_of}
 use Rattle.sim_laws.specs.pipelines.Standing.{Chassis, net_of}
 use Rattle.sim_laws.proofs.router_stages.RouterCopiesOn.{router_port_live}
-use Rattle.sim_laws.specs.routers.Patches.{IsLaidAround, IsThere, AreFirstAt}
+use Rattle.sim_laws.specs.routers.Patches.{IsLaidAround, is_partner_here, IsThere, AreFirstAt}
 
 module _ (s : Chassis) (numbers : GivenNumbers) (around : IsLaidAround s numbers) where
   -- ---- numbers
@@ -74,8 +74,8 @@ module _ (s : Chassis) (numbers : GivenNumbers) (around : IsLaidAround s numbers
       each reg.Arrived = omega arith
 
   -- they name the partner as the port of entry
-  pub first_at : (partner : Partner) → IsThere (net_of s) partner → (regs : Regs) → AreFirstAt s partner (regs_in (beyond (basis_of s numbers) partner) regs)
-  first_at (switch_side q) there regs =
+  pub first_at : (partner : Partner) → IsThere (net_of s) partner → is_partner_here s.scene partner ≡ true → (regs : Regs) → AreFirstAt s partner (regs_in (beyond (basis_of s numbers) partner) regs)
+  first_at (switch_side q) there here regs =
       let to = beyond (basis_of s numbers) (switch_side q) in
       let w = on_switch (net_of s) around.laid.valid q.name q there.0 in
       let d = switch_live s around.laid q.switch w.0 w.1 in
@@ -94,7 +94,7 @@ module _ (s : Chassis) (numbers : GivenNumbers) (around : IsLaidAround s numbers
         within = regs_within to regs (datapath_low s around.laid q.switch to.dp on) (omega (arith, few)) (omega arith) (omega arith);
         zone = λ virtual. absurd (false≢true (sym there.1 ∙ virtual));
       }
-  first_at (router_side r) there regs =
+  first_at (router_side r) there here regs =
       let to = beyond (basis_of s numbers) (router_side r) in
       let w = on_router (net_of s) around.laid.valid r.name r there in
       let d = router_live s around.laid r.router w.0 w.1 in
@@ -111,4 +111,10 @@ module _ (s : Chassis) (numbers : GivenNumbers) (around : IsLaidAround s numbers
         own = refl;
         arrived = refl;
         within = regs_within to regs (datapath_low s around.laid r.router to.dp on) (omega (arith, few)) (zone_low (Dnat r.router)) (zone_low (Snat r.router));
+        zones = λ on.
+            let z = around.zoned.both r there here on in
+            record {
+              dnat = z.0.1 ∙ ap (λ (o : Option ℕ). Some (unwrap_or o 0)) (sym (sym (around.zoned.dnat r.router) ∙ z.0.1));
+              snat = z.1.1 ∙ ap (λ (o : Option ℕ). Some (unwrap_or o 0)) (sym (sym (around.zoned.snat r.router) ∙ z.1.1));
+            };
       }

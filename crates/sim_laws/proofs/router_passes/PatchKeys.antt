@@ -84,8 +84,8 @@ module _ (s : Chassis) (laid : IsLaidOut s) (numbers : GivenNumbers) where
       pub its_key : port.key ≡ key
       pub its_partner : port.partner ≡ partner
 
-    pub has_rows : LeadsTo net by partner → HasPatchRows
-    has_rows (LeadsTo.to_router o there kind is e) =
+    pub has_rows : LeadsTo s.scene by partner → HasPatchRows
+    has_rows (LeadsTo.to_router o there kind at_home is e) =
         let own = is_port s laid numbers o.name o there dp key (subst (λ (x : Spot). IsDatapathKey s.keys x.datapath dp) is on) (subst (λ (x : Spot). IsPortKey s.keys x.datapath x.port key) is to) in
         record {
           port = switch_patch b o dp key;
@@ -94,7 +94,7 @@ module _ (s : Chassis) (laid : IsLaidOut s) (numbers : GivenNumbers) where
           its_key = refl;
           its_partner = sym e;
         }
-    has_rows (LeadsTo.of_router o there is e) =
+    has_rows (LeadsTo.of_router o there at_home is e) =
         let own = is_router_port o there dp key (subst (λ (x : Spot). IsDatapathKey s.keys x.datapath dp) is on) (subst (λ (x : Spot). IsPortKey s.keys x.datapath x.port key) is to) in
         record {
           port = router_patch b o dp key;
@@ -105,12 +105,12 @@ module _ (s : Chassis) (laid : IsLaidOut s) (numbers : GivenNumbers) where
         }
 
     -- no virtual port has its numbers
-    pub not_virtual : LeadsTo net by partner → (r : Name) (other : SwitchPort) (d k : ℕ) → IsPort b r other d k → dp ≡ d → key ≡ k → is_virtual other ≡ true → ⊥
-    not_virtual (LeadsTo.to_router o there kind is e) r other d k theirs same equal virtual =
+    pub not_virtual : LeadsTo s.scene by partner → (r : Name) (other : SwitchPort) (d k : ℕ) → IsPort b r other d k → dp ≡ d → key ≡ k → is_virtual other ≡ true → ⊥
+    not_virtual (LeadsTo.to_router o there kind at_home is e) r other d k theirs same equal virtual =
         let named : r ≡ o.name = switch_port_is by.datapath by.port dp key on to r other d k theirs same equal ∙ ap (λ (x : Spot). x.port) is in
         let port : other ≡ o = same_Some other o (sym theirs.there ∙ ap (at net.switch_ports) named ∙ there) in
         false≢true (sym kind ∙ ap is_virtual (sym port) ∙ virtual)
-    not_virtual (LeadsTo.of_router o there is e) r other d k theirs same equal virtual =
+    not_virtual (LeadsTo.of_router o there at_home is e) r other d k theirs same equal virtual =
         let named : r ≡ o.name = switch_port_is by.datapath by.port dp key on to r other d k theirs same equal ∙ ap (λ (x : Spot). x.port) is in
         one_kind o.name other o (ap (at net.switch_ports) (sym named) ∙ theirs.there) there
 
@@ -122,18 +122,18 @@ module _ (s : Chassis) (laid : IsLaidOut s) (numbers : GivenNumbers) where
       router_named q port d k theirs is = router_port_is by.datapath by.port dp key on to q port d k theirs (same ∙ ap (λ (x : PatchPort). x.dp) is) (equal ∙ ap (λ (x : PatchPort). x.key) is)
 
       -- what leads into another datapath and has them has its partner
-      pub one_partner : LeadsTo net by partner → IsPatchPort b y → y.partner ≡ partner
-      one_partner (LeadsTo.to_router o there kind it e) (IsPatchPort.to_router q port d k theirs other is) =
+      pub one_partner : LeadsTo s.scene by partner → IsPatchPort b y → y.partner ≡ partner
+      one_partner (LeadsTo.to_router o there kind at_home it e) (IsPatchPort.to_router q port d k theirs other is) =
           let named : q ≡ o.name = switch_named q port d k theirs is ∙ ap (λ (x : Spot). x.port) it in
           let one : port ≡ o = same_Some port o (sym theirs.there ∙ ap (at net.switch_ports) named ∙ there) in
           ap (λ (x : PatchPort). x.partner) is ∙ ap (partner_of_switch_port net) one ∙ sym e
-      one_partner (LeadsTo.to_router o there kind it e) (IsPatchPort.of_router q port d k theirs is) =
+      one_partner (LeadsTo.to_router o there kind at_home it e) (IsPatchPort.of_router q port d k theirs is) =
           let named : q ≡ o.name = router_named q port d k theirs is ∙ ap (λ (x : Spot). x.port) it in
           absurd (one_kind o.name o port there (ap (at net.router_ports) (sym named) ∙ theirs.there))
-      one_partner (LeadsTo.of_router o there it e) (IsPatchPort.to_router q port d k theirs other is) =
+      one_partner (LeadsTo.of_router o there at_home it e) (IsPatchPort.to_router q port d k theirs other is) =
           let named : q ≡ o.name = switch_named q port d k theirs is ∙ ap (λ (x : Spot). x.port) it in
           absurd (one_kind o.name port o (ap (at net.switch_ports) (sym named) ∙ theirs.there) there)
-      one_partner (LeadsTo.of_router o there it e) (IsPatchPort.of_router q port d k theirs is) =
+      one_partner (LeadsTo.of_router o there at_home it e) (IsPatchPort.of_router q port d k theirs is) =
           let named : q ≡ o.name = router_named q port d k theirs is ∙ ap (λ (x : Spot). x.port) it in
           let one : port ≡ o = same_Some port o (sym theirs.there ∙ ap (at net.router_ports) named ∙ there) in
           ap (λ (x : PatchPort). x.partner) is ∙ ap (partner_of_router_port net) one ∙ sym e

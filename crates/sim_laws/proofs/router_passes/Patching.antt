@@ -26,10 +26,10 @@ use Rattle.sim_laws.proofs.pipelines.Copies.{has_datapath_key, has_port_key, goe
 use Rattle.sim_laws.specs.Naming.{IsNumbered}
 use Rattle.sim_laws.specs.passes.Physical.{basis_of}
 use Rattle.sim_laws.specs.pipelines.Pieces.{trail_with, has_ended, ComesTo}
-use Rattle.sim_laws.specs.pipelines.Standing.{Chassis, net_of, course_of}
+use Rattle.sim_laws.specs.pipelines.Standing.{Chassis, course_of}
 use Rattle.sim_laws.specs.pipelines.WalkOn.{Reached, Comes}
 use Rattle.sim_laws.proofs.router_passes.FirstBeyond.{regs_in, first_at}
-use Rattle.sim_laws.proofs.router_passes.Partners.{partner_there}
+use Rattle.sim_laws.proofs.router_passes.Partners.{partner_there, partner_here}
 use Rattle.sim_laws.proofs.router_passes.PatchActions.{passes_does, stops_does}
 use Rattle.sim_laws.proofs.router_passes.PatchKeys.{HasPatchRows, has_rows, not_virtual, one_partner}
 use Rattle.sim_laws.specs.routers.Patches.{IsLaidAround, IsBeforePatch, HasPassed, into_next, PatchLaw}
@@ -111,7 +111,8 @@ module _ (s : Chassis) (numbers : GivenNumbers) (around : IsLaidAround s numbers
         stops_does s zones copy To (beyond b partner) (ap (λ n. nat_lt n MAX_HOPS) full) (drops_so (Some partner) h cause.HopLimit (λ rest choices ends. ap (λ n. into_next n by (Some partner) rest (trail_with lists choices ends)) none))
     passes_so (suc n) some =
         let few : copy.passes < MAX_HOPS = omega (arith, so_many, some) in
-        let there = partner_there (net_of s) around.laid.valid by partner h.leads in
+        let there = partner_there s.scene around.laid.valid by partner h.leads in
+        let here = partner_here s.scene around.laid.valid by partner h.leads in
         passes_does s zones copy To (beyond b partner) (lt-ltb copy.passes MAX_HOPS few)
         (goes_so s (into_next left by (Some partner)) lists lists (HasPassed s p copy) zones partner (patched (regs_in s numbers around (beyond b partner) copy.regs) copy) (record {
           enters = record {
@@ -119,7 +120,8 @@ module _ (s : Chassis) (numbers : GivenNumbers) (around : IsLaidAround s numbers
             packet = h.packet;
             whole = h.whole;
             there = there;
-            first = first_at s numbers around partner there copy.regs;
+            here = here;
+            first = first_at s numbers around partner there here copy.regs;
             loopback = refl;
             arrived = refl;
             hold = h.hold;

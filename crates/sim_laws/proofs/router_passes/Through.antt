@@ -1,37 +1,44 @@
 -- A copy goes through a router from table 32 to the output.
-use Rattle.std.specs.Prelude.{◌≡◌, [], ◌∷◌, refl}
-use Rattle.std.proofs.Common.{sym, ap, subst}
+use Rattle.std.specs.Prelude.{◌≡◌, ◌&&◌, not, true, [], ◌∷◌, refl}
+use Rattle.std.proofs.Common.{sym, ap, ◌∙◌, subst, arith}
 use Rattle.conn_zones.specs.Zoning.{GivenNumbers}
-use Rattle.flow_lowering.specs.Registers.{reg_number, HasRegistersInRange}
+use Rattle.flow_lowering.specs.Registers.{reg_number}
 use Rattle.inet_packet.specs.declared.packet.Packet.{Packet}
 use Rattle.inet_packet.specs.declared.regs.Reg.TheVariants as reg
-use Rattle.inet_packet.specs.declared.regs.Regs.{Regs}
+use Rattle.logical_flows.specs.Stages.{stage_table}
 use Rattle.logical_flows.specs.declared.stage.Stage.TheVariants as stage
 use Rattle.nb_records.specs.declared.router.RouterPort.{RouterPort}
-use Rattle.net_model.specs.Trail.{Lists, Spot}
+use Rattle.net_model.specs.Config.{home_of_router_port, is_here}
+use Rattle.net_model.specs.Forwarding.{is_translating}
+use Rattle.net_model.specs.Headers.{carries_ip4}
+use Rattle.net_model.specs.Trail.{Lists}
 use Rattle.ovn_base.specs.declared.stages.TheConstants.{REMOTE_TABLE, LOCAL_TABLE, LOOPBACK_TABLE}
+use Rattle.row_laws.specs.Copies.{not_sought}
 use Rattle.row_laws.specs.Numbers.{IsDatapathKey, IsPortKey}
-use Rattle.switch_engine.specs.Actions.{gone_on}
+use Rattle.row_laws.specs.routers.RouterCopies.{RouterCopy}
+use Rattle.switch_engine.specs.Actions.{set_flag, gone_on}
 use Rattle.switch_engine.specs.Zones.{ZoneLists}
 use Rattle.switch_engine.specs.declared.carried.Carried.{Carried}
-use Rattle.sim_laws.proofs.pipelines.Copies.{goes_so}
-use Rattle.sim_laws.proofs.pipelines.Pieces.{comes_then, comes_same}
-use Rattle.sim_laws.proofs.pipelines.WalkOn.{comes_now}
-use Rattle.sim_laws.specs.pipelines.Pieces.{Piece, trail_with, ComesTo}
+use Rattle.sim_laws.proofs.pipelines.Pieces.{comes_goes}
+use Rattle.sim_laws.proofs.pipelines.Registers.{and_stays, noted_within}
+use Rattle.sim_laws.proofs.router_passes.RouterWay.{way_out, dp_key, out_key, here_too, stays, enters, left, leaves}
+use Rattle.sim_laws.proofs.router_stages.RouterSteps.{goes_then}
+use Rattle.sim_laws.proofs.translating_stages.AnyCopiesOn.{sought_in, same_way, stands_on}
+use Rattle.sim_laws.specs.pipelines.Pieces.{ComesTo}
 use Rattle.sim_laws.specs.pipelines.Standing.{Chassis, net_of, course_of}
 use Rattle.sim_laws.specs.pipelines.WalkOn.{Reached, Comes}
-use Rattle.sim_laws.proofs.router_passes.RouterWay.{way_out, dp_key, out_key, stays, enters, left, leaves, stands_40}
-use Rattle.sim_laws.proofs.router_stages.RouterCopiesOn.{stands_next}
-use Rattle.sim_laws.proofs.router_stages.RouterSteps.{goes_then}
 use Rattle.sim_laws.specs.routers.Patches.{IsLaidAround, LeadsTo}
-use Rattle.row_laws.specs.Distributed.{AreDistributed}
-use Rattle.sim_laws.specs.routers.RouterEgress.{ComesAsItWas, RouterEgressLaw}
-use Rattle.sim_laws.specs.routers.RouterIngress.{Departure, GoesToPort}
 use Rattle.sim_laws.specs.routers.RouterPass.{ComesToPatch, RouterPassLaw}
 use Rattle.sim_laws.specs.routers.RouterStanding.{StandsInRouter}
+use Rattle.sim_laws.specs.routers.RouterWays.{Leaving, way_by_port, GoesOut, ComesToOutput, RouterEgressLaw}
 
-module _ (law : RouterEgressLaw) (s : Chassis) (numbers : GivenNumbers) (around : IsLaidAround s numbers) (distributed : AreDistributed (net_of s)) (i : RouterPort) (first : Carried) (lists : Lists) (x : Departure) (zones : ZoneLists)
-    (copy : Carried) (goes : GoesToPort s i first lists x zones copy) (inside : reg_number reg.Arrived copy.regs ≡ 0) where
+module _ (s : Chassis) (numbers : GivenNumbers) (around : IsLaidAround s numbers) (law : RouterEgressLaw) (i : RouterPort)
+    (at_home : is_here s.scene.here (home_of_router_port s.scene.config i) ≡ true) (first : Carried) (lists : Lists) (x : Leaving) (zones : ZoneLists) (copy : Carried) (goes : GoesOut s i first lists x zones copy)
+    (inside : reg_number reg.Arrived copy.regs ≡ 0) where
+  -- the router is that of the port of entry
+  here : is_here s.scene.here (home_of_router_port s.scene.config goes.c.port) ≡ true
+  here = ap (λ (r : RouterPort). is_here s.scene.here (home_of_router_port s.scene.config r)) goes.port ∙ at_home
+
   -- ---- the tables on its way
 
   abbrev at_33 : Carried
@@ -41,60 +48,88 @@ module _ (law : RouterEgressLaw) (s : Chassis) (numbers : GivenNumbers) (around 
   at_34 = gone_on LOOPBACK_TABLE at_33
 
   stands_33 : StandsInRouter s stage.RouterFind LOCAL_TABLE goes.c lists zones at_33
-  stands_33 = stands_next s goes.stands stage.RouterFind LOCAL_TABLE goes.stands.at_port.passed
+  stands_33 = stands_on s goes.stands stage.RouterFind LOCAL_TABLE tt
 
   stands_34 : StandsInRouter s stage.RouterFind LOOPBACK_TABLE goes.c lists zones at_34
-  stands_34 = stands_next s stands_33 stage.RouterFind LOOPBACK_TABLE goes.stands.at_port.passed
+  stands_34 = stands_on s stands_33 stage.RouterFind LOOPBACK_TABLE tt
 
   abbrev at_40 : Carried
-  at_40 = left s numbers around distributed goes.c goes.out goes.to lists zones at_34 stands_34 goes.loopback
+  at_40 = left s numbers around stage.RouterFind goes.c here x.out goes.to lists zones at_34 stands_34 goes.loopback
+
+  -- no list was asked since then
+  abbrev c : RouterCopy
+  c = sought_in goes.c goes.c.sight.packet not_sought
+
+  stands_40 : StandsInRouter s stage.RouterFind (stage_table stage.RouterFind) c lists zones at_40
+  stands_40 =
+      let h = goes.stands in
+      record {
+        in_table = refl;
+        packet = h.packet;
+        at_port = record {
+          there = h.at_port.there;
+          is_port = h.at_port.is_port;
+          way_out = same_way (net_of s) goes.c goes.c.sight.packet not_sought goes.c.out h.at_port.way_out;
+          words = record {
+            own = and_stays (set_flag 2 0 copy.regs.flags).0 251 3 refl ∙ and_stays copy.regs.flags.0 253 3 refl ∙ h.at_port.words.own;
+            next = h.at_port.words.next;
+            finding = refl;
+          };
+          whole = h.at_port.whole;
+          passed = tt;
+        };
+        numbers = record {
+          on = h.numbers.on;
+          came = h.numbers.came;
+          goes = h.numbers.goes;
+          members = h.numbers.members;
+          within = noted_within (record { out_port = copy.regs.out_port; state = 0; verdict = 0; flags = set_flag 4 0 (set_flag 2 0 copy.regs.flags) }) copy.regs h.numbers.within
+              (h.numbers.within.within reg.OutPort) (omega arith) (omega arith);
+          whole = h.numbers.whole;
+        };
+        own_zones = λ on. record { dnat = (h.own_zones on).dnat; snat = (h.own_zones on).snat };
+        hold = h.hold;
+      }
 
   -- ---- before the output
 
-  abbrev Ends : Lists → Packet → ZoneLists → Carried → Type 0
-  Ends = ComesToPatch s x copy
-
   -- it has the keys of its port there
-  stands_64 : (after : Lists) (p : Packet) (last : ZoneLists) (end : Carried) → ComesAsItWas s at_40 after p last end → Ends after p last end
+  stands_64 : (after : Lists) (p : Packet) (last : ZoneLists) (end : Carried) → ComesToOutput s at_40 after p last end → ComesToPatch s x copy after p last end
   stands_64 after p last end is =
-      let way = way_out s numbers around distributed goes.c goes.out goes.to REMOTE_TABLE lists zones copy goes.stands in
-      let on = dp_key s numbers around distributed goes.c goes.out goes.to REMOTE_TABLE lists zones copy goes.stands in
-      let to = out_key s numbers around distributed goes.c goes.out goes.to REMOTE_TABLE lists zones copy goes.stands in
-      let numbers_40 = (stands_40 s numbers around distributed goes.c goes.out goes.to lists zones at_34 stands_34 goes.loopback).numbers in
+      let h = goes.stands in
+      let way = way_out s numbers around stage.RouterFind goes.c here x.out goes.to REMOTE_TABLE lists zones copy h in
+      let on = dp_key s numbers around stage.RouterFind goes.c here x.out goes.to REMOTE_TABLE lists zones copy h in
+      let to = out_key s numbers around stage.RouterFind goes.c here x.out goes.to REMOTE_TABLE lists zones copy h in
       record {
         stands = record {
           in_table = is.in_table;
           packet = is.packet;
           whole = is.whole;
-          leads = LeadsTo.of_router goes.out way.there goes.by goes.partner;
-          on = subst (λ (b : Spot). IsDatapathKey s.keys b.datapath end.regs.dp) (sym goes.by) (subst (λ (r : Regs). IsDatapathKey s.keys goes.out.router r.dp) (sym is.regs) on);
-          to = subst (λ (b : Spot). IsPortKey s.keys b.datapath b.port end.regs.out_port) (sym goes.by) (subst (λ (r : Regs). IsPortKey s.keys goes.out.router goes.out.name r.out_port) (sym is.regs) to);
-          within = subst HasRegistersInRange (sym is.regs) numbers_40.within;
+          leads = LeadsTo.of_router x.out way.there (here_too s numbers around stage.RouterFind goes.c here x.out goes.to REMOTE_TABLE lists zones copy h) refl refl;
+          on = subst (IsDatapathKey s.keys x.out.router) (sym (is.still.registers reg.Dp refl)) on;
+          to = subst (IsPortKey s.keys x.out.router x.out.name) (sym (is.still.registers reg.OutPort refl)) to;
+          within = is.within;
           hold = is.hold;
         };
-        passes = is.passes;
+        passes = is.still.passes;
       }
 
-  abbrev own : Piece Packet
-  own rest t = rest t goes.c.sight.packet
-
   abbrev So : Reached
-  So = ComesTo s own lists Ends
+  So = ComesTo s (way_by_port s x) lists (ComesToPatch s x copy)
+
+  tells : x.translates ≡ (not c.words.own && (is_translating (net_of s) c.port && carries_ip4 c.sight.packet))
+  tells = goes.translates ∙ ap (λ (r : RouterPort). not c.words.own && (is_translating (net_of s) r && carries_ip4 c.sight.packet)) (sym goes.port)
 
   comes_64 : Comes (course_of s) zones (at_40 ∷ []) So
   comes_64 =
-      comes_then s own (λ q rest t. rest t q) lists (ComesAsItWas s at_40) Ends zones (at_40 ∷ [])
-      (law s around.laid goes.c lists zones at_40 (stands_40 s numbers around distributed goes.c goes.out goes.to lists zones at_34 stands_34 goes.loopback))
-      (λ after q last end is.
-      comes_now (course_of s) last (end ∷ []) (ComesTo s (λ rest t. rest t q) after Ends)
-      (goes_so s (λ rest t. rest t q) after after Ends last q end (stands_64 after q last end is) (λ rest choices ends. refl)))
+      comes_goes s (way_by_port s x) lists (ComesToOutput s at_40) (ComesToPatch s x copy) stands_64 zones (at_40 ∷ [])
+      (law s around.laid c x lists zones at_40 goes.to goes.packet tells refl stands_40)
 
-  through : Comes (course_of s) zones (copy ∷ []) (ComesTo s (λ rest t. rest t x.packet) lists Ends)
+  through : Comes (course_of s) zones (copy ∷ []) So
   through =
-      comes_same s own (λ rest t. rest t x.packet) lists Ends (λ rest choices ends. ap (rest (trail_with lists choices ends)) (sym goes.packet)) zones (copy ∷ [])
-      (goes_then s zones copy at_33 So (stays s numbers around distributed goes.c goes.out goes.to lists zones copy goes.stands)
-      (goes_then s zones at_33 at_34 So (enters s numbers around distributed goes.c goes.out goes.to lists zones at_33 stands_33 inside)
-      (goes_then s zones at_34 at_40 So (leaves s numbers around distributed goes.c goes.out goes.to lists zones at_34 stands_34 goes.loopback) comes_64)))
+      goes_then s zones copy at_33 So (stays s numbers around stage.RouterFind goes.c here x.out goes.to lists zones copy goes.stands)
+      (goes_then s zones at_33 at_34 So (enters s numbers around stage.RouterFind goes.c here x.out goes.to lists zones at_33 stands_33 inside)
+      (goes_then s zones at_34 at_40 So (leaves s numbers around stage.RouterFind goes.c here x.out goes.to lists zones at_34 stands_34 goes.loopback) comes_64))
 
 pub goes_through : RouterEgressLaw → RouterPassLaw
-goes_through law s numbers around distributed i first lists x zones copy goes inside = through law s numbers around distributed i first lists x zones copy goes inside
+goes_through law s numbers around i at_home first lists x zones copy goes inside = through s numbers around law i at_home first lists x zones copy goes inside

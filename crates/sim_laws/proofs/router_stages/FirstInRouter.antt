@@ -27,5 +27,6 @@ stands_first s laid i there p whole lists zones hold copy in_table packet first 
         within = first.within;
         whole = whole;
       };
+      own_zones = first.zones;
       hold = hold;
     }

@@ -1,13 +1,12 @@
 -- A port that is bound begins with its zone, and all others keep theirs.
-use Rattle.std.specs.Prelude.{◌≡◌, ◌≢◌, ◌⊎◌, ◌&&◌, ◌||◌, ℕ, true, false, List, [], ◌∷◌, not, Option, Some, None, is_some, option_map, refl}
+use Rattle.std.specs.Prelude.{◌≡◌, ◌≢◌, ◌⊎◌, ◌&&◌, ◌||◌, ℕ, Bool, true, false, List, [], ◌∷◌, not, Option, Some, is_some, option_map, refl}
 use Rattle.std.specs.Map.{keys_of}
 use Rattle.std.proofs.Common.{sym, ap, ◌∙◌, subst, inl, inr}
-use Rattle.std.proofs.lemmas.Bool.{false_from_ne_true}
-use Rattle.std.proofs.lemmas.Option.{none-some, same_Some}
+use Rattle.std.proofs.lemmas.Bool.{false_from_ne_true, false≢true}
+use Rattle.std.proofs.lemmas.Option.{same_Some}
 use Rattle.conn_table.specs.Connections.{ConnectionList}
 use Rattle.conn_zones.specs.Rezoning.{IsRezoned, is_home_on, stays_on}
-use Rattle.conn_zones.specs.Zoning.{Zoned, KnownHomes, home_for, number_on}
-use Rattle.conn_zones.specs.declared.numbers.ZoneUse.{ZoneUse}
+use Rattle.conn_zones.specs.Zoning.{Zoned, KnownHomes, number_on}
 use Rattle.conn_zones.specs.declared.numbers.ZoneUse.TheVariants as zone
 use Rattle.nb_records.specs.Switches.{is_named}
 use Rattle.nb_records.specs.declared.switch.SwitchPort.{SwitchPort}
@@ -24,8 +23,10 @@ use Rattle.ovn_base.specs.names.ByName.{at}
 use Rattle.ovn_base.specs.names.SameName.{bytes_decides, same_name}
 use Rattle.physical_flows.proofs.FlowSearch.{is_some_of, some_of}
 use Rattle.row_laws.proofs.records.ValidPorts.{port_named}
+use Rattle.sim_laws.proofs.turn_laws.RouterZones as routers
+use Rattle.sim_laws.proofs.turn_laws.RouterZones.{is_port_use, name_of_use, no_port_use, router_owner, router_stays}
 use Rattle.sim_laws.proofs.turn_laws.TurnedLists.{list_empty, list_kept, owned}
-use Rattle.sim_laws.specs.journeys.InState.{zones_on}
+use Rattle.sim_laws.specs.journeys.InState.{use_of, zones_on}
 use Rattle.sim_laws.specs.journeys.TurnedZones.{BeginsZone, BindingLaw, KeepsZone, binding}
 use Rattle.physical_flows.specs.Bindings.{AreBound}
 use Rattle.sim_laws.specs.journeys.UnderWay.{IsUnderWay}
@@ -107,17 +108,9 @@ module _ (m : State) (zones later : Zoned) (more : ℕ) (port chassis : Name) (z
       | inl same ↦
           let number : number_on later.numbers chassis (zone.Port q) ≡ Some z = subst (λ (e : Name × ℕ). number_on later.numbers e.0 (zone.Port q) ≡ Some e.1) same is in
           let one : zone.Port q ≡ zone.Port port = v.zoned.apart chassis (zone.Port q) (zone.Port port) z number numbered in
-          apart (port_of one)
+          apart (ap name_of_use one)
       | inr none ↦ among_none (c, n) none
     ]
-      where
-        name_of : ZoneUse → Name
-        name_of (zone.Port p) = p
-        name_of (zone.Dnat r) = r
-        name_of (zone.Snat r) = r
-
-        port_of : zone.Port q ≡ zone.Port port → q ≡ port
-        port_of e = ap name_of e
 
     keeps : IsTold c (of_port q) n
     keeps = inl (record {
@@ -127,18 +120,27 @@ module _ (m : State) (zones later : Zoned) (more : ℕ) (port chassis : Name) (z
       kept = not_emptied;
     })
 
-  -- no router is at home
-  no_router : (whose : ZoneUse) → home_for (record { ports = turn.next.bindings; routers = [] }) whose ≡ None → (c : Name) (n : ℕ) → number_on later.numbers c whose ≡ Some n → ⊥
-  no_router whose none c n is =
-      none-some c (sym none ∙ ap (λ (k : KnownHomes). home_for k whose) (sym v.homes) ∙ (v.zoned.at_home c whose).1 (is_some_of (number_on later.numbers c whose) n is))
+  -- ---- routers
+
+  -- they stay
+  router_told : (dst : Bool) (r c : Name) (n : ℕ) → zones_on later.numbers c (router_owner dst r) ≡ Some n → IsTold c (router_owner dst r) n
+  router_told dst r c n is =
+      inl (router_stays m zones later more turn u v dst r c n is (binding port chassis) rezoned emptied (routers.home_then m zones later more turn u v dst r c n is) refl refl
+      (λ among. elim (among_cases (c, n) (chassis, z) [] among) [
+        | inl same ↦
+            let number : number_on later.numbers chassis (use_of (router_owner dst r)) ≡ Some z = subst (λ (e : Name × ℕ). number_on later.numbers e.0 (use_of (router_owner dst r)) ≡ Some e.1) same is in
+            let one : use_of (router_owner dst r) ≡ zone.Port port = v.zoned.apart chassis (use_of (router_owner dst r)) (zone.Port port) z number numbered in
+            false≢true (sym (no_port_use dst r) ∙ ap is_port_use one)
+        | inr none ↦ among_none (c, n) none
+      ]))
 
   pub is_told : (c : Name) (owner : ListOwner) (n : ℕ) → zones_on later.numbers c owner ≡ Some n → IsTold c owner n
   is_told c (of_port q) n is = elim (one_or_two q port) [
     | inl same ↦ subst (λ p. IsTold c (of_port p) n) (sym same) (begins c n (subst (λ p. number_on later.numbers c (zone.Port p) ≡ Some n) same is))
     | inr apart ↦ keeps q apart c n is
   ]
-  is_told c (dnat_of r) n is = absurd (no_router (zone.Dnat r) refl c n is)
-  is_told c (snat_of r) n is = absurd (no_router (zone.Snat r) refl c n is)
+  is_told c (dnat_of r) n is = router_told true r c n is
+  is_told c (snat_of r) n is = router_told false r c n is
 
 pub binds_so : BindingLaw
 binds_so m zones later more port chassis z u v rezoned numbered c then owner n is = is_told m zones later more port chassis z u v rezoned numbered c owner n is

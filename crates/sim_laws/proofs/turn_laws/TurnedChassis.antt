@@ -28,6 +28,7 @@ use Rattle.physical_flows.specs.Bindings.{AreBound}
 use Rattle.physical_flows.specs.ChassisFlows.{AreExactly}
 use Rattle.switch_engine.specs.Zones.{ZoneLists, zone_at}
 use Rattle.sim_laws.proofs.turn_laws.FlowChanges.{IsExact, delta_of_held, replaced_exactly}
+use Rattle.sim_laws.proofs.turn_laws.RouterZones.{home_there}
 use Rattle.sim_laws.proofs.turn_laws.SetEntries.{among_or_not, emptied_then, found_once, gone_then, kept_then, none_comes, one_comes, stays_there}
 use Rattle.sim_laws.specs.journeys.Holding.{HoldsNetwork}
 use Rattle.sim_laws.specs.journeys.InState.{zones_on}
@@ -44,10 +45,10 @@ zone_home zones m bound c (of_port q) z is =
     bound.chassis_there q c (ap (λ (k : KnownHomes). home_for k (zone.Port q)) (sym bound.homes) ∙ home)
 zone_home zones m bound c (dnat_of r) z is =
     let home = (bound.zoned.at_home c (zone.Dnat r)).1 (is_some_of (zones_on zones.numbers c (dnat_of r)) z is) in
-    absurd (none-some c (ap (λ (k : KnownHomes). home_for k (zone.Dnat r)) (sym bound.homes) ∙ home))
+    home_there m.config r c (ap (λ (k : KnownHomes). home_for k (zone.Dnat r)) (sym bound.homes) ∙ home)
 zone_home zones m bound c (snat_of r) z is =
     let home = (bound.zoned.at_home c (zone.Snat r)).1 (is_some_of (zones_on zones.numbers c (snat_of r)) z is) in
-    absurd (none-some c (ap (λ (k : KnownHomes). home_for k (zone.Snat r)) (sym bound.homes) ∙ home))
+    home_there m.config r c (ap (λ (k : KnownHomes). home_for k (zone.Snat r)) (sym bound.homes) ∙ home)
 
 -- a list without connections is one that a zone holds
 empty_good : IsGoodList []

@@ -1,5 +1,5 @@
 -- The connection lists after a turn, by those before.
-use Rattle.std.specs.Prelude.{◌≡◌, true, false, List, [], ◌∷◌, map, Some, cond, unwrap_or, refl}
+use Rattle.std.specs.Prelude.{◌≡◌, Bool, true, false, List, [], ◌∷◌, map, Option, Some, None, cond, unwrap_or, refl}
 use Rattle.std.specs.Cmp.Lexicographic.{slice_cmp}
 use Rattle.std.specs.List.Sorted.{IsStrictlySortedBy}
 use Rattle.std.specs.Map.{keys_of}
@@ -10,9 +10,8 @@ use Rattle.conn_table.specs.Connections.{ConnectionList}
 use Rattle.nb_records.specs.Switches.{is_named}
 use Rattle.net_model.specs.ListOwners.{homed_routers, list_unless, names_of}
 use Rattle.net_model.specs.Trail.{list_at}
-use Rattle.ovn_base.proofs.AmongLaws.{among_cases, among_map, among_none, map_among}
-use Rattle.ovn_base.proofs.ByNameLaws.{among_at, at_among, at_head, at_tail, one_or_two}
-use Rattle.ovn_base.proofs.SameEntries.{same_found}
+use Rattle.ovn_base.proofs.AmongLaws.{among_cases, among_none, map_among}
+use Rattle.ovn_base.proofs.ByNameLaws.{among_at, at_head, at_tail, one_or_two}
 use Rattle.ovn_base.specs.declared.name.Name.{Name}
 use Rattle.ovn_base.specs.lists.Among.{Among}
 use Rattle.ovn_base.specs.names.ByName.{at}
@@ -50,27 +49,19 @@ module _ (emptied : List Name) (lists : List (Name × ConnectionList)) where
   list_kept names n list among apart has =
       list_is names n among ∙ ap (λ (l : ConnectionList). Some l) (cond-false (is_named n emptied) [] (list_at lists n) apart ∙ ap (λ o. unwrap_or o []) has)
 
+  -- who had none has an empty one
+  pub list_new : (names : List Name) (n : Name) → Among n names → at lists n ≡ None → at (lists_of names) n ≡ Some []
+  list_new names n among none = list_is names n among ∙ ap (λ (l : ConnectionList). Some l) (empty (is_named n emptied) (at lists n) none)
+    where
+      empty : (b : Bool) (o : Option ConnectionList) → o ≡ None → cond b [] (unwrap_or o []) ≡ []
+      empty true o is = refl
+      empty false o is = ap (λ (p : Option ConnectionList). unwrap_or p []) is
+
 -- where the owners are these, each has a list
 pub owned : (lists : List (Name × ConnectionList)) (names : List Name) → keys_of lists ≡ names → AreInOrder names → (n : Name) → Among n names → (list : ConnectionList) × (at lists n ≡ Some list)
 owned lists names owners sorted n among =
     let e = map_among (λ (x : Name × ConnectionList). x.0) n lists (subst (λ ns. Among n ns) (sym owners) among) in
     (e.0.1, ap (at lists) e.2 ∙ among_at e.0.0 e.0.1 lists (subst AreInOrder (sym owners) sorted) e.1)
-
--- where none is emptied, the lists are those before
-module _ (emptied : List Name) (lists : List (Name × ConnectionList)) (names : List Name) (owners : keys_of lists ≡ names) (sorted : AreInOrder names) (none : (n : Name) → Among n names → is_named n emptied ≡ false) where
-  kept : (n : Name) (list : ConnectionList) → at lists n ≡ Some list → at (lists_of emptied lists names) n ≡ Some list
-  kept n list has =
-      let among = subst (λ ns. Among n ns) owners (among_map (λ (x : Name × ConnectionList). x.0) (n, list) lists (at_among lists n list has)) in
-      list_kept emptied lists names n list among (none n among) has
-
-  was : (n : Name) (list : ConnectionList) → at (lists_of emptied lists names) n ≡ Some list → at lists n ≡ Some list
-  was n list is =
-      let among = subst (λ ns. Among n ns) (owners_are emptied lists names) (among_map (λ (x : Name × ConnectionList). x.0) (n, list) (lists_of emptied lists names) (at_among (lists_of emptied lists names) n list is)) in
-      let own = owned lists names owners sorted n among in
-      own.1 ∙ sym (kept n own.0 own.1) ∙ is
-
-  pub lists_stay : lists_of emptied lists names ≡ lists
-  lists_stay = same_found (lists_of emptied lists names) lists (subst AreInOrder (sym (owners_are emptied lists names)) sorted) (subst AreInOrder (sym owners) sorted) was kept
 
 pub turned_at_home : TurnedAtHomeLaw
 turned_at_home m turn =

@@ -11,12 +11,10 @@ use Rattle.sim_laws.specs.Sound.{AreBorn, AreOnTheWay}
 use Rattle.sim_laws.specs.journeys.AtHome.{AreAtHome}
 use Rattle.sim_laws.specs.journeys.Holding.{HoldsNetwork}
 use Rattle.sim_laws.specs.journeys.UnderWay.{BoundAreVirtual, IsUnderWay}
-use Rattle.row_laws.specs.Distributed.{AreDistributed}
 
 -- the state is one that events can leave
 pub record IsAtRest (m : State) (zones : Zoned) : Type 0 where
   pub valid : IsValid m.config.net
-  pub distributed : AreDistributed m.config.net
   pub keys : HaveKeys m.config.net m.keys
   pub bound : AreBound m.config zones
   pub bound_virtual : BoundAreVirtual m.config

@@ -34,19 +34,19 @@ EnterAndDrainLaw =
 
 -- ---- on the simulated chassis
 
--- All frames that wait arrive, one after another.
-abbrev pub AllArriveLaw : Type 0
-AllArriveLaw =
-    (m : State) (zones : Zoned) (sets : Sets) (more : ℕ) (s new : SimState) (before after : SimOut)
-    → IsUnderWay m zones more → HoldsNetwork m zones.numbers sets s
-    → AreDrained m.clock most_arrivals s before after new
-    → IsJourney m zones sets more arrive_all before after new
-
 -- What the event asks of packets takes them on this journey, on which so many frames were sent.
 pub record IsThrough (m : State) (zones : Zoned) (sets : Sets) (more : ℕ) (traffic : Traffic) (before after : SimOut) (new : SimState) : Type 0 where
   pub sent : ℕ
   pub journey : IsJourney m zones sets (more + sent) traffic before after new
   pub count : length (crossings_in journey.ends) ≡ sent
+
+-- All frames that wait arrive, one after another, and those that are sent for them.
+abbrev pub AllArriveLaw : Type 0
+AllArriveLaw =
+    (m : State) (zones : Zoned) (sets : Sets) (more : ℕ) (s new : SimState) (before after : SimOut)
+    → IsUnderWay m zones more → HoldsNetwork m zones.numbers sets s
+    → AreDrained m.clock most_arrivals s before after new
+    → IsThrough m zones sets more arrive_all before after new
 
 -- The packet of a frame goes in at a port, and then all frames arrive that wait.
 abbrev pub GoesThroughLaw : Type 0

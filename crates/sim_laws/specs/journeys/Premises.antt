@@ -27,11 +27,10 @@ use Rattle.sim_laws.specs.journeys.UnderWay.{IsUnderWay}
 use Rattle.sim_laws.specs.passes.Arriving.{AreOwned, MayArrive}
 use Rattle.sim_laws.specs.pipelines.HeldLists.{AreApart}
 use Rattle.sim_laws.specs.pipelines.Standing.{Chassis, net_of}
-use Rattle.sim_laws.specs.routers.Patches.{IsLaidAround}
-use Rattle.row_laws.specs.Distributed.{AreDistributed}
+use Rattle.sim_laws.specs.routers.Patches.{AreZonedHere, IsLaidAround}
 
--- Who has a key by the records has a live one, and on switches nobody else does; who is at home has a zone, each of its own; no port that leads to a
--- router is bound; and each crossing that waits may arrive.
+-- Who has a key by the records has a live one, and on switches nobody else does; who is at home has a zone, each of its own, and a router that translates
+-- two; no port that leads to a router is bound; and each crossing that waits may arrive.
 pub record IsSoundOn (m : State) (numbers : GivenNumbers) (s : Chassis) : Type 0 where
   pub live : (owner : KeyOwner) → Among owner (owners_of (net_of s)) → IsLive s.keys owner
   pub owned : AreOwned s
@@ -39,6 +38,7 @@ pub record IsSoundOn (m : State) (numbers : GivenNumbers) (s : Chassis) : Type 0
   pub number : (q : Name) → s.number (of_port q) ≡ number_on numbers s.scene.here (Port q)
   pub zoned : (q : Name) → at s.scene.config.bindings q ≡ Some s.scene.here → IsSome (s.number (of_port q))
   pub in_range : (zone : ZoneUse) (n : ℕ) → number_on numbers s.scene.here zone ≡ Some n → n ≤ MAX_ZONE
+  pub routers_zoned : AreZonedHere s numbers
   pub unbound : (q : SwitchPort) → at (net_of s).switch_ports q.name ≡ Some q → is_virtual q ≡ false → at s.scene.config.bindings q.name ≡ None
   pub arrive : (n : ℕ) (x : Crossing) → Among (n, x) m.waiting → MayArrive s x
 
@@ -51,7 +51,6 @@ SoundOnLaw =
 -- the chassis has what the laws of passes ask
 pub record IsReady (s : Chassis) (numbers : GivenNumbers) : Type 0 where
   pub around : IsLaidAround s numbers
-  pub distributed : AreDistributed (net_of s)
   pub owned : AreOwned s
 
 -- Each chassis that is held has it.

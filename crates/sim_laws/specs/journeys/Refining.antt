@@ -1,5 +1,5 @@
 -- What the simulated chassis do with packets is what the network does with them.
-use Rattle.std.specs.Prelude.{◌≡◌, ◌++◌, ◌+◌, ℕ, Bool, true, false, List, [], length}
+use Rattle.std.specs.Prelude.{◌≡◌, ◌≤◌, ◌++◌, ◌+◌, ℕ, Bool, true, false, List, [], length, Some}
 use Rattle.std.specs.BTreeMap.{is_at}
 use Rattle.std.specs.Map.{remove_entry}
 use Rattle.std.specs.Ordering.{nat_cmp}
@@ -10,11 +10,19 @@ use Rattle.conn_zones.specs.Zoning.{Zoned}
 use Rattle.inet_packet.specs.Whole.{IsWhole}
 use Rattle.inet_packet.specs.declared.packet.Packet.{Packet}
 use Rattle.match_cubes.specs.declared.sets.Sets.{Sets}
+use Rattle.nb_records.specs.Network.{Network}
+use Rattle.nb_records.specs.Switches.{is_virtual}
+use Rattle.nb_records.specs.declared.switch.SwitchPort.{SwitchPort}
+use Rattle.net_model.specs.Config.{port_identity}
 use Rattle.net_model.specs.Journey.{Traffic, enter_one, arrive_one, lose_one, numbered_from}
 use Rattle.net_model.specs.State.{State}
 use Rattle.net_model.specs.Trail.{End, crossings_in}
+use Rattle.net_model.specs.Visit.{switch_named}
 use Rattle.net_model.specs.declared.crossing.Crossing.{Crossing}
+use Rattle.ovn_base.specs.declared.limits.TheConstants.{MAX_CHASSIS}
+use Rattle.ovn_base.specs.names.ByName.{at}
 use Rattle.ovn_base.specs.lists.Among.{Among}
+use Rattle.row_laws.specs.Distributed.{AreDistributed}
 use Rattle.ovn_base.specs.declared.name.Name.{Name}
 use Rattle.switch_engine.specs.Outcome.{Choosing}
 use Rattle.sim_laws.specs.Effects.{effects_of}
@@ -33,24 +41,44 @@ pub record IsJourney (m : State) (zones : Zoned) (sets : Sets) (more : ℕ) (tra
   pub sound : IsUnderWay left zones more
   pub held : HoldsNetwork left zones.numbers sets new
 
--- A packet entered at the port, and went on through switches and routers. So many frames were sent, each from the switch in which the packet was.
+-- no port of the switch leads to a router
+abbrev pub HasVirtualPorts : Network → Name → Type 0
+HasVirtualPorts net switch = (q : Name) (port : SwitchPort) → at net.switch_ports q ≡ Some port → port.switch ≡ switch → is_virtual port ≡ true
+
+-- the crossing is one of a packet that came into the switch by the port
+pub record IsSentFrom (net : Network) (i : SwitchPort) (x : Crossing) : Type 0 where
+  pub datapath : x.datapath ≡ switch_named net i.switch
+  pub in_port : x.in_port ≡ port_identity i
+
+-- there are as many as there may be chassis at most, each from the port
+pub record AreStraight (net : Network) (i : SwitchPort) (xs : List Crossing) : Type 0 where
+  pub few : length xs ≤ MAX_CHASSIS
+  pub each : (x : Crossing) → Among x xs → IsSentFrom net i x
+
+-- A packet entered at the port, and went on through switches and routers. So many frames were sent, each from the switch in which the packet was; where no
+-- port of the first switch leads to a router, all are sent from the port at which it entered, at most as many as there may be chassis.
 pub record IsEntry (m : State) (zones : Zoned) (sets : Sets) (more : ℕ) (port : Name) (packet : Packet) (before after : SimOut) (new : SimState) : Type 0 where
   pub sent : ℕ
   pub journey : IsJourney m zones sets (more + sent) (enter_one port packet) before after new
   pub count : length (crossings_in journey.ends) ≡ sent
   pub may : (x : Crossing) → Among x (crossings_in journey.ends) → MayWait m x
   pub waiting : journey.left.waiting ≡ m.waiting ++ numbered_from m.next (crossings_in journey.ends)
+  pub straight : (i : SwitchPort) → at m.config.net.switch_ports port ≡ Some i → HasVirtualPorts m.config.net i.switch → AreStraight m.config.net i (crossings_in journey.ends)
 
 -- the crossings that wait on where that of the number arrives
 abbrev pub waiting_on : Bool → ℕ → List (ℕ × Crossing) → List (ℕ × Crossing)
 waiting_on true n waiting = waiting
 waiting_on false n waiting = remove_entry (is_at (nat_cmp n)) waiting
 
--- A frame arrived, and waits on where it is kept; none was sent for it.
+-- A frame arrived, and waits on where it is kept. So many frames were sent for it, since it may have come to a gateway router, which sent it on; none was
+-- where all routers are distributed.
 pub record IsComing (m : State) (zones : Zoned) (sets : Sets) (more n : ℕ) (keep : Bool) (before after : SimOut) (new : SimState) : Type 0 where
-  pub journey : IsJourney m zones sets more (arrive_one n keep) before after new
-  pub none_sent : crossings_in journey.ends ≡ []
-  pub waiting : journey.left.waiting ≡ waiting_on keep n m.waiting
+  pub sent : ℕ
+  pub journey : IsJourney m zones sets (more + sent) (arrive_one n keep) before after new
+  pub count : length (crossings_in journey.ends) ≡ sent
+  pub may : (x : Crossing) → Among x (crossings_in journey.ends) → MayWait m x
+  pub waiting : journey.left.waiting ≡ waiting_on keep n m.waiting ++ numbered_from m.next (crossings_in journey.ends)
+  pub none_sent : AreDistributed m.config.net → crossings_in journey.ends ≡ []
 
 -- A packet that goes in at a port enters the network, and goes on through switches and routers.
 abbrev pub EntryJourneyLaw : Type 0
@@ -60,8 +88,7 @@ EntryJourneyLaw =
     → IsWhole packet → IsInjected by s port m.clock packet before after new
     → IsEntry m zones sets more port packet before after new
 
--- A frame that arrives is its crossing, that arrives, and waits on where it is kept; no frame is sent for it, since a distributed router is entered where
--- the packet was sent.
+-- A frame that arrives is its crossing, that arrives, and waits on where it is kept.
 abbrev pub ArrivalJourneyLaw : Type 0
 ArrivalJourneyLaw =
     (m : State) (zones : Zoned) (sets : Sets) (more : ℕ) (s new : SimState) (by : Choosing) (n : ℕ) (keep : Bool) (before after : SimOut)

@@ -1,12 +1,14 @@
 -- How the zones of the chassis change where the configuration turns.
-use Rattle.std.specs.Prelude.{◌≡◌, ◌⊎◌, ℕ, true, false, List, [], ◌∷◌, Some}
+use Rattle.std.specs.Prelude.{◌≡◌, ◌⊎◌, ◌++◌, ℕ, Bool, true, false, List, [], ◌∷◌, Option, Some, None, is_none, map, flat_map}
+use Rattle.std.specs.List.{filter}
 use Rattle.std.specs.Map.{keys_of}
 use Rattle.conn_zones.specs.Rezoning.{IsRezoned}
-use Rattle.conn_zones.specs.Zoning.{Zoned, GivenNumbers, number_on}
+use Rattle.conn_zones.specs.Zoning.{Zoned, KnownHomes, GivenNumbers, number_on}
 use Rattle.conn_zones.specs.declared.change.HomeChange.{HomeChange}
-use Rattle.conn_zones.specs.declared.numbers.ZoneUse.TheVariants.{Port}
+use Rattle.conn_zones.specs.declared.numbers.ZoneUse.TheVariants.{Port, Dnat, Snat}
 use Rattle.nb_records.specs.Network.{Network}
 use Rattle.nb_records.specs.Switches.{is_named}
+use Rattle.nb_records.specs.declared.router.Router.{Router}
 use Rattle.nb_rules.specs.Valid.{IsValid}
 use Rattle.net_model.specs.ListOwners.{homed_routers, names_of}
 use Rattle.net_model.specs.State.{State}
@@ -18,10 +20,9 @@ use Rattle.ovn_base.specs.names.ByName.{at}
 use Rattle.tunnel_keys.specs.Keys.{Keys}
 use Rattle.sim_laws.specs.journeys.AtHome.{AreAtHome}
 use Rattle.sim_laws.specs.journeys.InState.{zones_on}
-use Rattle.physical_flows.specs.Bindings.{AreBound}
+use Rattle.physical_flows.specs.Bindings.{AreBound, router_homes}
 use Rattle.sim_laws.specs.journeys.UnderWay.{IsUnderWay}
 use Rattle.sim_laws.specs.pipelines.HeldLists.{list_there}
-use Rattle.row_laws.specs.Distributed.{AreDistributed}
 
 -- the state after the turn, with these keys
 abbrev pub turned_with : Turn → Keys → State → State
@@ -53,30 +54,54 @@ IsTurnOfZones m turn before after emptied =
 abbrev pub TurnedAtHomeLaw : Type 0
 TurnedAtHomeLaw = (m : State) (turn : Turn) → AreAtHome turn.next (turned_by turn m).lists
 
--- who is at home stays so, and nobody's list is emptied
-pub record KeepsHomes (m : State) (turn : Turn) : Type 0 where
+-- The gateway routers that come home, by the homes before and after: those that have one then, and had none.
+abbrev pub is_coming : List (Name × Name) → Name × Name → Bool
+is_coming before e = is_none (at before e.0)
+
+abbrev pub routers_coming : KnownHomes → KnownHomes → List (Name × Name)
+routers_coming before after = filter (is_coming before.routers) after.routers
+
+-- they are at home on their chassis from now on
+abbrev pub coming_home : KnownHomes → KnownHomes → HomeChange
+coming_home before after = record { ports = []; routers = map (λ (e : Name × Name). (e.0, Some e.1)) (routers_coming before after) }
+
+-- and begin with their two zones, by the numbers then
+abbrev pub zone_numbered : Name → Option ℕ → List (Name × ℕ)
+zone_numbered chassis None = []
+zone_numbered chassis (Some z) = (chassis, z) ∷ []
+
+abbrev pub begun_by : GivenNumbers → Name × Name → List (Name × ℕ)
+begun_by numbers e = zone_numbered e.1 (number_on numbers e.1 (Dnat e.0)) ++ zone_numbered e.1 (number_on numbers e.1 (Snat e.0))
+
+abbrev pub zones_begun : GivenNumbers → List (Name × Name) → List (Name × ℕ)
+zones_begun numbers routers = flat_map (begun_by numbers) routers
+
+-- Gateway routers come home with the turn; nobody else comes or goes, and nobody's list is emptied who was at home.
+pub record OnlyComeHome (m : State) (turn : Turn) : Type 0 where
   pub bindings : turn.next.bindings ≡ m.config.bindings
-  pub routers : homed_routers turn.next ≡ homed_routers m.config
+  pub routers : (r home : Name) → at (router_homes m.config) r ≡ Some home → at (router_homes turn.next) r ≡ Some home
   pub ports_kept : (q : Name) → Among q (keys_of m.config.bindings) → is_named q (names_of turn.emptied.ports) ≡ false
   pub routers_kept : (r : Name) → Among r (homed_routers m.config) → is_named r (names_of turn.emptied.routers) ≡ false
 
--- Such a turn leaves the lists as they are, and with them the zones, where the numbers stay and none is emptied.
-abbrev pub KeepingLaw : Type 0
-KeepingLaw =
-    (m : State) (zones : Zoned) (more : ℕ) (turn : Turn)
-    → IsUnderWay m zones more → KeepsHomes m turn
-    → ((turned_by turn m).lists ≡ m.lists) × IsTurnOfZones m turn zones.numbers zones.numbers []
+-- Who comes home with such a turn begins with its zones, and all others keep theirs.
+abbrev pub ComingHomeLaw : Type 0
+ComingHomeLaw =
+    (m : State) (zones later : Zoned) (more : ℕ) (turn : Turn)
+    → IsUnderWay m zones more → AreBound turn.next later → OnlyComeHome m turn → IsRezoned zones (coming_home zones.homes later.homes) later
+    → IsTurnOfZones m turn zones.numbers later.numbers (zones_begun later.numbers (routers_coming zones.homes later.homes))
 
--- An edit is such a turn where each bound port stays and each router is distributed,
+-- An edit is such a turn where each bound port stays, and each router,
 abbrev pub EditingLaw : Type 0
 EditingLaw =
     (m : State) (zones : Zoned) (more : ℕ) (net : Network)
-    → IsUnderWay m zones more → IsValid net → AreDistributed net → ((q c : Name) → at m.config.bindings q ≡ Some c → is_still_there net (identity_at m.config.net q) ≡ true)
-    → KeepsHomes m (edit m.config net)
+    → IsUnderWay m zones more → IsValid net
+    → ((q c : Name) → at m.config.bindings q ≡ Some c → is_still_there net (identity_at m.config.net q) ≡ true)
+    → ((r : Name) (router : Router) → at m.config.net.routers r ≡ Some router → at net.routers r ≡ Some router)
+    → OnlyComeHome m (edit m.config net)
 
 -- and so is the coming of a chassis.
 abbrev pub ComingChassisLaw : Type 0
-ComingChassisLaw = (m : State) (zones : Zoned) (more : ℕ) (chassis : Name) → IsUnderWay m zones more → KeepsHomes m (add_chassis m.config chassis)
+ComingChassisLaw = (m : State) (zones : Zoned) (more : ℕ) (chassis : Name) → IsUnderWay m zones more → OnlyComeHome m (add_chassis m.config chassis)
 
 -- the port is at home on the chassis from now on
 abbrev pub binding : Name → Name → HomeChange

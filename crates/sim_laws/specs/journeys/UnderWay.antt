@@ -12,7 +12,6 @@ use Rattle.physical_flows.specs.Bindings.{AreBound}
 use Rattle.physical_flows.specs.RecordKeys.{HaveKeys}
 use Rattle.sim_laws.specs.Sound.{AreBorn, AreCrossings}
 use Rattle.sim_laws.specs.journeys.AtHome.{AreAtHome}
-use Rattle.row_laws.specs.Distributed.{AreDistributed}
 
 -- each port that is bound is virtual
 abbrev pub BoundAreVirtual : Config → Type 0
@@ -22,7 +21,6 @@ BoundAreVirtual config = (q chassis : Name) (port : SwitchPort) → at config.bi
 -- still be retired.
 pub record IsUnderWay (m : State) (zones : Zoned) (more : ℕ) : Type 0 where
   pub valid : IsValid m.config.net
-  pub distributed : AreDistributed m.config.net
   pub keys : HaveKeys m.config.net m.keys
   pub bound : AreBound m.config zones
   pub bound_virtual : BoundAreVirtual m.config

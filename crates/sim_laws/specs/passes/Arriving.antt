@@ -57,8 +57,8 @@ pub record MayArrive (s : Chassis) (x : Crossing) : Type 0 where
   pub no_return : x.aim ≢ ToPort x.in_port
 
 -- Whatever walk the packet of a crossing takes from its frame, it does what the network says of its arrival. It is lost where its switch is
--- gone, or where its port is gone or at home elsewhere, or everywhere: a distributed router is entered where the packet was sent. Nobody has a live
--- key of a port on a switch but the ports of the records.
+-- gone, or where its port is gone or at home elsewhere, or everywhere: a distributed router is entered where the packet was sent, and a gateway router on
+-- its own chassis. Nobody has a live key of a port on a switch but the ports of the records.
 abbrev pub ArrivingOnLaw : Type 0
 ArrivingOnLaw =
     (s : Chassis) → IsLaidOut s → (numbers : GivenNumbers) → IsWired s numbers → AreOwned s

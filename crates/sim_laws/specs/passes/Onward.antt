@@ -1,11 +1,12 @@
 -- The ports of a switch that lead to routers, and what becomes of copies there.
-use Rattle.std.specs.Prelude.{◌≡◌, ℕ, false, [], ◌∷◌, Some, None}
+use Rattle.std.specs.Prelude.{◌≡◌, ℕ, true, false, [], ◌∷◌, Some, None}
 use Rattle.flow_lowering.specs.Registers.{HasRegistersInRange}
 use Rattle.inet_packet.specs.Whole.{IsWhole}
 use Rattle.inet_packet.specs.declared.packet.Packet.{Packet}
 use Rattle.nb_records.specs.Routers.{partner_of_switch_port}
 use Rattle.nb_records.specs.Switches.{is_virtual}
 use Rattle.nb_records.specs.declared.switch.SwitchPort.{SwitchPort}
+use Rattle.net_model.specs.Config.{home_of, is_here}
 use Rattle.net_model.specs.Entry.{Onward}
 use Rattle.net_model.specs.Trail.{Lists, spot_of}
 use Rattle.ovn_base.specs.declared.name.Name.{Name}
@@ -35,7 +36,7 @@ GoesOn s onward passes o =
     (p : Packet) (lists : Lists) (zones : ZoneLists) (copy : Carried) → copy.passes ≡ passes → IsAtOutput s o p lists zones copy
     → Comes (course_of s) zones (copy ∷ []) (EndsAs s (λ t. onward (spot_of o) (partner_of_switch_port (net_of s) o) t p) lists)
 
--- So it is at each port of the switch that leads to a router, which is bound to no chassis.
+-- So it is at each port of the switch that leads to a router and is at home here, with the router. Such ports are bound to no chassis.
 pub record LeadsOn (s : Chassis) (onward : Onward) (switch : Name) (passes : ℕ) : Type 0 where
   pub unbound : (o : SwitchPort) → at (net_of s).switch_ports o.name ≡ Some o → o.switch ≡ switch → is_virtual o ≡ false → at s.scene.config.bindings o.name ≡ None
-  pub goes : (o : SwitchPort) → at (net_of s).switch_ports o.name ≡ Some o → o.switch ≡ switch → is_virtual o ≡ false → GoesOn s onward passes o
+  pub goes : (o : SwitchPort) → at (net_of s).switch_ports o.name ≡ Some o → o.switch ≡ switch → is_virtual o ≡ false → is_here s.scene.here (home_of s.scene.config o) ≡ true → GoesOn s onward passes o

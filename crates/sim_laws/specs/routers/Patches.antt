@@ -1,8 +1,9 @@
 -- From one datapath into the next: a copy before the output at a port that leads there, and one that comes in at the port's partner.
-use Rattle.std.specs.Prelude.{◌≡◌, ◌≤◌, ◌+◌, ℕ, zero, suc, false, [], ◌∷◌, Option, Some, None}
+use Rattle.std.specs.Prelude.{◌≡◌, ◌≤◌, ◌+◌, ℕ, zero, suc, Bool, true, false, [], ◌∷◌, Option, Some, None}
 use Rattle.conn_zones.specs.Zoning.{GivenNumbers, number_on}
 use Rattle.conn_zones.specs.declared.numbers.TheConstants.{MAX_ZONE}
 use Rattle.conn_zones.specs.declared.numbers.ZoneUse.{ZoneUse}
+use Rattle.conn_zones.specs.declared.numbers.ZoneUse.TheVariants.{Dnat, Snat}
 use Rattle.flow_lowering.specs.Registers.{reg_number, HasRegistersInRange}
 use Rattle.flow_table.specs.declared.flow.Cause.TheVariants as cause
 use Rattle.inet_packet.specs.Whole.{IsWhole}
@@ -14,8 +15,12 @@ use Rattle.nb_records.specs.Routers.{Partner, switch_side, router_side, partner_
 use Rattle.nb_records.specs.Switches.{is_virtual}
 use Rattle.nb_records.specs.declared.router.RouterPort.{RouterPort}
 use Rattle.nb_records.specs.declared.switch.SwitchPort.{SwitchPort}
-use Rattle.net_model.specs.Trail.{Lists, Spot, spot_of, spot_in_router, drop_for}
+use Rattle.net_model.specs.Config.{home_of, home_of_router_port, is_here}
+use Rattle.net_model.specs.Entry.{Scene}
+use Rattle.net_model.specs.Forwarding.{is_translating}
+use Rattle.net_model.specs.Trail.{Lists, dnat_of, snat_of, Spot, spot_of, spot_in_router, drop_for}
 use Rattle.ovn_base.specs.declared.limits.TheConstants.{MAX_HOPS}
+use Rattle.ovn_base.specs.declared.name.Name.{Name}
 use Rattle.ovn_base.specs.declared.stages.TheConstants.{ADMIT_TABLE, OUTPUT_TABLE}
 use Rattle.ovn_base.specs.names.ByName.{at}
 use Rattle.row_laws.specs.Numbers.{IsDatapathKey, IsPortKey}
@@ -31,21 +36,36 @@ use Rattle.sim_laws.specs.routers.RouterStanding.{AreFirstInRouter}
 
 -- ---- a chassis
 
--- The tables of the chassis hold their rows, those of the pipelines and those around them; zones have numbers in range, and who leads to a router is
--- bound to no chassis.
+-- The zones of routers' lists have the numbers that were given, and a router that translates and is at home on the chassis has both.
+pub record AreZonedHere (s : Chassis) (numbers : GivenNumbers) : Type 0 where
+  pub dnat : (router : Name) → s.number (dnat_of router) ≡ number_on numbers s.scene.here (Dnat router)
+  pub snat : (router : Name) → s.number (snat_of router) ≡ number_on numbers s.scene.here (Snat router)
+  pub both : (r : RouterPort) → at (net_of s).router_ports r.name ≡ Some r → is_here s.scene.here (home_of_router_port s.scene.config r) ≡ true → is_translating (net_of s) r ≡ true
+      → ((z : ℕ) × (s.number (dnat_of r.router) ≡ Some z)) × ((z : ℕ) × (s.number (snat_of r.router) ≡ Some z))
+
+-- The tables of the chassis hold their rows, those of the pipelines and those around them; zones have numbers in range, and routers that are at home
+-- theirs; and who leads to a router is bound to no chassis.
 pub record IsLaidAround (s : Chassis) (numbers : GivenNumbers) : Type 0 where
   pub laid : IsLaidOut s
   pub wired : IsWired s numbers
   pub in_range : (zone : ZoneUse) (n : ℕ) → number_on numbers s.scene.here zone ≡ Some n → n ≤ MAX_ZONE
+  pub zoned : AreZonedHere s numbers
   pub unbound : (q : SwitchPort) → at (net_of s).switch_ports q.name ≡ Some q → is_virtual q ≡ false → at s.scene.config.bindings q.name ≡ None
 
 -- ---- what the network says
 
--- The spot is that of a port that leads into another datapath, and this its partner there: a port of a switch that leads to a router, or a port of a
--- router.
-pub data LeadsTo (net : Network) (by : Spot) (partner : Option Partner) : Type 0 where
-  to_router : (o : SwitchPort) → at net.switch_ports o.name ≡ Some o → is_virtual o ≡ false → by ≡ spot_of o → partner ≡ partner_of_switch_port net o → LeadsTo net by partner
-  of_router : (o : RouterPort) → at net.router_ports o.name ≡ Some o → by ≡ spot_in_router o → partner ≡ partner_of_router_port net o → LeadsTo net by partner
+-- The spot is that of a port that leads into another datapath, which is at home here, and this its partner there: a port of a switch that leads to a
+-- router, or a port of a router.
+pub data LeadsTo (s : Scene) (by : Spot) (partner : Option Partner) : Type 0 where
+  to_router : (o : SwitchPort) → at s.config.net.switch_ports o.name ≡ Some o → is_virtual o ≡ false → is_here s.here (home_of s.config o) ≡ true → by ≡ spot_of o
+      → partner ≡ partner_of_switch_port s.config.net o → LeadsTo s by partner
+  of_router : (o : RouterPort) → at s.config.net.router_ports o.name ≡ Some o → is_here s.here (home_of_router_port s.config o) ≡ true → by ≡ spot_in_router o
+      → partner ≡ partner_of_router_port s.config.net o → LeadsTo s by partner
+
+-- the partner is at home here
+abbrev pub is_partner_here : Scene → Partner → Bool
+is_partner_here s (switch_side q) = is_here s.here (home_of s.config q)
+is_partner_here s (router_side r) = is_here s.here (home_of_router_port s.config r)
 
 -- the packet comes to the partner, if there is one, as long as so many passes are left
 abbrev pub into_next : ℕ → Spot → Option Partner → Piece Partner
@@ -60,7 +80,7 @@ pub record IsBeforePatch (s : Chassis) (by : Spot) (partner : Option Partner) (p
   pub in_table : copy.table ≡ OUTPUT_TABLE
   pub packet : copy.packet ≡ p
   pub whole : IsWhole p
-  pub leads : LeadsTo (net_of s) by partner
+  pub leads : LeadsTo s.scene by partner
   pub on : IsDatapathKey s.keys by.datapath copy.regs.dp
   pub to : IsPortKey s.keys by.datapath by.port copy.regs.out_port
   pub within : HasRegistersInRange copy.regs
@@ -75,13 +95,14 @@ abbrev pub AreFirstAt : Chassis → Partner → Regs → Type 0
 AreFirstAt s (switch_side q) regs = AreFirst s q regs
 AreFirstAt s (router_side r) regs = AreFirstInRouter s r regs
 
--- The copy stands before the first table of the partner's datapath, and its registers name the partner as the port of entry; it did not come out of a
--- tunnel, and may not go back.
+-- The copy stands before the first table of the partner's datapath, which is at home here, and its registers name the partner as the port of entry; it did
+-- not come out of a tunnel, and may not go back.
 pub record IsEntering (s : Chassis) (partner : Partner) (p : Packet) (lists : Lists) (zones : ZoneLists) (copy : Carried) : Type 0 where
   pub in_table : copy.table ≡ ADMIT_TABLE
   pub packet : copy.packet ≡ p
   pub whole : IsWhole p
   pub there : IsThere (net_of s) partner
+  pub here : is_partner_here s.scene partner ≡ true
   pub first : AreFirstAt s partner copy.regs
   pub loopback : reg_number reg.Loopback copy.regs ≡ 0
   pub arrived : reg_number reg.Arrived copy.regs ≡ 0

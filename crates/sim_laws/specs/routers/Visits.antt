@@ -19,13 +19,12 @@ use Rattle.sim_laws.specs.pipelines.HeldLists.{HoldLists}
 use Rattle.sim_laws.specs.pipelines.Standing.{Chassis, net_of, course_of}
 use Rattle.sim_laws.specs.pipelines.WalkOn.{Comes}
 use Rattle.sim_laws.specs.routers.Patches.{IsLaidAround}
-use Rattle.row_laws.specs.Distributed.{AreDistributed}
 
--- Where all routers are distributed, whatever walk a packet takes from table 0 on that comes in at a virtual port that is bound to the chassis does what
--- the network says of its visit, through switches and routers, to the last end.
+-- Whatever walk a packet takes from table 0 on that comes in at a virtual port that is bound to the chassis does what the network says of its visit,
+-- through switches and routers, to the last end.
 abbrev pub RoutedVisitLaw : Type 0
 RoutedVisitLaw =
-    (s : Chassis) (numbers : GivenNumbers) → IsLaidAround s numbers → AreDistributed (net_of s)
+    (s : Chassis) (numbers : GivenNumbers) → IsLaidAround s numbers
     → (i : SwitchPort) → at (net_of s).switch_ports i.name ≡ Some i → is_virtual i ≡ true → at s.scene.config.bindings i.name ≡ Some s.scene.here → s.entry ≡ Vif i.name
     → (p : Packet) → IsWhole p → (lists : Lists) (zones : ZoneLists) → HoldLists s.number zones lists
     → Comes (course_of s) zones (start (Vif i.name) p ∷ []) (EndsAs s (λ t. visit s.scene i t p) lists)
@@ -33,7 +32,7 @@ RoutedVisitLaw =
 -- And whatever walk the packet of a crossing takes from its frame does what the network says of its arrival.
 abbrev pub RoutedArrivalLaw : Type 0
 RoutedArrivalLaw =
-    (s : Chassis) (numbers : GivenNumbers) → IsLaidAround s numbers → AreDistributed (net_of s) → AreOwned s
+    (s : Chassis) (numbers : GivenNumbers) → IsLaidAround s numbers → AreOwned s
     → (n : ℕ) (x : Crossing) → MayArrive s x → s.entry ≡ tunnel_entry_of s.keys x
     → (lists : Lists) (zones : ZoneLists) → HoldLists s.number zones lists
     → Comes (course_of s) zones (start (tunnel_entry_of s.keys x) x.packet ∷ []) (EndsAs s (λ t. arrival s.scene n x t) lists)

@@ -8,12 +8,12 @@ ghost use Rattle.chassis_sim.specs.InNames.{frames_sent};
 ghost use Rattle.chassis_sim.specs.State.{numbered, without};
 ghost use Rattle.inet_packet.specs.Whole.{IsWhole};
 ghost use Rattle.sim_laws.specs.Passing.{most_arrivals};
-ghost use Rattle.sim_laws.specs.journeys.Refining.{without_crossing};
+ghost use Rattle.sim_laws.specs.journeys.Refining.{waiting_on, without_crossing};
 ghost use Rattle.sim_laws.specs.journeys.UnderWay.{IsUnderWay};
 ghost use Rattle.world_core.specs.WorldView.{AreHeld};
 ghost use Rattle.sim_laws.specs.Sound.{AreCrossings};
 ghost use Rattle.net_model.specs.State.{event_count};
-ghost use Rattle.world_core.specs.Packets.{AreGone, CanBeKept, HasArrived, HasEntered, IsNumberOf, IsPortNumber, IsSentAs, IsSwitchNumber, most_sent};
+ghost use Rattle.world_core.specs.Packets.{AreGone, CanBeKept, HasArrived, HasEntered, IsNumberOf, IsPortNumber, IsSentAs, IsSwitchNumber, sent_among};
 ghost use Rattle.world_core.specs.Waiting.{AreWaiting, crossing_of, frame_under, names_of};
 ghost use Rattle.sim_laws.specs.Held.{HaveOwnersNames};
 ghost use Rattle.sim_laws.specs.Naming.{HasDatapathKey};
@@ -166,7 +166,7 @@ impl World {
         packet: Packet,
         out: &mut SimOut,
     ) -> Result<(), NoMemory>
-        requires under_way { IsUnderWay self.old.state self.old.zones 0 }
+        requires under_way { IsUnderWay self.old.state self.old.zones (sent_among out.old.effects) }
         requires held { AreHeld self.old.state self.old.zones self.old.sim }
         requires taken { self.old.whole ≡ false }
         requires bound { IsSome (at self.old.state.config.bindings port.now) }
@@ -174,6 +174,8 @@ impl World {
         ensures { OnOk result (HasEntered self.old port.now packet out.old out.new self.new) }
     {
         journeys_refine();
+        // No list in memory has 2^64 elements, so that so many frames weren't sent.
+        let _sent = out.effects.iter();
         let before = out.effects.len();
         match self.sim.inject(port, packet, self.clock, out) {
             Ok(()) => {}
@@ -181,35 +183,46 @@ impl World {
             Err(SimFault::NotBound(_)) => unreachable!(),
             Err(SimFault::NoFrame(_)) => unreachable!(),
         }
-        // No list in memory has 2^64 elements, so that so many frames weren't sent.
-        let _sent = out.effects.iter();
         self.keep_crossings(&out.effects.as_slice()[before..])?;
         Ok(())
     }
 
-    // Takes a frame that waits through the chassis to which it goes. It waits on where it is kept.
+    // A frame that arrived waits on where it is kept.
+    fn let_go(&mut self, frame: u128, keep: bool)
+        requires taken { self.old.whole ≡ false }
+        ensures { self.new ≡ record self.old { state = record self.old.state { waiting = waiting_on keep frame self.old.state.waiting } } }
+    {
+        if !keep {
+            self.crossings.remove(&frame);
+        }
+    }
+
+    // Takes a frame that waits through the chassis to which it goes. It waits on where it is kept, and so do the frames that are
+    // sent for it.
     pub(super) fn arrive(
         &mut self,
         frame: u128,
         keep: bool,
         out: &mut SimOut,
     ) -> Result<(), NoMemory>
-        requires under_way { IsUnderWay self.old.state self.old.zones most_sent }
+        requires under_way { IsUnderWay self.old.state self.old.zones (sent_among out.old.effects) }
         requires held { AreHeld self.old.state self.old.zones self.old.sim }
         requires taken { self.old.whole ≡ false }
         requires waits { IsSome (numbered self.old.state.waiting frame) }
         ensures { OnOk result (HasArrived self.old frame keep out.old out.new self.new) }
     {
         journeys_refine();
+        // No list in memory has 2^64 elements, so that so many frames weren't sent.
+        let _sent = out.effects.iter();
+        let before = out.effects.len();
         match self.sim.arrive(frame, keep, self.clock, out) {
             Ok(()) => {}
             Err(SimFault::Memory) => return Err(NoMemory),
             Err(SimFault::NotBound(_)) => unreachable!(),
             Err(SimFault::NoFrame(_)) => unreachable!(),
         }
-        if !keep {
-            self.crossings.remove(&frame);
-        }
+        self.let_go(frame, keep);
+        self.keep_crossings(&out.effects.as_slice()[before..])?;
         Ok(())
     }
 
@@ -232,7 +245,7 @@ impl World {
 
     // The lowest frame arrives again and again, until none waits or 65,536 arrived.
     pub(super) fn drain(&mut self, out: &mut SimOut) -> Result<(), NoMemory>
-        requires under_way { IsUnderWay self.old.state self.old.zones most_sent }
+        requires under_way { IsUnderWay self.old.state self.old.zones (sent_among out.old.effects) }
         requires held { AreHeld self.old.state self.old.zones self.old.sim }
         requires taken { self.old.whole ≡ false }
         ensures { OnOk result (AreGone most_arrivals self.old out.old out.new self.new) }

@@ -1,5 +1,5 @@
 //! The steps of a world that move packets, one for each kind of event.
-ghost use Rattle.std.specs.Prelude.{cond, is_none, ◌≡◌, ◌<◌, ◌^◌, None, IfErr, IfOk};
+ghost use Rattle.std.specs.Prelude.{cond, is_none, length, ◌≡◌, ◌<◌, ◌^◌, None, IfErr, IfOk};
 ghost use Rattle.edit_reader.specs.declared.event.Event.TheVariants as event_of;
 ghost use Rattle.world_core.specs.PacketEvents.{event_of_packets};
 ghost use Rattle.world_core.specs.Packets.{IsPacketOf};
@@ -39,8 +39,11 @@ fn done_from(out: SimOut) -> Done
     ensures effects { result.effects ≡ out.effects }
     ensures walks { result.walks ≡ out.walks }
     ensures matched { result.matched ≡ matched out.walks }
+    ensures few { length out.effects < 2 ^ 64 }
 {
     let SimOut { effects, walks } = out;
+    // No list in memory has 2^64 elements, so that so many frames weren't sent.
+    let _sent = effects.iter();
     let matched = matched_in(walks.as_slice());
     Done {
         effects,

@@ -6,7 +6,7 @@ use Rattle.world_core.proofs.PacketEvents.{entry_done, handed_on, under_way_of}
 use Rattle.world_core.proofs.world.World.inject.Goals as goal
 
 pub enter-requires-clause-under_way : goal.enter-requires-clause-under_way
-enter-requires-clause-under_way c = under_way_of c.args.self.now c.requires.taken
+enter-requires-clause-under_way c = under_way_of c.args.self.now c.new-out.result.effects c.requires.taken c.new-out.ensures.effects
 
 pub returns : goal.returns
 returns c =
@@ -18,5 +18,5 @@ returns c =
       c.in_ok-packet.ensures.allowed,
       handed_on old c.finish.new.self (event_of.Inject port frame) c.enter.new.out done.effects done.walks done.matched c.done_from.ensures.effects c.done_from.ensures.walks
           (entry_done old port frame c.in_ok-packet.packet c.new-out.result c.enter.new.out c.enter.new.self c.finish.new.self done.matched c.in_ok-packet.ensures.packet c.requires.taken c.requires.room
-          (record { effects = c.new-out.ensures.effects; walks = c.new-out.ensures.walks }) c.in_ok-enter.ensures c.finish.ensures c.done_from.ensures.matched),
+          (record { effects = c.new-out.ensures.effects; walks = c.new-out.ensures.walks }) c.in_ok-enter.ensures c.finish.ensures c.done_from.ensures.few c.done_from.ensures.matched),
     )

@@ -11,14 +11,14 @@ use Rattle.world_setup.specs.Setup.{SetupView, StandsForGround, lowering_in}
 use Rattle.world_setup.specs.Touched.{row_unit}
 use Rattle.world_setup.specs.declared.setup.Setup.TheInside.{Inside}
 use Rattle.world_setup.proofs.LoweredEdits.{edit_stays}
-use Rattle.world_setup.proofs.ReadiedChanges.{edit_tables}
+use Rattle.world_setup.proofs.ReadiedChanges.{edit_compiled}
 use Rattle.world_setup.proofs.SetupTurns.{stands_left}
 use Rattle.world_setup.proofs.setup.Setup.lower.Goals as goal
 
 pub prepare_touched-requires : goal.prepare_touched-requires
 prepare_touched-requires g c =
     subst (λ (k : Keys). CanCompile (record { net = c.args.records.now.after; keys = k })) (sym c.after.ensures)
-    (edit_tables c.args.self.now.ground c.args.number c.args.ops.now c.requires.may.0 c.requires.may.1 c.args.records.now c.args.keys.now c.requires.planned).1.compiled
+    (edit_compiled c.args.self.now.ground c.args.number c.args.ops.now c.requires.may.0 c.requires.may.1 c.args.records.now c.args.keys.now c.requires.planned).1
 
 -- what is held is left as it was
 pub invariant_of-self : goal.invariant_of-self
@@ -32,7 +32,7 @@ returns-clause-planned g c =
     let after : Lowering = record { net = c.args.records.now.after; keys = c.args.keys.now } in
     let start = ap (λ (i : Inside). i.ground) c.self-inside.view_is ∙ ap (λ (s : SetupView). s.ground) c.self.view_is in
     let same = ap (λ (i : Inside). i.lowered) c.self-inside.view_is ∙ ap (λ (s : SetupView). s.lowered) c.self.view_is in
-    let tables = edit_tables ground c.args.number c.args.ops.now c.requires.may.0 c.requires.may.1 c.args.records.now c.args.keys.now c.requires.planned in
+    let compiled = edit_compiled ground c.args.number c.args.ops.now c.requires.may.0 c.requires.may.1 c.args.records.now c.args.keys.now c.requires.planned in
     let held : HaveLowered (lowering_in ground) c.args.self.now.lowered = subst (λ (s : SetupView). HaveLowered (lowering_in s.ground) s.lowered) c.self.view_is c.self.invariant.lowered in
     let had = subst (λ (l : Store Flow UnitId). HaveLowered (lowering_in ground) l) (sym same) held in
     let touched = c.in_ok-touched.touched in
@@ -46,5 +46,5 @@ returns-clause-planned g c =
       λ m. subst (λ (us : List UnitId). Among u us) (sym same) ((c.in_ok-rows.ensures u).1 m),
     )) in
     subst (λ (k : Keys). StayLowered (lowering_in ground) (record after { keys = k }) c.as_slice-4.result.now → IsLoweredPlan (lowering_in ground) (record after { keys = k }) c.prepare_touched.new.self c.in_ok-plan.plan) c.after.ensures
-    (c.in_ok-plan.ensures.planned (lowering_in ground) tables.0.compiled had)
+    (c.in_ok-plan.ensures.planned (lowering_in ground) compiled.0 had)
     stay
