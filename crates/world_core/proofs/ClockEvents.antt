@@ -58,5 +58,5 @@ clock_taken old seconds sound room few before text lines =
     let end = finishes next old.zones (sets_of m.config.net) 0 (all_zones_expired (m.clock + seconds) old.sim) left.0 (omega arith) room left.1 in
     let clock : m.clock ≤ 1000000 * event_count m = sound.consistent.clock in (
       record { admitted = refl; effects = []; step = record { mid = next; does = (refl, refl); state = refl }; passed = refl; zones = refl; lists = λ none. clock_lists old.zones m.clock seconds old.sim; text = lines },
-      record { whole = refl; consistent = record { at_rest = end.0; built = sound.consistent.built; clock = omega (arith, clock, few); lists = clocked_keep seconds m sound.consistent.lists }; held = end.1 },
+      record { whole = refl; consistent = record { at_rest = end.0; marks = sound.consistent.marks; clock = omega (arith, clock, few); lists = clocked_keep seconds m sound.consistent.lists }; held = end.1 },
     )

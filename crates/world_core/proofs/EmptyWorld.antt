@@ -9,18 +9,14 @@ use Rattle.sim_laws.proofs.journey_laws.First.{first as nothing_first}
 use Rattle.sim_laws.specs.journeys.First.{nobody_home}
 use Rattle.sim_laws.specs.journeys.SeenLists.{lists_seen}
 use Rattle.switch_engine.specs.declared.walk.Walk.{Walk}
-use Rattle.world_setup.specs.Built.{IsBuilt}
 use Rattle.world_setup.specs.Ground.{GroundView, ground_of}
 use Rattle.world_core.specs.StepParts.{new_world}
 use Rattle.world_core.specs.Waiting.{crossings_of}
 use Rattle.world_core.specs.WorldView.{IsSound}
 use Rattle.world_core.specs.declared.crossing_names.CrossingNames.{CrossingNames}
 
-new_built : IsBuilt empty.config.net
-new_built = record { offline = refl }
-
 pub new_sound : IsSound new_world
-new_sound = record { whole = refl; consistent = record { at_rest = nothing_first.0; built = new_built; clock = omega arith; lists = empty_keep }; held = nothing_first.1 }
+new_sound = record { whole = refl; consistent = record { at_rest = nothing_first.0; marks = tt; clock = omega arith; lists = empty_keep }; held = nothing_first.1 }
 
 pub are_no_zones : (zones : Zoned) → zones.homes ≡ nobody_home.homes → zones.numbers ≡ nobody_home.numbers → zones ≡ nobody_home
 are_no_zones zones homes numbers = λ i. record { homes = homes i; numbers = numbers i }

@@ -15,6 +15,7 @@ pub turn_moves_none : (event : TurnEvent) → moves_packets (event_of_turn event
 turn_moves_none (turn.Edit ops) = refl
 turn_moves_none (turn.Bind port chassis) = refl
 turn_moves_none (turn.AddChassis chassis) = refl
+turn_moves_none (turn.Health balancer backend online) = refl
 
 pub packets_move : (event : PacketEvent) → moves_packets (event_of_packets event) ≡ true
 packets_move (packets.Inject port frame) = refl
@@ -28,3 +29,4 @@ pub no_walks : (now : ℕ) (s : sim.SimState) (event : TurnEvent) (out : SimOut)
 no_walks now s (turn.Edit ops) out new none = none
 no_walks now s (turn.Bind p c) out new none = none
 no_walks now s (turn.AddChassis c) out new none = none
+no_walks now s (turn.Health balancer backend online) out new none = none

@@ -12,6 +12,7 @@ use Rattle.edit_reader.specs.declared.event.Event.{Event}
 use Rattle.edit_reader.specs.declared.event.Event.TheVariants as event_of
 use Rattle.event_lines.specs.Lines.{accepted_lines}
 use Rattle.inet_packet.specs.declared.packet.Packet as inet
+use Rattle.nb_edits.specs.EditLeaves.{AreListed}
 use Rattle.net_model.specs.Journey.{arrive_all, arrive_one, enter_and_arrive, enter_one, lose_one}
 use Rattle.net_model.specs.State.{State, event_count, finished}
 use Rattle.ovn_base.specs.declared.name.Name.{Name}
@@ -31,7 +32,6 @@ use Rattle.world_setup.proofs.FreedKeys.{clock_still}
 use Rattle.world_core.proofs.KeptLists.{does_keep}
 use Rattle.world_core.proofs.PacketState.{frames_few}
 use Rattle.world_core.proofs.Refusal.{taken_of}
-use Rattle.world_setup.specs.Built.{IsBuilt}
 use Rattle.world_core.specs.EventPasses.{Passes}
 use Rattle.world_core.specs.Outcome.{IsAccepted, matched, moves_packets}
 use Rattle.world_core.specs.Packets.{AreGone, HasArrived, HasEntered, IsPacketOf, sent_among, state_with}
@@ -52,7 +52,7 @@ finish_done old event effects walks mid new more count few t room still does pas
     let end = finishes mid.state mid.zones (sets_of mid.state.config.net) more mid.sim u few (omega (arith, room, same)) held in
     let whole : mid.whole ≡ false = ap (λ (w : WorldView). w.whole) rest ∙ t.taken in
     let zoned : mid.zones ≡ old.zones = ap (λ (w : WorldView). w.zones) rest in
-    let built : IsBuilt mid.state.config.net = subst (λ (m : State). IsBuilt m.config.net) (sym still) t.consistent.built in
+    let marks : AreListed mid.state.config.net = subst (λ (m : State). AreListed m.config.net) (sym still) t.consistent.marks in
     let clock : mid.state.clock ≤ 1000000 * event_count mid.state = subst (λ (m : State). m.clock ≤ 1000000 * event_count m) (sym still) t.consistent.clock in
     record {
       step = record { mid = mid.state; does = does; state = ap (λ (w : WorldView). w.state) then };
@@ -60,7 +60,7 @@ finish_done old event effects walks mid new more count few t room still does pas
       counts = counts;
       zones = subst (λ z. Rezones event old.zones z) (sym (ap (λ (w : WorldView). w.zones) then ∙ zoned)) zones;
       lists = λ none. subst (λ (w : WorldView). Relists event old.state.clock old.zones w.zones old.sim w.sim) (sym then) (subst (λ z. Relists event old.state.clock old.zones z old.sim mid.sim) (sym zoned) (lists none));
-      now = subst IsTaken (sym then) (record { consistent = record { at_rest = end.0; built = built; clock = clock_still mid.state.clock mid.state.accepted mid.state.refused clock; lists = does_keep old.state effects mid.state t.consistent.lists event does }; held = end.1; taken = whole });
+      now = subst IsTaken (sym then) (record { consistent = record { at_rest = end.0; marks = marks; clock = clock_still mid.state.clock mid.state.accepted mid.state.refused clock; lists = does_keep old.state effects mid.state t.consistent.lists event does }; held = end.1; taken = whole });
     }
 
 -- an event that moves packets is none that moves none

@@ -72,7 +72,7 @@ rests_on m zones now room =
     }
 
 refused_consistent : (m : State) (zones : Zoned) → IsConsistent m zones → event_count m < 2 ^ 42 → IsConsistent (one_refused m) zones
-refused_consistent m zones now room = record { at_rest = rests_on m zones now.at_rest room; built = now.built; clock = let clock = now.clock in omega (arith, clock); lists = now.lists }
+refused_consistent m zones now room = record { at_rest = rests_on m zones now.at_rest room; marks = now.marks; clock = let clock = now.clock in omega (arith, clock); lists = now.lists }
 
 -- a refused event changes nothing but the number of refused ones
 abbrev pub refused_world : WorldView → WorldView

@@ -72,6 +72,7 @@ module _ (m : State) (zones : Zoned) (change : SimChange TupleSpace) (after : Gr
   turn_leaves (turn_event.Edit ops) now list = refl
   turn_leaves (turn_event.Bind p c) now list = refl
   turn_leaves (turn_event.AddChassis c) now list = refl
+  turn_leaves (turn_event.Health balancer backend online) now list = refl
 
   -- what the event says of lists
   pub relisted : (event : TurnEvent) (now : ℕ) (later : Zoned) → change.emptied ≡ emptied_by (event_of_turn event) zones later → Relists (event_of_turn event) now zones later s new

@@ -314,10 +314,21 @@ impl World {
             Event::AddChassis(name) => {
                 self.take_turn(&TurnEvent::AddChassis(*name), text, steps)
             }
-            Event::Unbind { .. }
-            | Event::RemoveChassis(_)
-            | Event::Keys { .. }
-            | Event::Health { .. } => self.take_refused(Refusal::NotBuilt, text),
+            Event::Health {
+                balancer,
+                backend,
+                online,
+            } => {
+                let event = TurnEvent::Health {
+                    balancer: *balancer,
+                    backend: *backend,
+                    online: *online,
+                };
+                self.take_turn(&event, text, steps)
+            }
+            Event::Unbind { .. } | Event::RemoveChassis(_) | Event::Keys { .. } => {
+                self.take_refused(Refusal::NotBuilt, text)
+            }
             Event::Clock { seconds } => self.take_clock(*seconds, text),
             Event::Lose { frame } => self.take_loss(*frame, text),
             Event::Unread(fault) => self.take_refused(Refusal::Read(fault.copy()?), text),

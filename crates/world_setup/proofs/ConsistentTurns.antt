@@ -28,7 +28,7 @@ module _ (m : State) (zones : Zoned) (old : IsConsistent m zones) (room : event_
       let mid = turned_by (add_chassis m.config c) m in
       let n = counted mid in
       finished_consistent mid after (record {
-        built = old.built;
+        marks = old.marks;
         clock = clock_still m.clock m.accepted m.refused old.clock;
         lists = turned_keep (add_chassis m.config c) m old.lists;
         at_rest = record {
@@ -50,7 +50,7 @@ module _ (m : State) (zones : Zoned) (old : IsConsistent m zones) (room : event_
       let mid = turned_by (bind m.config p c) m in
       let n = counted mid in
       finished_consistent mid after (record {
-        built = old.built;
+        marks = old.marks;
         clock = clock_still m.clock m.accepted m.refused old.clock;
         lists = turned_keep (bind m.config p c) m old.lists;
         at_rest = record {

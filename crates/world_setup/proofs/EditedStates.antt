@@ -53,7 +53,7 @@ use Rattle.tunnel_keys.specs.Edits.{GivesKeys, IsAfter, IsKeyEdit}
 use Rattle.tunnel_keys.specs.Keys.{Keys, settled}
 use Rattle.tunnel_keys.specs.declared.fault.KeyFault.{KeyFault}
 use Rattle.tuple_space.specs.declared.space.TupleSpace.{TupleSpace}
-use Rattle.world_setup.specs.Built.{IsBuilt, is_built_edit}
+use Rattle.world_setup.specs.Built.{is_built_edit}
 use Rattle.world_setup.specs.Editing.{edited, next_net, Edits}
 use Rattle.world_setup.specs.KeyCauses.{key_lack}
 use Rattle.world_setup.specs.Ground.{ground_of}
@@ -64,7 +64,7 @@ use Rattle.world_setup.specs.Touched.{touched_by}
 use Rattle.world_setup.specs.Turning.{IsPlannedEdit, IsTurned}
 use Rattle.world_setup.proofs.EditedKeys.{HasRecordsFrom, edited_born, edited_have, keys_of_records, port_number_stays, switch_number_stays}
 use Rattle.world_setup.proofs.EditedNames.{AreNamesOf, names_listed, names_set}
-use Rattle.world_setup.proofs.EditedRecords.{edited_built}
+use Rattle.world_setup.proofs.EditedMarks.{edits_mark_listed}
 use Rattle.world_setup.proofs.StayingOwners.{bindings_stay, none_gone, still_there}
 use Rattle.world_setup.proofs.StayingRecords.{ports_stay, router_ports_stay, routers_stay, switches_stay}
 use Rattle.world_setup.proofs.TouchedRecords.{port_kept, port_with_switch, router_port_touched, switch_kept, to_router_touched}
@@ -87,8 +87,8 @@ module _ (m : State) (zones : Zoned) (old : IsConsistent m zones) (ops : List Op
   pub edit_sound_then : edits.IsSound before ops (event_count m + 1)
   edit_sound_then = edit_sound before ops (event_count m + 1) old.at_rest.valid grammar.each faultless
 
-  pub edit_built_then : IsBuilt leaves
-  edit_built_then = edited_built before ops (event_count m + 1) built old.built
+  pub edit_marks_then : edits.AreListed leaves
+  edit_marks_then = edit_sound_then.marks (edits_mark_listed before ops (event_count m + 1) grammar.edits) old.marks
 
   pub edit_records_from : HasRecordsFrom before leaves
   edit_records_from = record {
@@ -128,8 +128,8 @@ module _ (m : State) (zones : Zoned) (old : IsConsistent m zones) (room : event_
   pub sound : edits.IsSound net ops (event_count m + 1)
   sound = edit_sound_then m zones old ops grammar planned.built planned.faultless
 
-  pub next_built : IsBuilt next
-  next_built = edit_built_then m zones old ops grammar planned.built planned.faultless
+  pub next_marks : edits.AreListed next
+  next_marks = edit_marks_then m zones old ops grammar planned.built planned.faultless
 
   pub records_from : HasRecordsFrom net next
   records_from = edit_records_from m zones old ops grammar planned.built planned.faultless
@@ -243,7 +243,7 @@ module _ (m : State) (zones : Zoned) (old : IsConsistent m zones) (room : event_
 
     pub consistent_then : IsConsistent (finished mid) later
     consistent_then = finished_consistent mid later (record {
-      built = next_built;
+      marks = next_marks;
       clock = clock_still m.clock m.accepted m.refused old.clock;
       lists = turned_keep (edit m.config next) m old.lists;
       at_rest = record {

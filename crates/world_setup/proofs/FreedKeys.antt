@@ -71,4 +71,4 @@ pub clock_still : (clock accepted refused : ℕ) → clock ≤ 1000000 * (accept
 clock_still clock accepted refused h = omega (arith, h)
 
 pub finished_consistent : (m : State) (zones : Zoned) → IsConsistent (counted m) zones → IsConsistent (finished m) zones
-finished_consistent m zones now = record { at_rest = settles (counted m) zones now.at_rest; built = now.built; clock = now.clock; lists = now.lists }
+finished_consistent m zones now = record { at_rest = settles (counted m) zones now.at_rest; marks = now.marks; clock = now.clock; lists = now.lists }

@@ -7,8 +7,8 @@ pub mod ComingOwners
 pub mod ConsistentTurns
 pub mod Counts
 pub mod EditedKeys
+pub mod EditedMarks
 pub mod EditedNames
-pub mod EditedRecords
 pub mod EditedStates
 pub mod EditedWaiting
 pub mod FlowStores
@@ -17,6 +17,8 @@ pub mod HeldFlows
 pub mod KeyLacks
 pub mod ListedFlows
 pub mod LoweredEdits
+pub mod MarkedBackends
+pub mod MarkedRows
 pub mod NamedRecords
 pub mod Names
 pub mod NamesInOrder

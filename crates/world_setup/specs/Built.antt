@@ -1,10 +1,9 @@
--- What is built of edits, and what their records lack so far.
-use Rattle.std.specs.Prelude.{◌≡◌, ◌&&◌, Bool, true, false, List, [], ◌∷◌}
-use Rattle.nb_records.specs.Network.{Network}
+-- What is built of edits.
+use Rattle.std.specs.Prelude.{◌&&◌, Bool, true, false, List, [], ◌∷◌}
 use Rattle.nb_records.specs.declared.change.Op.{Op}
 use Rattle.nb_records.specs.declared.change.Op.TheVariants.{Add, Set, Remove, Health}
 
--- records of all kinds are added and changed; none is removed, and no backend is marked
+-- records of all kinds are added and changed; none is removed, and a mark is an event of its own
 abbrev pub is_built_op : Op → Bool
 is_built_op (Add r) = true
 is_built_op (Set k name change) = true
@@ -15,7 +14,3 @@ is_built_op (Health balancer backend online) = false
 abbrev pub is_built_edit : List Op → Bool
 is_built_edit [] = true
 is_built_edit (o ∷ ops) = is_built_op o && is_built_edit ops
-
--- no backend is marked offline
-pub record IsBuilt (net : Network) : Type 0 where
-  pub offline : net.offline ≡ []

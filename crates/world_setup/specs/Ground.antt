@@ -4,6 +4,7 @@ use Rattle.std.specs.Option.{option_map}
 use Rattle.ovn_base.specs.declared.name.Name.{Name}
 use Rattle.conn_zones.specs.Rezoning.{IsZonePatchFor}
 use Rattle.conn_zones.specs.Zoning.{Zoned}
+use Rattle.nb_edits.specs.declared.plan.EditPlan.{EditPlan}
 use Rattle.net_model.specs.Config.{Config}
 use Rattle.net_model.specs.State.{State}
 use Rattle.physical_flows.specs.Stages.{Basis}
@@ -45,3 +46,7 @@ IsPatched zones (Some patch) = IsZonePatchFor zones patch
 pub record IsChangeOf (g : GroundView) (c : GroundChange) : Type 0 where
   pub keys : IsPlanned g.keys c.keys
   pub zones : IsPatched g.zones c.zones
+
+-- the change that a mark makes: to records that are planned, and nothing else
+abbrev pub mark_change : EditPlan → GroundChange
+mark_change plan = record { records = Some plan; chassis = None; keys = None; zones = None }

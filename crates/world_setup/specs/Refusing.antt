@@ -1,9 +1,11 @@
 -- When an event is refused, and why: it isn't built, or else the first cause that holds.
 use Rattle.std.specs.Prelude.{◌+◌, Bool, true, false, not, ℕ, List, Option, Some, None, if◌then◌else◌, is_none, is_some, length, nat_le, nat_lt, option_map}
+use Rattle.ovn_base.specs.declared.address.Backend.{Backend}
 use Rattle.ovn_base.specs.declared.name.Name.{Name}
 use Rattle.ovn_base.specs.names.ByName.{at}
 use Rattle.ovn_base.specs.declared.limits.TheConstants.{MAX_CHASSIS, MAX_WAITING}
 use Rattle.nb_records.specs.Editing.{lists_backend}
+use Rattle.nb_records.specs.Network.{Network}
 use Rattle.nb_records.specs.Switches.{is_virtual, or_else}
 use Rattle.nb_records.specs.declared.change.Op.{Op}
 use Rattle.nb_records.specs.declared.switch.SwitchPort.{SwitchPort}
@@ -30,7 +32,7 @@ is_built (Unbind port) = false
 is_built (AddChassis chassis) = true
 is_built (RemoveChassis chassis) = false
 is_built (Keys datapaths ports) = false
-is_built (Health balancer backend online) = false
+is_built (Health balancer backend online) = true
 is_built (Clock seconds) = true
 is_built (Inject port frame) = true
 is_built (Deliver n) = true
@@ -79,6 +81,11 @@ frame_fault frame = or_else (cause_if (is_too_short frame) why.TooShort) (or_els
 abbrev pub cause_of_entry : State → Name → List ℕ → Option Refusal
 cause_of_entry m port frame = or_else (no_port m port) (or_else (not_bound m port) (or_else (frame_fault frame) (too_many_wait m)))
 
+-- a mark: its balancer isn't there, or no vip of that lists the backend
+abbrev pub cause_of_mark : Network → Name → Backend → Option Refusal
+cause_of_mark net balancer backend =
+    or_else (cause_if (is_none (at net.load_balancers balancer)) (why.NoSuch balancer)) (cause_if (not (lists_backend backend (at net.load_balancers balancer))) (why.NoSuchBackend backend))
+
 -- the first cause that holds
 abbrev pub cause : State → Event → Option Refusal
 cause m (Edit ops) = cause_of_edit m ops
@@ -87,8 +94,7 @@ cause m (Unbind port) = or_else (no_port m port) (not_bound m port)
 cause m (AddChassis chassis) = or_else (cause_if (is_chassis m.config chassis) (why.DuplicateName chassis)) (cause_if (nat_le MAX_CHASSIS (length m.config.chassis)) why.LimitChassis)
 cause m (RemoveChassis chassis) = no_chassis m chassis
 cause m (Keys datapaths ports) = cause_if (nat_lt 0 m.accepted) why.KeysFixed
-cause m (Health balancer backend online) =
-    or_else (cause_if (is_none (at m.config.net.load_balancers balancer)) (why.NoSuch balancer)) (cause_if (not (lists_backend backend (at m.config.net.load_balancers balancer))) (why.NoSuchBackend backend))
+cause m (Health balancer backend online) = cause_of_mark m.config.net balancer backend
 cause m (Clock seconds) = None
 cause m (Inject port frame) = cause_of_entry m port frame
 cause m (Deliver n) = no_frame m n

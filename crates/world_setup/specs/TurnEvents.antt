@@ -8,3 +8,4 @@ abbrev pub event_of_turn : TurnEvent → Event
 event_of_turn (turn.Edit ops) = event.Edit ops.now
 event_of_turn (turn.Bind port chassis) = event.Bind port chassis
 event_of_turn (turn.AddChassis chassis) = event.AddChassis chassis
+event_of_turn (turn.Health balancer backend online) = event.Health balancer backend online

@@ -1,4 +1,4 @@
--- What is prepared for an event that is a turn of the configuration: an edit, a binding or a chassis.
+-- What is prepared for an event that is a turn of the configuration: an edit, a binding, a chassis or a mark.
 use Rattle.std.specs.Prelude.{◌≡◌, ◌+◌, ◌<◌, ◌^◌, ℕ, true, List, [], Option, None, Some, map}
 use Rattle.ovn_base.specs.declared.name.Name.{Name}
 use Rattle.ovn_base.specs.names.ByName.{at}
@@ -14,12 +14,16 @@ use Rattle.event_lines.specs.declared.refusal.Refusal.{Refusal}
 use Rattle.event_lines.specs.declared.refusal.StepFault.{StepFault}
 use Rattle.event_lines.specs.declared.refusal.StepFault.TheVariants.{Refused, Memory}
 use Rattle.net_model.specs.State.{State, event_count, finished}
+use Rattle.ovn_base.specs.lists.Once.{EachOnce}
+use Rattle.physical_flows.specs.Switched.{IsKeyed}
 use Rattle.world_setup.specs.Consistent.{IsConsistent}
 use Rattle.sim_laws.specs.Held.{HaveOwnersNames, frame_of_crossing}
 use Rattle.switch_engine.specs.declared.effect.NetEffect.{NetEffect}
 use Rattle.tuple_space.specs.declared.space.TupleSpace.{TupleSpace}
 use Rattle.nb_records.specs.Editing.{accepted}
+use Rattle.nb_records.specs.Network.{Network}
 use Rattle.nb_records.specs.declared.change.Op.{Op}
+use Rattle.nb_rules.specs.Valid.{IsValid}
 use Rattle.nb_edits.specs.OpFaults.{fault_of}
 use Rattle.nb_edits.specs.Plans.{StandsFor}
 use Rattle.nb_edits.specs.declared.plan.EditPlan.{EditPlan}
@@ -75,6 +79,19 @@ pub record IsPlannedEdit (g : GroundView) (n : ℕ) (ops : List Op) (plan : Edit
   pub stands : StandsFor g.config.net (accepted g.config.net ops n) plan
   pub after : IsAfter g.keys plan.added plan.removed keys
   pub enough : HasKeys g.keys plan.added plan.removed
+
+-- the records are others in their marks alone
+abbrev pub AreMarkedAlone : Network → Network → Type 0
+AreMarkedAlone before after = after ≡ record before { offline = after.offline }
+
+-- the records of a mark are planned
+pub record IsPlannedMark (g : GroundView) (plan : EditPlan) : Type 0 where
+  pub keyed : IsKeyed g.config.net g.keys
+  pub valid : IsValid plan.after
+  pub alone : AreMarkedAlone g.config.net plan.after
+  pub once : EachOnce g.config.chassis
+  -- ports are at home where they are bound
+  pub homes : g.zones.homes.ports ≡ g.config.bindings
 
 -- nobody is bound or named yet, no zone is emptied, and nothing is told
 pub record IsBare (turn : Turn) : Type 0 where

@@ -6,9 +6,12 @@ ghost use Rattle.std.specs.Cmp.Lexicographic.{slice_cmp};
 ghost use Rattle.std.specs.Ordering.{nat_cmp};
 ghost use Rattle.edit_reader.specs.declared.event.Event.TheVariants as event_of;
 ghost use Rattle.event_lines.specs.declared.refusal.Refusal.TheVariants as why;
+ghost use Rattle.event_lines.specs.declared.refusal.StepFault.TheVariants as fault_why;
 ghost use Rattle.nb_edits.specs.OpFaults.{fault_of};
 ghost use Rattle.nb_edits.specs.Plans.{StandsFor};
 ghost use Rattle.nb_records.specs.Editing.{accepted};
+ghost use Rattle.nb_records.specs.Network.{marked};
+ghost use Rattle.nb_rules.specs.Valid.{IsValid};
 ghost use Rattle.northd_core.specs.Lowering.{CanCompile, HaveLowered, IsLoweredIn, IsLoweredPlan, Lowering};
 ghost use Rattle.northd_core.specs.Plans.{AreListed};
 ghost use Rattle.net_model.specs.State.{State, empty};
@@ -26,13 +29,14 @@ ghost use Rattle.tunnel_keys.specs.Causes.{HasKeys};
 ghost use Rattle.tunnel_keys.specs.Edits.{IsAfter, IsKeyEdit};
 ghost use Rattle.tuple_space.specs.Bunches.{flows_in};
 ghost use Rattle.world_setup.specs.TurnEvents.{event_of_turn};
-ghost use Rattle.world_setup.specs.Ground.{GroundView, changed, ground_of, IsChangeOf};
+ghost use Rattle.world_setup.specs.Ground.{GroundView, changed, ground_of, IsChangeOf, mark_change};
 ghost use Rattle.world_setup.specs.Refusing.{is_virtual_port};
 ghost use Rattle.world_setup.specs.Setup.{AreTouched, ComesOver, IsFlowBy, IsLoweredOrDone, IsSetupPatch, IsTurnOfTables, every_delta, joined, lowering_in, units_of};
-ghost use Rattle.world_setup.specs.Turning.{IsBare, IsNoTurn, IsPlannedEdit, IsTurn, LacksFor, MayTurn, Tells, fault_of_keys};
+ghost use Rattle.world_setup.specs.Turning.{IsBare, IsNoTurn, IsPlannedEdit, IsPlannedMark, IsTurn, LacksFor, MayTurn, Tells, fault_of_keys};
 ghost use Rattle.sim_laws.specs.journeys.First.{nobody_home};
 ghost use Rattle.world_setup.specs.Zones.{home_change};
 
+use crate::backends::refusal_of_mark;
 use crate::built::is_built_edit;
 use crate::edited::{
     key_effects, key_names, leading_units, row_units, touched_rules, touched_units,
@@ -55,6 +59,7 @@ use nb_records::records::Records;
 use northd_core::laws::untouched_rows_stay;
 use northd_core::lowered::{LoweredFlows, LoweredPlan};
 use northd_core::touched::touched_rows;
+use ovn_base::address::Backend;
 use ovn_base::delta::Delta;
 use ovn_base::limits::MAX_CHASSIS;
 use ovn_base::list::List;
@@ -244,6 +249,28 @@ fn planned(
         Err(EditFault::Schema(fault)) => Err(StepFault::Refused(Refusal::Schema(fault))),
         Err(EditFault::Memory) => Err(StepFault::Memory),
     }
+}
+
+// The records after a mark.
+fn planned_mark(
+    alloc: Global,
+    records: &mut Records,
+    balancer: Name,
+    backend: Backend,
+    online: bool,
+    number: u64,
+) -> Result<EditPlan, StepFault>
+    requires valid { IsValid records.old }
+    ensures kept { records.new ≡ records.old }
+    ensures stands { IfOk result (StandsFor records.old (marked records.old balancer backend online)) }
+    ensures refused { IfErr result (λ fault. fault ≡ fault_why.Memory) }
+{
+    let mark = Op::Health {
+        balancer,
+        backend,
+        online,
+    };
+    planned(alloc, records, std::slice::from_ref(&mark), number)
 }
 
 // The fault of an edit that lacks keys.
@@ -563,6 +590,76 @@ impl Setup {
         Ok(turn)
     }
 
+    // Prepares what records that are others in their marks alone make of the flows that every chassis has: the rows of routers and
+    // balancers are lowered anew.
+    fn lower_marked<L>(
+        &mut self,
+        alloc: Global,
+        records: &EditPlan,
+        steps: &mut Steps<L>,
+    ) -> Result<LoweredPlan, NoMemory>
+        requires planned { IsPlannedMark self.old.ground records.now }
+        ensures kept { self.new.ground ≡ self.old.ground }
+        ensures planned { IfOk result (IsLoweredPlan (lowering_in self.old.ground) (record { net = records.now.after; keys = self.old.ground.keys }) self.new.lowered) }
+        ensures steps { steps.old ≤ steps.new }
+    {
+        untouched_rows_stay();
+        let rows = touched_rows(alloc, &self.ground.records, records.after(), &[], &[])?;
+        let plan = self
+            .lowered
+            .prepare_touched(records, rows.as_slice(), &self.ground.keys, steps)?;
+        Ok(plan)
+    }
+
+    // Prepares what planned records that are others in their marks alone make of the setup and of the simulated chassis.
+    fn marked<L>(
+        &mut self,
+        alloc: Global,
+        records: EditPlan,
+        steps: &mut Steps<L>,
+    ) -> Result<Turn, NoMemory>
+        requires planned { IsPlannedMark self.old.ground records }
+        ensures kept { self.new.ground ≡ self.old.ground }
+        ensures patch { IfOk result (λ turn. IsSetupPatch self.new turn.patch) }
+        ensures change { IfOk result (λ turn. turn.patch.change ≡ mark_change records) }
+        ensures turned { IfOk result (λ turn. IsTurnOfTables self.old.ground (changed (mark_change records) self.old.ground) turn.sim) }
+        ensures bare { IfOk result IsBare }
+        ensures steps { steps.old ≤ steps.new }
+    {
+        let lowered = self.lower_marked(alloc, &records, steps)?;
+        let change = GroundChange {
+            records: Some(records),
+            chassis: None,
+            keys: None,
+            zones: None,
+        };
+        self.prepare(alloc, change, Some(lowered), &[], None)
+    }
+
+    // Prepares what the mark of a backend makes of the setup and of the simulated chassis: it has no keys and touches no unit of flows.
+    fn health<L>(
+        &mut self,
+        alloc: Global,
+        number: u64,
+        balancer: Name,
+        backend: Backend,
+        online: bool,
+        steps: &mut Steps<L>,
+    ) -> Result<Turn, StepFault>
+        requires may { (m : State) × MayTurn self.old.ground number (event_of.Health balancer backend online) m }
+        ensures kept { self.new.ground ≡ self.old.ground }
+        ensures turn { IfOk result (IsTurn self.old.ground self.new number (event_of.Health balancer backend online)) }
+        ensures refused { IfErr result (IsNoTurn self.old.ground number (event_of.Health balancer backend online)) }
+        ensures steps { steps.old ≤ steps.new }
+    {
+        if let Some(why) = refusal_of_mark(&self.ground.records, &balancer, backend) {
+            return Err(StepFault::Refused(why));
+        }
+        let records = &mut self.ground.records;
+        let records = planned_mark(alloc, records, balancer, backend, online, number)?;
+        Ok(self.marked(alloc, records, steps)?)
+    }
+
     /// Prepares what a turn of the configuration, as the event of this number, makes of the setup and of the simulated chassis.
     pub fn turn<L>(
         &mut self,
@@ -581,6 +678,11 @@ impl Setup {
             TurnEvent::Edit(ops) => self.edit(alloc, number, ops.as_slice(), steps),
             TurnEvent::Bind { port, chassis } => self.bind(alloc, number, *port, *chassis),
             TurnEvent::AddChassis(chassis) => self.add_chassis(alloc, number, *chassis),
+            TurnEvent::Health {
+                balancer,
+                backend,
+                online,
+            } => self.health(alloc, number, *balancer, *backend, *online, steps),
         }
     }
 

@@ -1,6 +1,7 @@
 //! The turns of the configuration that are built.
 
 use nb_records::change::Op;
+use ovn_base::address::Backend;
 use ovn_base::list::List;
 use ovn_base::name::Name;
 
@@ -8,6 +9,14 @@ use ovn_base::name::Name;
 #[derive(Clone, Copy)]
 pub enum TurnEvent<'a> {
     Edit(&'a List<Op>),
-    Bind { port: Name, chassis: Name },
+    Bind {
+        port: Name,
+        chassis: Name,
+    },
     AddChassis(Name),
+    Health {
+        balancer: Name,
+        backend: Backend,
+        online: bool,
+    },
 }
