@@ -7,8 +7,8 @@ use ovn_base::address::{Backend, Ip4, Mac};
 use ovn_base::list::List;
 use ovn_base::name::Name;
 
-/// Why a packet is dropped. Those of routers, gateways and balancers, from `NoLiveBackend` and from `NotForRouter` on, stand in no
-/// flow of the program yet; a packet that no flow finds at home drops as `Unbound`, and `Clash` and `Full` come of commits.
+/// Why a packet is dropped. Most of them stand in flows. `Clash`, `Full`, `NoLiveBackend` and `NoFreePort` come of commits,
+/// `HopLimit` of passing into one more datapath, and a packet that no flow finds at home drops as `Unbound`.
 #[derive(Clone, Copy, PartialEq, Eq, Hash, Debug)]
 pub enum Cause {
     /// The port at which it came in, or by which it would leave, is disabled.
@@ -120,7 +120,7 @@ pub struct Member {
     pub zone: u16,
 }
 
-/// What a flow does with a packet that it matches. Those of routers, gateways and balancers stand in no flow of the program yet.
+/// What a flow does with a packet that it matches.
 #[derive(PartialEq, Eq, Hash, Clone, Debug, Drop)]
 pub enum FlowOp {
     /// Sets a register, or a flag to 0 or 1.

@@ -79,7 +79,7 @@ is_unknown (address.Ether mac ips) = false
 is_unknown address.Unknown = true
 is_unknown address.Router = false
 
--- a port with these entries also gets what goes to an address that no port of the switch has
+-- a port with these entries also gets what goes to an address that no enabled port of the switch has
 abbrev pub takes_unknown : List PortAddress → Bool
 takes_unknown addresses = list_any is_unknown addresses
 
