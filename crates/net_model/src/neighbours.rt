@@ -60,8 +60,8 @@ fn joined_neighbour(records: &Records, port: &RouterPort, ip: Ip4) -> Option<Mac
     }
 }
 
-// The switch on which the router port is.
-fn switch_before(records: &Records, port: &RouterPort) -> Option<Name>
+/// The switch on which the router port is.
+pub fn switch_before(records: &Records, port: &RouterPort) -> Option<Name>
     ensures { result ≡ option_map (λ q. q.switch) (switch_port_before records.now port.now) }
 {
     'ports: for (_name, before) in records.switch_ports() {

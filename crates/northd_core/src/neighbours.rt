@@ -1,8 +1,8 @@
 //! What the ports of routers reach without a hop between, as units.
 ghost use Rattle.std.specs.Prelude.{◌≡◌, ◌++◌, OnOk, [], ◌∷◌, filter, flat_map};
 ghost use Rattle.std.specs.Map.{keys_of};
-ghost use Rattle.std.specs.Option.{option_copied, option_map};
-ghost use Rattle.nb_records.specs.Routers.{partner_of_router_port, peer_by, switch_port_before};
+ghost use Rattle.std.specs.Option.{option_copied};
+ghost use Rattle.nb_records.specs.Routers.{partner_of_router_port, peer_by};
 ghost use Rattle.nb_records.specs.Switches.{enabled_ports, is_virtual, router_port_behind};
 ghost use Rattle.stage_rows.specs.Facts.{answered_if, port_ips};
 ghost use Rattle.stage_rows.specs.Units.{bound_ips, ips_beyond, neighbour_units};
@@ -16,7 +16,7 @@ use nb_records::records::Records;
 use nb_records::references::is_given;
 use nb_records::router::RouterPort;
 use nb_records::switch::SwitchPort;
-use net_model::neighbours::neighbour;
+use net_model::neighbours::{neighbour, switch_before};
 use ovn_base::address::Ip4;
 use ovn_base::list::List;
 use ovn_base::memory::NoMemory;
@@ -82,18 +82,6 @@ fn push_behind(
         }
     }
     Ok(())
-}
-
-// The switch on which the router port is.
-fn switch_before(records: &Records, port: &RouterPort) -> Option<Name>
-    ensures { result ≡ option_map (λ q. q.switch) (switch_port_before records.now port.now) }
-{
-    'ports: for (_name, before) in records.switch_ports() {
-        if is_given(&port.name, &before.router_port) {
-            return Some(before.switch);
-        }
-    }
-    None
 }
 
 // The router port that names the port of that name.
