@@ -1,11 +1,9 @@
 -- Neighbours as they are looked for, entry by entry.
 use Rattle.std.specs.Prelude.{◌&&◌, List, Option, Some, None, cond}
-use Rattle.std.specs.List.{find}
-use Rattle.std.specs.Map.{values_of}
 use Rattle.nb_records.specs.Neighbours.{answering_mac}
 use Rattle.nb_records.specs.Network.{Network}
 use Rattle.nb_records.specs.Routers.{answers}
-use Rattle.nb_records.specs.Switches.{is_given, is_virtual, mac_of_ip, first_answer, router_port_behind}
+use Rattle.nb_records.specs.Switches.{is_virtual, mac_of_ip, first_answer, router_port_behind}
 use Rattle.nb_records.specs.declared.router.RouterPort.{RouterPort}
 use Rattle.nb_records.specs.declared.switch.SwitchPort.{SwitchPort}
 use Rattle.ovn_base.specs.declared.address.Ip4.{Ip4}
@@ -21,9 +19,6 @@ mac_if_answering net ip r = cond (answers net r ip) (Some r.mac) None
 abbrev pub peer_mac : Network → Ip4 → Option RouterPort → Option Mac
 peer_mac net ip None = None
 peer_mac net ip (Some r) = mac_if_answering net ip r
-
-abbrev pub naming_among : List (Name × RouterPort) → Name → Option RouterPort
-naming_among ports name = find (λ (p : RouterPort). is_given name p.peer) (values_of ports)
 
 -- ---- a virtual port on the switch
 

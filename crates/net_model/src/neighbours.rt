@@ -1,7 +1,7 @@
-//! The Ethernet addresses of a router port's neighbours.
-ghost use Rattle.std.specs.Prelude.{◌≡◌};
+//! What a router port is joined to, and the Ethernet addresses of its neighbours.
+ghost use Rattle.std.specs.Prelude.{◌≡◌, None};
 ghost use Rattle.std.specs.List.{list_any};
-ghost use Rattle.std.specs.Option.{option_map};
+ghost use Rattle.std.specs.Option.{option_copied, option_map};
 ghost use Rattle.nb_records.specs.Neighbours as near;
 ghost use Rattle.nb_records.specs.Routers.{partner_of_router_port, switch_port_before, peer_by};
 ghost use Rattle.nb_records.specs.Switches as switches;
@@ -72,29 +72,36 @@ pub fn switch_before(records: &Records, port: &RouterPort) -> Option<Name>
     None
 }
 
+/// The router port to which the router port is joined without a switch between: the one that it names, or else one that names it.
+pub fn peer_of<'a>(records: &'a Records, port: &RouterPort) -> Option<&'a RouterPort>
+    ensures { option_copied result ≡ peer_by records.now port.now.name port.now.peer }
+{
+    match &port.peer {
+        Some(peer) => records.router_port(peer),
+        None => naming(records, &port.name),
+    }
+}
+
+// The router port that names it as its peer.
+fn naming<'a>(records: &'a Records, port: &Name) -> Option<&'a RouterPort>
+    ensures { option_copied result ≡ peer_by records.now port.now None }
+{
+    'ports: for (_name, other) in records.router_ports() {
+        if is_given(port, &other.peer) {
+            return Some(other);
+        }
+    }
+    None
+}
+
 // That of a directly joined router port, if it answers for the address.
 fn of_peer(records: &Records, port: &RouterPort, ip: Ip4) -> Option<Mac>
     ensures { result ≡ nearby.peer_mac records.now ip (peer_by records.now port.now.name port.now.peer) }
 {
-    match &port.peer {
-        Some(peer) => match records.router_port(peer) {
-            Some(peer) => mac_if_answering(records, peer, ip),
-            None => None,
-        },
-        None => of_naming(records, port, ip),
+    match peer_of(records, port) {
+        Some(peer) => mac_if_answering(records, peer, ip),
+        None => None,
     }
-}
-
-// That of one that names the port.
-fn of_naming(records: &Records, port: &RouterPort, ip: Ip4) -> Option<Mac>
-    ensures { result ≡ nearby.peer_mac records.now ip (nearby.naming_among records.now.router_ports port.now.name) }
-{
-    'ports: for (_name, other) in records.router_ports() {
-        if is_given(&port.name, &other.peer) {
-            return mac_if_answering(records, other, ip);
-        }
-    }
-    None
 }
 
 // That of the router port, if it answers for the address.

@@ -1,7 +1,6 @@
 //! What the ports of routers reach without a hop between, as units.
 ghost use Rattle.std.specs.Prelude.{◌≡◌, ◌++◌, OnOk, [], ◌∷◌, filter, flat_map};
 ghost use Rattle.std.specs.Map.{keys_of};
-ghost use Rattle.std.specs.Option.{option_copied};
 ghost use Rattle.nb_records.specs.Routers.{partner_of_router_port, peer_by};
 ghost use Rattle.nb_records.specs.Switches.{enabled_ports, is_virtual, router_port_behind};
 ghost use Rattle.stage_rows.specs.Facts.{answered_if, port_ips};
@@ -13,10 +12,9 @@ use logical_flows::exact::exact_unit_order;
 use logical_flows::unit::UnitId;
 use nb_records::addresses::ips_in_entry;
 use nb_records::records::Records;
-use nb_records::references::is_given;
 use nb_records::router::RouterPort;
 use nb_records::switch::SwitchPort;
-use net_model::neighbours::{neighbour, switch_before};
+use net_model::neighbours::{neighbour, peer_of, switch_before};
 use ovn_base::address::Ip4;
 use ovn_base::list::List;
 use ovn_base::memory::NoMemory;
@@ -82,28 +80,6 @@ fn push_behind(
         }
     }
     Ok(())
-}
-
-// The router port that names the port of that name.
-fn naming<'a>(records: &'a Records, name: &Name) -> Option<&'a RouterPort>
-    ensures { option_copied result ≡ peer_by records.now name.now None }
-{
-    'ports: for (_name, other) in records.router_ports() {
-        if is_given(name, &other.peer) {
-            return Some(other);
-        }
-    }
-    None
-}
-
-// The router port that the port names as its peer, or else one that names it.
-fn peer_of<'a>(records: &'a Records, port: &RouterPort) -> Option<&'a RouterPort>
-    ensures { option_copied result ≡ peer_by records.now port.now.name port.now.peer }
-{
-    match &port.peer {
-        Some(peer) => records.router_port(peer),
-        None => naming(records, &port.name),
-    }
 }
 
 // Adds those on the switch.

@@ -1,5 +1,5 @@
 //! The flows of a chassis around its pipelines, from the records, the keys and the homes.
-ghost use Rattle.std.specs.Prelude.{◌≡◌, ◌++◌, [], ◌∷◌, map, Some, None, IfOk, OnOk};
+ghost use Rattle.std.specs.Prelude.{◌≡◌, ◌++◌, [], ◌∷◌, map, Some, IfOk, OnOk};
 ghost use Rattle.std.specs.List.{list_any};
 ghost use Rattle.std.specs.Option.{option_copied, option_map};
 ghost use Rattle.ovn_base.specs.names.ByName.{at, IsByName};
@@ -35,6 +35,7 @@ use nb_records::references::{is_given, is_named};
 use nb_records::router::RouterPort;
 use nb_records::switch::{PortKind, SwitchPort};
 use net_model::crossing::Group;
+use net_model::neighbours::peer_of;
 use ovn_base::list::List;
 use ovn_base::memory::NoMemory;
 use ovn_base::name::Name;
@@ -581,28 +582,6 @@ fn port_before<'a>(records: &'a Records, port: &RouterPort) -> Option<&'a Switch
     'ports: for (_name, before) in records.switch_ports() {
         if is_given(&port.name, &before.router_port) {
             return Some(before);
-        }
-    }
-    None
-}
-
-// The router port to which the router port is joined without a switch between: the one that it names, or else one that names it.
-fn peer_of<'a>(records: &'a Records, port: &RouterPort) -> Option<&'a RouterPort>
-    ensures { option_copied result ≡ peer_by records.now port.now.name port.now.peer }
-{
-    match &port.peer {
-        Some(peer) => records.router_port(peer),
-        None => naming(records, &port.name),
-    }
-}
-
-// The router port that names it as its peer.
-fn naming<'a>(records: &'a Records, port: &Name) -> Option<&'a RouterPort>
-    ensures { option_copied result ≡ peer_by records.now port.now None }
-{
-    'ports: for (_name, other) in records.router_ports() {
-        if is_given(port, &other.peer) {
-            return Some(other);
         }
     }
     None

@@ -4,7 +4,7 @@ use Rattle.std.specs.Map.{values_of}
 use Rattle.nb_records.specs.Routers.{peer_by}
 use Rattle.nb_records.specs.Switches.{is_given}
 use Rattle.nb_records.specs.declared.router.RouterPort.{RouterPort}
-use Rattle.physical_flows.proofs.compile.naming.Given as goal
+use Rattle.net_model.proofs.neighbours.naming.Given as goal
 
 -- those that are left tell it
 abbrev pub invariant-ports : goal.invariant-ports
