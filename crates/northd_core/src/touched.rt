@@ -247,8 +247,8 @@ fn push_routed(
     Ok(())
 }
 
-// Whether a router has a port.
-fn has_router_ports(records: &Records) -> bool
+/// Whether a router has a port.
+pub fn has_router_ports(records: &Records) -> bool
     ensures { result ≡ has_some records.now.router_ports }
 {
     'ports: for (_name, _port) in records.router_ports() {

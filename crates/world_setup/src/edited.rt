@@ -5,7 +5,6 @@ ghost use Rattle.std.specs.Map.{keys_of};
 ghost use Rattle.ovn_base.specs.lists.Among.{Among};
 ghost use Rattle.ovn_base.specs.lists.Once.{EachOnce};
 ghost use Rattle.ovn_base.specs.names.ByName.{at, in_order};
-ghost use Rattle.nb_records.specs.Switches.{has_some};
 ghost use Rattle.nb_records.specs.declared.kinds.Kind.TheVariants as kind;
 ghost use Rattle.tunnel_keys.specs.Giving.{put_option};
 ghost use Rattle.tunnel_keys.specs.Owners.{as_port_of, datapaths_in, ports_in};
@@ -17,6 +16,7 @@ use nb_records::change::Op;
 use nb_records::kinds::Kind;
 use nb_records::record::Record;
 use nb_records::records::Records;
+use northd_core::touched::has_router_ports;
 use ovn_base::address::Birth;
 use ovn_base::list::List;
 use ovn_base::memory::NoMemory;
@@ -91,16 +91,6 @@ fn push_touched(
         }
         Op::Health { .. } => Ok(()),
     }
-}
-
-// Whether a router has a port.
-fn has_router_ports(records: &Records) -> bool
-    ensures { result ≡ has_some records.now.router_ports }
-{
-    'ports: for (_name, _port) in records.router_ports() {
-        return true;
-    }
-    false
 }
 
 // Adds the units of the ports of switches that lead to routers.
