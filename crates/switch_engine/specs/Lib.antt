@@ -10,7 +10,6 @@ pub mod Headers
 pub mod OneWalk
 pub mod Outcome
 pub mod Plain
-pub mod PlainProper
 pub mod PlainWalk
 pub mod Proper
 pub mod Range

@@ -1,7 +1,6 @@
 //! Laws of walks, each on a function that does nothing: call it, and its clause is a fact of the call.
 ghost use Rattle.switch_engine.specs.OneWalk.{WalksAreOne};
 ghost use Rattle.switch_engine.specs.Plain.{PlainWalks};
-ghost use Rattle.switch_engine.specs.PlainProper.{PlainIsProper};
 
 /// Two walks of one packet through flows of which those that match and are unbeaten have equal actions: with equal choices they have
 /// equal effects and leave equal zones, and they have equal lengths.
@@ -13,9 +12,4 @@ pub fn one_walk()
 /// and is a plain one.
 pub fn plain_walks()
     ensures { PlainWalks }
-{}
-
-/// Flows that are plain and proper are proper, and have no action on connections, addresses or headers and no patch.
-pub fn plain_is_proper()
-    ensures { PlainIsProper }
 {}
