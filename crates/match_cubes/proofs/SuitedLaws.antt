@@ -58,14 +58,14 @@ all_taken _ _ _ (takes_several g rel x y xs e t ts) = and_from (suits g x) (list
 
 -- ---- expressions
 
-abbrev ok : Meaning Bool
+abbrev pub ok : Meaning Bool
 ok = each_compare (λ g rel xs. list_all (suits g) xs)
 
 joins_ok : (is_every : Bool) (bs : List Bool) → list_all (λ b. b) bs ≡ true → joins ok is_every bs ≡ true
 joins_ok true bs h = h
 joins_ok false bs h = h
 
-predicate_ok : (q : Predicate) (positive : Bool) → predicate ok q positive ≡ true
+pub predicate_ok : (q : Predicate) (positive : Bool) → predicate ok q positive ≡ true
 predicate_ok p.Ip4 true = refl
 predicate_ok p.Ip4 false = refl
 predicate_ok _ true = refl

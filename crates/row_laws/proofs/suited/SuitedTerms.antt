@@ -22,7 +22,8 @@ use Rattle.match_language.specs.declared.field.Field.TheVariants as f
 use Rattle.match_language.specs.declared.field.Predicate.{Predicate}
 use Rattle.match_language.specs.declared.field.Predicate.TheVariants as p
 use Rattle.match_cubes.proofs.Cases.{meaning_const, meaning_is, meaning_not, meaning_all, meaning_any, meaning_compare}
-use Rattle.match_cubes.specs.Inwards.{Meaning, predicate, each_compare, are_all}
+use Rattle.match_cubes.proofs.SuitedLaws.{ok, predicate_ok}
+use Rattle.match_cubes.specs.Inwards.{are_all}
 use Rattle.match_cubes.specs.Suited.{suits, are_suited}
 use Rattle.nb_records.specs.Grammar.{IsIp4, IsCidr, IsBackend}
 use Rattle.nb_records.specs.declared.balancer.BalancerProtocol.{BalancerProtocol}
@@ -32,9 +33,6 @@ use Rattle.stage_rows.specs.Rows.{all_of, field_with, field_is, mac_is, ip_is, i
 
 abbrev pub suited : Expr → Bool
 suited x = are_suited x true
-
-abbrev ok : Meaning Bool
-ok = each_compare (λ g rel xs. list_all (suits g) xs)
 
 -- ---- terms together
 
@@ -61,12 +59,6 @@ suited_more [] ys h k = k
 suited_more (x ∷ xs) ys h k = (h.0, suited_more xs ys h.1 k)
 
 -- ---- predicates
-
-predicate_ok : (q : Predicate) (positive : Bool) → predicate ok q positive ≡ true
-predicate_ok p.Ip4 true = refl
-predicate_ok p.Ip4 false = refl
-predicate_ok _ true = refl
-predicate_ok _ false = refl
 
 pub suited_is : (q : Predicate) → suited (e.Is q) ≡ true
 unfolding are_all
