@@ -68,13 +68,15 @@ record IsEcho (proto kind code : ℕ) : Type 0 where
   request : (kind == 8) ≡ true
   plain : (code == 0) ≡ true
 
-icmp_to : (i : Ip4Packet) (kind code ident : ℕ) (b c : Bool) → (code == 0 && kind == 8) ≡ b
+-- a packet of ICMP that is one has its type and its code
+pub icmp_to : (i : Ip4Packet) (kind code ident : ℕ) (b c : Bool) → (code == 0 && kind == 8) ≡ b
     → is_echo_request (option_map (λ protocol. tuple_between protocol ident ident i) (cond b (Some protocol.EchoRequest) (cond c (Some protocol.EchoReply) None))) ≡ true → (code == 0 && kind == 8) ≡ true
 icmp_to i kind code ident true c is h = is
 icmp_to i kind code ident false true is h = absurd (false≢true h)
 icmp_to i kind code ident false false is h = absurd (false≢true h)
 
-other_to : (i : Ip4Packet) (b : Bool) → is_echo_request (cond b None (Some (tuple_between (protocol.Other i.proto) 0 0 i))) ≡ true → ⊥
+-- a packet of another protocol is none
+pub other_to : (i : Ip4Packet) (b : Bool) → is_echo_request (cond b None (Some (tuple_between (protocol.Other i.proto) 0 0 i))) ≡ true → ⊥
 other_to i true h = false≢true h
 other_to i false h = false≢true h
 

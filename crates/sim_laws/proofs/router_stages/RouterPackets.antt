@@ -1,9 +1,8 @@
 -- What the actions of a router make of packets is what the network says.
-use Rattle.std.specs.Prelude.{◌≡◌, ◌==◌, ◌&&◌, ◌*◌, ◌+◌, ℕ, Bool, true, false, cond, if◌then◌else◌, Some, None, option_map, refl}
+use Rattle.std.specs.Prelude.{◌≡◌, ◌==◌, ◌&&◌, ◌*◌, ◌+◌, ℕ, Bool, true, false, cond, if◌then◌else◌, refl}
 use Rattle.std.proofs.Common.{sym, ap, ◌∙◌, arith}
 use Rattle.std.proofs.lemmas.Bool.{false≢true, and_parts, and_from, eqb-true, eq-eqb}
-use Rattle.conn_table.specs.Tuples.{tuple_of, body_tuple, ip4_tuple, tuple_between}
-use Rattle.conn_table.specs.declared.tuple.Protocol.TheVariants as protocol
+use Rattle.conn_table.specs.Tuples.{tuple_of, body_tuple, ip4_tuple}
 use Rattle.inet_packet.specs.Fields as field
 use Rattle.inet_packet.specs.Rewrites.{not_word, over_ip4, with_ip4, ip4_with_ttl, ip4_dec_ttl, ip4_as_reply}
 use Rattle.inet_packet.specs.Sums.{add_words}
@@ -15,6 +14,7 @@ use Rattle.inet_packet.specs.declared.packet.Part.{Part}
 use Rattle.inet_packet.specs.declared.packet.Part.TheVariants as part
 use Rattle.net_model.specs.Headers.{carries_ip4, ip_of, dst_of}
 use Rattle.net_model.specs.RouterInput.{is_echo_request}
+use Rattle.row_laws.proofs.routers.InputTerms.{icmp_to, other_to}
 use Rattle.switch_engine.specs.Headers.{echo_answered, ttl_spent}
 
 -- ---- the time to live
@@ -46,23 +46,13 @@ spent_is p = by p.body
 
 -- ---- echo requests
 
-request_by : (i : Ip4Packet) (kind code ident : ℕ) (b c : Bool) → (code == 0 && kind == 8) ≡ b
-    → is_echo_request (option_map (λ protocol. tuple_between protocol ident ident i) (cond b (Some protocol.EchoRequest) (cond c (Some protocol.EchoReply) None))) ≡ true → (code == 0 && kind == 8) ≡ true
-request_by i kind code ident true c is h = is
-request_by i kind code ident false true is h = absurd (false≢true h)
-request_by i kind code ident false false is h = absurd (false≢true h)
-
-other_by : (i : Ip4Packet) (b : Bool) → is_echo_request (cond b None (Some (tuple_between (protocol.Other i.proto) 0 0 i))) ≡ true → ⊥
-other_by i true h = false≢true h
-other_by i false h = false≢true h
-
 part_request : (i : Ip4Packet) (x : Part) → is_echo_request (ip4_tuple i x) ≡ true → (field.part_icmp4_type x == 8 && field.part_icmp4_code x == 0) ≡ true
 part_request i (part.Icmp kind code sum ident) h =
-    let two = and_parts (code == 0) (kind == 8) (request_by i kind code ident (code == 0 && kind == 8) (code == 0 && kind == 0) refl h) in
+    let two = and_parts (code == 0) (kind == 8) (icmp_to i kind code ident (code == 0 && kind == 8) (code == 0 && kind == 0) refl h) in
     and_from (kind == 8) (code == 0) two.1 two.0
 part_request i (part.Tcp src_port dst_port middle sum urgent) h = absurd (false≢true h)
 part_request i (part.Udp src_port dst_port len sum) h = absurd (false≢true h)
-part_request i part.OtherIp h = absurd (other_by i (i.proto == 1) h)
+part_request i part.OtherIp h = absurd (other_to i (i.proto == 1) h)
 part_request i part.Fragment h = absurd (false≢true h)
 
 body_request : (b : Body) → is_echo_request (body_tuple b) ≡ true → (field.icmp4_type b == 8 && field.icmp4_code b == 0) ≡ true
