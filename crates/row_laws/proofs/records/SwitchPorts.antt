@@ -57,7 +57,7 @@ pub virtual_kind : (k : PortKind) → is_virtual_kind k ≡ true → k ≡ port_
 virtual_kind port_kind.Virtual h = refl
 virtual_kind port_kind.Router h = absurd (false≢true h)
 
-router_kind : (k : PortKind) → is_virtual_kind k ≡ false → k ≡ port_kind.Router
+pub router_kind : (k : PortKind) → is_virtual_kind k ≡ false → k ≡ port_kind.Router
 router_kind port_kind.Virtual h = absurd (false≢true (sym h))
 router_kind port_kind.Router h = refl
 

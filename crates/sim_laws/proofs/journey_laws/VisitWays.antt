@@ -13,11 +13,10 @@ use Rattle.inet_packet.specs.declared.packet.Packet.{Packet}
 use Rattle.nb_records.specs.Neighbours.{neighbour_of}
 use Rattle.nb_records.specs.Network.{Network}
 use Rattle.nb_records.specs.Routers.{Partner, switch_side, router_side, partner_of_switch_port, partner_of_router_port}
-use Rattle.nb_records.specs.Switches.{is_virtual, is_virtual_kind}
+use Rattle.nb_records.specs.Switches.{is_virtual}
 use Rattle.nb_records.specs.Ways.{Way}
 use Rattle.nb_records.specs.declared.router.RouterPort.{RouterPort}
 use Rattle.nb_records.specs.declared.switch.PortKind.{PortKind}
-use Rattle.nb_records.specs.declared.switch.PortKind.TheVariants as port_kind
 use Rattle.nb_records.specs.declared.switch.SwitchPort.{SwitchPort}
 use Rattle.nb_rules.specs.Valid.{IsValid}
 use Rattle.net_model.specs.Config.{Home, nowhere, on, everywhere, home_if, home_by_kind, home_of, home_of_router, home_of_router_port, is_here, port_identity}
@@ -46,7 +45,7 @@ use Rattle.ovn_base.specs.names.ByName.{at}
 use Rattle.ovn_base.specs.names.SameName.{bytes_decides, same_name}
 use Rattle.physical_flows.specs.Bindings.{router_homes}
 use Rattle.physical_flows.specs.RecordKeys.{HaveKeys}
-use Rattle.row_laws.proofs.records.SwitchPorts.{IsEnabled, enabled_is}
+use Rattle.row_laws.proofs.records.SwitchPorts.{IsEnabled, enabled_is, router_kind}
 use Rattle.row_laws.proofs.routers.BestWays.{best_way_law}
 use Rattle.row_laws.specs.routers.RouterActions.{best_way}
 use Rattle.sim_laws.proofs.Homes.{translating_home}
@@ -61,10 +60,6 @@ use Rattle.sim_laws.proofs.router_passes.Partners.{partner_here, partner_there}
 use Rattle.tunnel_keys.specs.declared.owner.Identity.{Identity}
 use Rattle.sim_laws.specs.Sound.{MayWait}
 use Rattle.sim_laws.specs.routers.Patches.{LeadsTo}
-
-router_is : (k : PortKind) → is_virtual_kind k ≡ false → k ≡ port_kind.Router
-router_is port_kind.Virtual h = absurd (false≢true (sym h))
-router_is port_kind.Router h = refl
 
 module _ (m : State) (valid : IsValid m.config.net) (have : HaveKeys m.config.net m.keys) (chassis : Name) (n : ℕ) where
   abbrev net : Network
@@ -137,7 +132,7 @@ module _ (m : State) (valid : IsValid m.config.net) (have : HaveKeys m.config.ne
         by true virtual = none_left t (leave onward s came o t p) (leave_on s n onward came o virtual (bound_here s n o virtual at_home) t p)
         by false leads =
             finally_left t (exit s came o t p) (give_out onward net o o.kind) (exits_through o leads came t p)
-            (λ u q. subst (λ (k : PortKind). Leaves u (give_out onward net o k u q)) (sym (router_is o.kind leads))
+            (λ u q. subst (λ (k : PortKind). Leaves u (give_out onward net o k u q)) (sym (router_kind o.kind leads))
             (so (spot_of o) (partner_of_switch_port net o) (LeadsTo.to_router o o_there leads at_home refl refl) u q))
 
     copies_left : (came : Identity) (qs : List SwitchPort) → ((q : SwitchPort) → Among q qs → (at net.switch_ports q.name ≡ Some q) × (is_here chassis (home_of m.config q) ≡ true)) → (t : Trail) (p : Packet)

@@ -20,6 +20,7 @@ use Rattle.net_model.specs.Config.{Config, everywhere, is_on, home_if, chassis_h
 use Rattle.ovn_base.proofs.AmongLaws.{among_all}
 use Rattle.ovn_base.specs.declared.name.Name.{Name}
 use Rattle.ovn_base.specs.names.ByName.{at}
+use Rattle.row_laws.proofs.records.SwitchPorts.{router_kind}
 use Rattle.row_laws.proofs.records.ValidPorts.{whole, port_row, in_grammar}
 use Rattle.row_laws.proofs.routers.TakenAtRouter.{on_router}
 use Rattle.row_laws.specs.Distributed.{AreDistributed}
@@ -45,11 +46,7 @@ pub everywhere_so : (c : Config) → IsValid c.net → AreDistributed c.net → 
 everywhere_so c valid distributed q port found leads =
     let b = some_behind c.net valid q port found port.kind port.router_port (in_grammar c.net valid q port found).router_port (named_there c.net valid q port found) leads in
     let router = on_router c.net valid b.0 b.1 b.2 in
-    ap (home_by_kind c port) (router_is port.kind leads) ∙ ap (home_if (home_of_router_port c)) b.3 ∙ ap (home_if (home_of_router c)) router.1 ∙ ap (chassis_home c) (distributed b.1.router router.0 router.1)
-  where
-    router_is : (k : PortKind) → is_virtual_kind k ≡ false → k ≡ port_kind.Router
-    router_is port_kind.Virtual h = absurd (false≢true (sym h))
-    router_is port_kind.Router h = refl
+    ap (home_by_kind c port) (router_kind port.kind leads) ∙ ap (home_if (home_of_router_port c)) b.3 ∙ ap (home_if (home_of_router c)) router.1 ∙ ap (chassis_home c) (distributed b.1.router router.0 router.1)
 
 -- so a port that is at home on one chassis is virtual
 pub reached_virtual : (c : Config) → IsValid c.net → AreDistributed c.net → (here q : Name) (port : SwitchPort) → at c.net.switch_ports q ≡ Some port → is_on here (home_of c port) ≡ true → is_virtual port ≡ true

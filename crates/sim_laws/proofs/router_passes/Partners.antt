@@ -26,6 +26,7 @@ use Rattle.ovn_base.specs.lists.Among.{Among}
 use Rattle.ovn_base.specs.names.ByName.{at}
 use Rattle.ovn_base.specs.names.SameName.{same_name, bytes_decides}
 use Rattle.row_laws.proofs.records.Searches.{found_by}
+use Rattle.row_laws.proofs.records.SwitchPorts.{router_kind}
 use Rattle.row_laws.proofs.records.ValidPorts as switch
 use Rattle.row_laws.proofs.routers.TakenAtRouter as router
 use Rattle.sim_laws.specs.routers.Patches.{LeadsTo, IsThere, is_partner_here}
@@ -94,11 +95,6 @@ given_is : (name : Name) (o : Option Name) → is_given name o ≡ true → o �
 given_is name None given = absurd (false≢true given)
 given_is name (Some n) given = ap (λ (x : Name). Some x) ((bytes_decides n name).0 given)
 
--- what isn't virtual leads to a router
-router_is : (k : PortKind) → is_virtual_kind k ≡ false → k ≡ port_kind.Router
-router_is port_kind.Virtual leads = absurd (false≢true (sym leads))
-router_is port_kind.Router leads = refl
-
 module _ (s : Scene) (valid : IsValid s.config.net) where
   abbrev net : Network
   net = s.config.net
@@ -108,7 +104,7 @@ module _ (s : Scene) (valid : IsValid s.config.net) where
 
   -- a port that leads to a router is at home where that is
   home_behind : (o : SwitchPort) → is_virtual o ≡ false → (r : Option RouterPort) → option_and_then (at net.router_ports) o.router_port ≡ r → home_of s.config o ≡ home_if (home_of_router_port s.config) r
-  home_behind o leads r behind = ap (home_by_kind s.config o) (router_is o.kind leads) ∙ ap (home_if (home_of_router_port s.config)) behind
+  home_behind o leads r behind = ap (home_by_kind s.config o) (router_kind o.kind leads) ∙ ap (home_if (home_of_router_port s.config)) behind
 
   -- so is one behind which the router port is
   home_before : (o : RouterPort) → at net.router_ports o.name ≡ Some o → (q : SwitchPort) → switch_port_before net o ≡ Some q → home_of s.config q ≡ home o
