@@ -62,10 +62,11 @@ use Rattle.sim_laws.proofs.passes.Identities.{vni, in_key, vni_held, in_held, it
 use Rattle.sim_laws.proofs.passes.Leaving.{leaves_by, dp_within, to_within}
 use Rattle.sim_laws.proofs.passes.LiveNumbers.{hold, one_datapath, port_among, port_live, switch_live, port_of, same_port_key}
 use Rattle.sim_laws.proofs.passes.OnePort.{IsFor, IsHomed, homes_33}
-use Rattle.sim_laws.proofs.passes.RowSteps.{Does, Taken, row_step, no_row, row_fits, as_row, comes_unmatched}
+use Rattle.sim_laws.proofs.passes.RowSteps.{Taken, row_step, no_row, row_fits, as_row, comes_unmatched}
 use Rattle.sim_laws.proofs.passes.Sending.{none_leads}
 use Rattle.sim_laws.proofs.pipelines.Copies.{goes_so}
 use Rattle.sim_laws.proofs.pipelines.Pieces.{comes_then}
+use Rattle.sim_laws.proofs.pipelines.Tables.{DoesOps}
 use Rattle.sim_laws.specs.Effects.{port_key, aim_key}
 use Rattle.sim_laws.specs.Naming.{IsNumbered}
 use Rattle.sim_laws.specs.Sound.{HasAimKey}
@@ -374,14 +375,14 @@ module _ (s : Chassis) (laid : IsLaidOut s) (numbers : GivenNumbers) (wired : Is
   abbrev Read : Reached
   Read = ComesTo s (λ rest t. rest t x.packet) lists AsArrived
 
-  header_does : Does s (op.Header ∷ op.Set reg.Arrived 1 ∷ op.Go 33 ∷ []) zones copy Read
+  header_does : DoesOps s (op.Header ∷ op.Set reg.Arrived 1 ∷ op.Go 33 ∷ []) zones copy Read
   header_does told done =
       let next : Carried = gone_on LOCAL_TABLE (record copy { regs = set_reg reg.Arrived 1 (with_header s.entry copy.regs) }) in
       subst (λ l. Read l zones (next ∷ [])) done.effects
       (goes_so s (λ rest t. rest t x.packet) lists lists AsArrived zones x.packet next
       (refl, refl, λ j. gone_on LOCAL_TABLE (record copy { regs = set_reg reg.Arrived 1 (with_header (entry_is j) copy.regs) })) (λ rest choices ends. refl))
 
-  on_0 : (f : Flow) → Taken s ENTRY_TABLE (EntryRow (basis_of s numbers)) wired.entry copy f → EntryRow (basis_of s numbers) f → Does s f.ops zones copy Read
+  on_0 : (f : Flow) → Taken s ENTRY_TABLE (EntryRow (basis_of s numbers)) wired.entry copy f → EntryRow (basis_of s numbers) f → DoesOps s f.ops zones copy Read
   on_0 f t (EntryRow.entry q port dp k zone theirs bound e) =
       let is : at_of.Tunnel ≡ at_of.Local q = fits_entry copy.regs x.packet q (row_fits s ENTRY_TABLE (EntryRow (basis_of s numbers)) wired.entry copy f (entry_row q dp k zone) t e) in
       absurd (false≢true (ap is_local is))

@@ -59,8 +59,9 @@ use Rattle.sim_laws.proofs.GroupNumbers.{no_group, one_group, one_flag, group_sh
 use Rattle.sim_laws.proofs.passes.Ends.{ends_none, ends_then}
 use Rattle.sim_laws.proofs.passes.Leaving.{dp_within, to_within, leaves_by}
 use Rattle.sim_laws.proofs.passes.LiveNumbers.{hold, one_datapath, one_port, same_port_key, port_low, port_live, switch_key, port_number, datapath_of, port_of, is_datapath, patch_low}
-use Rattle.sim_laws.proofs.passes.RowSteps.{Does, Taken, row_step, row_fits, as_row, spread_does, copies_does}
+use Rattle.sim_laws.proofs.passes.RowSteps.{Taken, row_step, row_fits, as_row, spread_does, copies_does}
 use Rattle.sim_laws.proofs.pipelines.Pieces.{comes_then}
+use Rattle.sim_laws.proofs.pipelines.Tables.{DoesOps}
 use Rattle.sim_laws.proofs.pipelines.WalkOn.{comes_on}
 use Rattle.sim_laws.specs.Effects.{datapath_key, port_key}
 use Rattle.sim_laws.specs.Naming.{IsNumbered}
@@ -216,7 +217,7 @@ module _ (s : Chassis) (laid : IsLaidOut s) (numbers : GivenNumbers) (wired : Is
       abbrev Made : Reached
       Made told after left = (told ≡ []) × (after ≡ zones) × (left ≡ copies_for copy (members_here (basis_of s numbers) switch g arrived))
 
-      made_33 : (f : Flow) → Taken s LOCAL_TABLE (HomeRow (basis_of s numbers)) wired.home copy f → HomeRow (basis_of s numbers) f → Does s f.ops zones copy Made
+      made_33 : (f : Flow) → Taken s LOCAL_TABLE (HomeRow (basis_of s numbers)) wired.home copy f → HomeRow (basis_of s numbers) f → DoesOps s f.ops zones copy Made
       made_33 f t (HomeRow.home r other d k zone theirs bound e) =
           absurd (not_port r other d k theirs (row_fits s LOCAL_TABLE (HomeRow (basis_of s numbers)) wired.home copy f (home_row d k zone) t e))
       made_33 f t (HomeRow.passes x theirs is e) = absurd (not_patch x theirs (row_fits s LOCAL_TABLE (HomeRow (basis_of s numbers)) wired.home copy f (pass_row x.dp x.key) t e))
@@ -307,7 +308,7 @@ module _ (s : Chassis) (laid : IsLaidOut s) (numbers : GivenNumbers) (wired : Is
       lands = (gone_on LOCAL_TABLE copy, refl, (refl, refl, refl));
     }
 
-    out_32 : (f : Flow) → Taken s REMOTE_TABLE (RemoteRow (basis_of s numbers)) wired.remote copy f → RemoteRow (basis_of s numbers) f → Does s f.ops zones copy Framed
+    out_32 : (f : Flow) → Taken s REMOTE_TABLE (RemoteRow (basis_of s numbers)) wired.remote copy f → RemoteRow (basis_of s numbers) f → DoesOps s f.ops zones copy Framed
     out_32 f t (RemoteRow.remote r other d k home theirs bound apart e) =
         absurd (not_port s laid numbers wired law onward passes i.switch leads (port_identity i) p g copy on_it to within r other d k theirs
         (row_fits s REMOTE_TABLE (RemoteRow (basis_of s numbers)) wired.remote copy f (remote_row d k home) t e))

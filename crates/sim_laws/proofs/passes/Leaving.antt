@@ -38,10 +38,11 @@ use Rattle.switch_engine.specs.declared.effect.Effect.TheVariants as effect
 use Rattle.tunnel_keys.specs.declared.owner.Identity.{Identity}
 use Rattle.sim_laws.proofs.passes.Ends.{ends_so}
 use Rattle.sim_laws.proofs.passes.LiveNumbers.{hold, is_port, same_exit, same_patch}
-use Rattle.sim_laws.proofs.passes.RowSteps.{Does, Taken, row_step, row_fits, as_row, leave_does, drop_does, output_does, forgotten}
+use Rattle.sim_laws.proofs.passes.RowSteps.{Taken, row_step, row_fits, as_row, leave_does, drop_does, output_does, forgotten}
 use Rattle.sim_laws.proofs.pipelines.Copies.{has_datapath_key, has_port_key, goes_so}
 use Rattle.sim_laws.proofs.pipelines.Pieces.{comes_then}
 use Rattle.sim_laws.proofs.pipelines.Registers.{and_zero, and_stays, noted_within}
+use Rattle.sim_laws.proofs.pipelines.Tables.{DoesOps}
 use Rattle.sim_laws.specs.Naming.{IsNumbered}
 use Rattle.sim_laws.specs.passes.Physical.{basis_of, IsWired}
 use Rattle.sim_laws.specs.passes.Onward.{IsAtOutput, GoesOn}
@@ -97,7 +98,7 @@ module _ (s : Chassis) (laid : IsLaidOut s) (numbers : GivenNumbers) (wired : Is
         let fits = fits_exit copy.regs copy.packet x.dp x.key (dp_within copy.regs h.within) (to_within copy.regs h.within) fitting in
         false≢true (sym (same_patch s laid numbers o there copy.regs.dp copy.regs.out_port h.on h.to x leads fits.0 fits.1).leads ∙ virtual)
 
-    out_64 : is_virtual o ≡ true → (f : Flow) → Taken s OUTPUT_TABLE (OutputRow (basis_of s numbers)) wired.output copy f → OutputRow (basis_of s numbers) f → Does s f.ops zones copy (Out port_kind.Virtual)
+    out_64 : is_virtual o ≡ true → (f : Flow) → Taken s OUTPUT_TABLE (OutputRow (basis_of s numbers)) wired.output copy f → OutputRow (basis_of s numbers) f → DoesOps s f.ops zones copy (Out port_kind.Virtual)
     out_64 virtual f t (OutputRow.output r other d k theirs own e) =
         let fits = fits_exit copy.regs copy.packet d k (dp_within copy.regs h.within) (to_within copy.regs h.within) (row_fits s OUTPUT_TABLE (OutputRow (basis_of s numbers)) wired.output copy f (output_row d r k) t e) in
         let same = same_exit s laid numbers o copy.regs.dp copy.regs.out_port h.on h.to r other d k theirs fits.0 fits.1 in
@@ -189,7 +190,7 @@ module _ (s : Chassis) (laid : IsLaidOut s) (numbers : GivenNumbers) (wired : Is
           let is : bit_and copy.regs.flags.0 1 ≡ reg_number reg.Loopback copy.regs = loopback_is copy.regs in
           absurd (omega (arith, one, off, is))
 
-      on_34 : (f : Flow) → Taken s LOOPBACK_TABLE (ReturnRow (basis_of s numbers)) wired.back copy f → ReturnRow (basis_of s numbers) f → Does s f.ops zones copy (ComesTo s (λ rest t. rest t p) lists Stands40)
+      on_34 : (f : Flow) → Taken s LOOPBACK_TABLE (ReturnRow (basis_of s numbers)) wired.back copy f → ReturnRow (basis_of s numbers) f → DoesOps s f.ops zones copy (ComesTo s (λ rest t. rest t p) lists Stands40)
       on_34 f t (ReturnRow.back r other d k theirs e) = absurd (no_return d k (row_fits s LOOPBACK_TABLE (ReturnRow (basis_of s numbers)) wired.back copy f (return_row d k) t e))
       on_34 f t (ReturnRow.back_in r other d k theirs e) = absurd (no_return d k (row_fits s LOOPBACK_TABLE (ReturnRow (basis_of s numbers)) wired.back copy f (return_row d k) t e))
       on_34 f t (ReturnRow.leave e) =
@@ -220,7 +221,7 @@ module _ (s : Chassis) (laid : IsLaidOut s) (numbers : GivenNumbers) (wired : Is
             tt,
           ) h.hold (λ choices ends. refl)
 
-      turned : (f : Flow) → Taken s LOOPBACK_TABLE (ReturnRow (basis_of s numbers)) wired.back copy f → ReturnRow (basis_of s numbers) f → Does s f.ops zones copy Back
+      turned : (f : Flow) → Taken s LOOPBACK_TABLE (ReturnRow (basis_of s numbers)) wired.back copy f → ReturnRow (basis_of s numbers) f → DoesOps s f.ops zones copy Back
       turned f t (ReturnRow.back r other d k theirs e) =
           as_row s LOOPBACK_TABLE (ReturnRow (basis_of s numbers)) wired.back zones copy Back f (return_row d k) e (drop_does s zones copy Back cause.Loopback dropped)
       turned f t (ReturnRow.back_in r other d k theirs e) =

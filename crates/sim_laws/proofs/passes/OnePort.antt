@@ -49,8 +49,9 @@ use Rattle.sim_laws.proofs.passes.Ends.{ends_so}
 use Rattle.sim_laws.proofs.passes.Leaving.{IsAtExit, dp_within, to_within}
 use Rattle.sim_laws.proofs.passes.LiveNumbers.{IsItself, port_low, is_port, same_exit, same_patch, switch_key, port_number}
 use Rattle.sim_laws.proofs.passes.Members.{home_is}
-use Rattle.sim_laws.proofs.passes.RowSteps.{Does, Taken, row_step, no_row, row_fits, as_row, comes_unmatched, go_does, home_does, frame_does, homed}
+use Rattle.sim_laws.proofs.passes.RowSteps.{Taken, row_step, no_row, row_fits, as_row, comes_unmatched, go_does, home_does, frame_does, homed}
 use Rattle.sim_laws.proofs.pipelines.Copies.{has_datapath_key, has_port_key, goes_so}
+use Rattle.sim_laws.proofs.pipelines.Tables.{DoesOps}
 use Rattle.sim_laws.specs.Effects.{datapath_key, port_key}
 use Rattle.sim_laws.specs.Naming.{IsNumbered}
 use Rattle.sim_laws.specs.passes.Physical.{basis_of, IsWired}
@@ -208,7 +209,7 @@ module _ (s : Chassis) (laid : IsLaidOut s) (numbers : GivenNumbers) (wired : Is
           loopback = refl;
         }) (λ rest choices ends. refl)
 
-    on_33 : (f : Flow) → Taken s LOCAL_TABLE (HomeRow (basis_of s numbers)) wired.home copy f → HomeRow (basis_of s numbers) f → Does s f.ops zones copy Homes
+    on_33 : (f : Flow) → Taken s LOCAL_TABLE (HomeRow (basis_of s numbers)) wired.home copy f → HomeRow (basis_of s numbers) f → DoesOps s f.ops zones copy Homes
     on_33 f t (HomeRow.home r other d k zone theirs here e) =
         let fits = exit_of LOCAL_TABLE lists zones copy h d k (row_fits s LOCAL_TABLE (HomeRow (basis_of s numbers)) wired.home copy f (home_row d k zone) t e) in
         let same = its_exit LOCAL_TABLE lists zones copy h r other d k theirs fits in
@@ -315,7 +316,7 @@ module _ (s : Chassis) (laid : IsLaidOut s) (numbers : GivenNumbers) (wired : Is
       abbrev Stays : Reached
       Stays = ComesTo s (λ rest t. rest t p) lists (IsStaying copy)
 
-      on_32 : (f : Flow) → Taken s REMOTE_TABLE (RemoteRow (basis_of s numbers)) wired.remote copy f → RemoteRow (basis_of s numbers) f → Does s f.ops zones copy Stays
+      on_32 : (f : Flow) → Taken s REMOTE_TABLE (RemoteRow (basis_of s numbers)) wired.remote copy f → RemoteRow (basis_of s numbers) f → DoesOps s f.ops zones copy Stays
       on_32 f t (RemoteRow.remote r other d k chassis theirs is apart e) = absurd (apart (no_other chassis (its_home f t r other d k chassis theirs is e)))
       on_32 f t (RemoteRow.away x chassis leads is apart e) = absurd (apart (no_other chassis (patch_home f t x chassis leads is e)))
       on_32 f t (RemoteRow.spread a d group theirs e) = absurd (not_spread f t a d group e)
@@ -373,7 +374,7 @@ module _ (s : Chassis) (laid : IsLaidOut s) (numbers : GivenNumbers) (wired : Is
               RemoteRow.remote o.name o copy.regs.dp copy.regs.out_port other_home (is_exit REMOTE_TABLE lists zones copy h) bound apart refl
           by false leads = RemoteRow.away (as_patch REMOTE_TABLE lists zones copy h) other_home (leads_so REMOTE_TABLE lists zones copy h leads) at_other apart refl
 
-      away_32 : (f : Flow) → Taken s REMOTE_TABLE (RemoteRow (basis_of s numbers)) wired.remote copy f → RemoteRow (basis_of s numbers) f → Does s f.ops zones copy Crosses
+      away_32 : (f : Flow) → Taken s REMOTE_TABLE (RemoteRow (basis_of s numbers)) wired.remote copy f → RemoteRow (basis_of s numbers) f → DoesOps s f.ops zones copy Crosses
       away_32 f t (RemoteRow.remote r other d k name theirs is far e) =
           as_row s REMOTE_TABLE (RemoteRow (basis_of s numbers)) wired.remote zones copy Crosses f (remote_row d k name) e
           (frame_does s zones copy Crosses name (framed name (same_home name other_home (sym (its_home f t r other d k name theirs is e) ∙ at_other))))

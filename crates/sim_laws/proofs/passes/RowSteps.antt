@@ -5,7 +5,6 @@ use Rattle.conn_table.specs.Picks.{Choice}
 use Rattle.flow_table.specs.Matching.{IsBest, NoneMatches}
 use Rattle.flow_table.specs.declared.flow.Cause.{Cause}
 use Rattle.flow_table.specs.declared.flow.Flow.{Flow}
-use Rattle.flow_table.specs.declared.flow.FlowOp.{FlowOp}
 use Rattle.flow_table.specs.declared.flow.FlowOp.TheVariants as op
 use Rattle.flow_table.specs.declared.flow.Member.{Member}
 use Rattle.inet_packet.specs.Fits.{CubeFits}
@@ -13,7 +12,7 @@ use Rattle.inet_packet.specs.declared.regs.Reg.TheVariants as reg
 use Rattle.ovn_base.specs.declared.name.Name.{Name}
 use Rattle.switch_engine.specs.Actions.{set_reg, drop_at, frame_to, gone_on, copies_for}
 use Rattle.switch_engine.specs.Acts.{Doing, goes_next, tells}
-use Rattle.switch_engine.specs.Outcome.{FlowOutcome, with_act, outcome, going_on, choosing, picks_in, IsDone}
+use Rattle.switch_engine.specs.Outcome.{FlowOutcome, with_act, outcome, going_on, picks_in, IsDone}
 use Rattle.switch_engine.specs.Walk.{unmatched}
 use Rattle.switch_engine.specs.Walk.IsWalk.{ends, takes}
 use Rattle.switch_engine.specs.Zones.{ZoneLists}
@@ -21,16 +20,11 @@ use Rattle.switch_engine.specs.declared.carried.Carried.{Carried}
 use Rattle.switch_engine.specs.declared.effect.Effect.{Effect}
 use Rattle.switch_engine.specs.declared.effect.Effect.TheVariants as effect
 use Rattle.switch_engine.specs.declared.walk.Step.{Step}
+use Rattle.sim_laws.proofs.pipelines.Tables.{DoesOps}
 use Rattle.sim_laws.proofs.pipelines.WalkOn.{comes_step}
 use Rattle.sim_laws.specs.passes.Physical.{HoldsAt}
 use Rattle.sim_laws.specs.pipelines.Standing.{Chassis, course_of}
 use Rattle.sim_laws.specs.pipelines.WalkOn.{Course, Walks, Reached, Parts, Comes}
-
--- the operations, done on a copy, bring it so far, whatever they tell
-abbrev pub Does : Chassis → List FlowOp → ZoneLists → Carried → Reached → Type 0
-Does s ops zones copy So =
-    (told : List Effect) → IsDone s.by (outcome s.entry s.scene.now ops (choosing copy zones told)) told
-    → So told (outcome s.entry s.scene.now ops (choosing copy zones told)).zones (going_on (outcome s.entry s.scene.now ops (choosing copy zones told)))
 
 -- ---- a row is taken
 
@@ -50,7 +44,7 @@ module _ (s : Chassis) (table : ℕ) (Row : Flow → Type 0) (holds : HoldsAt s 
 
   -- some row fits, and each that is taken does so
   pub row_step : (zones : ZoneLists) (copy : Carried) → copy.table ≡ table → (So : Reached) → (base : Flow) → Row base → base.table ≡ table → CubeFits base.cube copy.regs copy.packet
-      → ((f : Flow) → Taken copy f → Does s f.ops zones copy So) → Comes (course_of s) zones (copy ∷ []) So
+      → ((f : Flow) → Taken copy f → DoesOps s f.ops zones copy So) → Comes (course_of s) zones (copy ∷ []) So
   row_step zones copy in_table So base is of fits each =
       comes_step (course_of s) zones copy So (λ none. none base ((holds base of).1 is) (record { in_table = of ∙ sym in_table; fits = fits }))
       (λ f best. each f (taken copy in_table f best))
@@ -64,8 +58,8 @@ module _ (s : Chassis) (table : ℕ) (Row : Flow → Type 0) (holds : HoldsAt s 
   pub row_fits : (copy : Carried) (f row : Flow) → Taken copy f → f ≡ row → CubeFits row.cube copy.regs copy.packet
   row_fits copy f row t e = subst (λ (g : Flow). CubeFits g.cube copy.regs copy.packet) e t.fits
 
-  pub as_row : (zones : ZoneLists) (copy : Carried) (So : Reached) (f row : Flow) → f ≡ row → Does s row.ops zones copy So → Does s f.ops zones copy So
-  as_row zones copy So f row e does = subst (λ (g : Flow). Does s g.ops zones copy So) (sym e) does
+  pub as_row : (zones : ZoneLists) (copy : Carried) (So : Reached) (f row : Flow) → f ≡ row → DoesOps s row.ops zones copy So → DoesOps s f.ops zones copy So
+  as_row zones copy So f row e does = subst (λ (g : Flow). DoesOps s g.ops zones copy So) (sym e) does
 
 -- a copy that no flow matches ends
 pub comes_unmatched : (c : Course) (zones : ZoneLists) (copy : Carried) (So : Reached) → NoneMatches c.flows copy.table copy.regs copy.packet → So (unmatched c.entry copy) zones [] → Comes c zones (copy ∷ []) So
@@ -89,37 +83,37 @@ comes_unmatched c zones copy So none so = record { each = λ others steps all la
 
 module _ (s : Chassis) (zones : ZoneLists) (copy : Carried) (So : Reached) where
   -- to go on
-  pub go_does : (n : ℕ) → So [] zones (gone_on n copy ∷ []) → Does s (op.Go n ∷ []) zones copy So
+  pub go_does : (n : ℕ) → So [] zones (gone_on n copy ∷ []) → DoesOps s (op.Go n ∷ []) zones copy So
   go_does n so told done = subst (λ l. So l zones (gone_on n copy ∷ [])) done.effects so
 
   -- to a port at home here
   abbrev pub homed : ℕ → Carried
   homed z = record copy { regs = record copy.regs { z_out = z } }
 
-  pub home_does : (z n : ℕ) → So [] zones (gone_on n (homed z) ∷ []) → Does s (op.Set reg.ZOut z ∷ op.Go n ∷ []) zones copy So
+  pub home_does : (z n : ℕ) → So [] zones (gone_on n (homed z) ∷ []) → DoesOps s (op.Set reg.ZOut z ∷ op.Go n ∷ []) zones copy So
   home_does z n so told done = subst (λ l. So l zones (gone_on n (homed z) ∷ [])) done.effects so
 
   -- into the egress pipeline: what was found out is forgotten
   abbrev pub forgotten : Carried
   forgotten = record copy { regs = set_reg reg.Verdict 0 (set_reg reg.Blocked 0 (set_reg reg.State 0 (set_reg reg.Tracked 0 copy.regs))) }
 
-  pub leave_does : (n : ℕ) → So [] zones (gone_on n forgotten ∷ []) → Does s (op.Set reg.Tracked 0 ∷ op.Set reg.State 0 ∷ op.Set reg.Blocked 0 ∷ op.Set reg.Verdict 0 ∷ op.Go n ∷ []) zones copy So
+  pub leave_does : (n : ℕ) → So [] zones (gone_on n forgotten ∷ []) → DoesOps s (op.Set reg.Tracked 0 ∷ op.Set reg.State 0 ∷ op.Set reg.Blocked 0 ∷ op.Set reg.Verdict 0 ∷ op.Go n ∷ []) zones copy So
   leave_does n so told done = subst (λ l. So l zones (gone_on n forgotten ∷ [])) done.effects so
 
   -- ---- to end
 
-  pub drop_does : (why : Cause) → So (drop_at copy.table why copy.regs ∷ []) zones [] → Does s (op.Drop why ∷ []) zones copy So
+  pub drop_does : (why : Cause) → So (drop_at copy.table why copy.regs ∷ []) zones [] → DoesOps s (op.Drop why ∷ []) zones copy So
   drop_does why so told done = subst (λ l. So l zones []) done.effects so
 
-  pub frame_does : (home : Name) → So (frame_to home copy ∷ []) zones [] → Does s (op.Frame home ∷ []) zones copy So
+  pub frame_does : (home : Name) → So (frame_to home copy ∷ []) zones [] → DoesOps s (op.Frame home ∷ []) zones copy So
   frame_does home so told done = subst (λ l. So l zones []) done.effects so
 
-  pub output_does : (q : Name) → So (effect.Out q copy.packet ∷ []) zones [] → Does s (op.Output q ∷ []) zones copy So
+  pub output_does : (q : Name) → So (effect.Out q copy.packet ∷ []) zones [] → DoesOps s (op.Output q ∷ []) zones copy So
   output_does q so told done = subst (λ l. So l zones []) done.effects so
 
   -- ---- to a group
 
-  pub copies_does : (members : List Member) → So [] zones (copies_for copy members) → Does s (op.Copies members ∷ []) zones copy So
+  pub copies_does : (members : List Member) → So [] zones (copies_for copy members) → DoesOps s (op.Copies members ∷ []) zones copy So
   copies_does members so told done =
       subst (λ l. So l zones (copies_for copy members ++ [])) done.effects (subst (λ l. So [] zones l) (sym (append-nil (copies_for copy members))) so)
 
@@ -134,6 +128,6 @@ module _ (s : Chassis) (zones : ZoneLists) (copy : Carried) (So : Reached) where
   spreads choices (home ∷ homes) = ap (λ o. with_act (tells (frame_to home copy) (goes_next (framing choices))) o) (spreads choices homes)
 
   -- a frame to each of the chassis, and then here
-  pub spread_does : (homes : List Name) → So (map (λ home. frame_to home copy) homes) zones (gone_on 33 copy ∷ []) → Does s (map (λ home. op.Frame home) homes ++ op.Go 33 ∷ []) zones copy So
+  pub spread_does : (homes : List Name) → So (map (λ home. frame_to home copy) homes) zones (gone_on 33 copy ∷ []) → DoesOps s (map (λ home. op.Frame home) homes ++ op.Go 33 ∷ []) zones copy So
   spread_does homes so told =
       subst (λ (o : FlowOutcome). IsDone s.by o told → So told o.zones (going_on o)) (sym (spreads (picks_in told) homes)) (λ done. subst (λ l. So l zones (gone_on 33 copy ∷ [])) done.effects so)

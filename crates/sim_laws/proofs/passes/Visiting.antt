@@ -36,10 +36,11 @@ use Rattle.tunnel_keys.proofs.HeldKeys.{found}
 use Rattle.sim_laws.proofs.Places.{name_at, is_local}
 use Rattle.sim_laws.proofs.passes.Ends.{ends_same}
 use Rattle.sim_laws.proofs.passes.LiveNumbers.{datapath_low, port_low, switch_live, port_live, is_port, datapath_of, port_of}
-use Rattle.sim_laws.proofs.passes.RowSteps.{Does, Taken, row_step, row_fits, as_row}
+use Rattle.sim_laws.proofs.passes.RowSteps.{Taken, row_step, row_fits, as_row}
 use Rattle.sim_laws.proofs.passes.Sending.{none_leads, home_here}
 use Rattle.sim_laws.proofs.pipelines.Copies.{goes_so}
 use Rattle.sim_laws.proofs.pipelines.Pieces.{comes_then}
+use Rattle.sim_laws.proofs.pipelines.Tables.{DoesOps}
 use Rattle.sim_laws.specs.passes.Onward.{LeadsOn}
 use Rattle.sim_laws.specs.passes.Physical.{basis_of, IsWired}
 use Rattle.sim_laws.specs.passes.Sending.{sent_from, SendingOnLaw}
@@ -133,7 +134,7 @@ module _ (s : Chassis) (laid : IsLaidOut s) (numbers : GivenNumbers) (wired : Is
     abbrev Enters : Reached
     Enters = ComesTo s (λ rest t. rest t p) lists IsFirst
 
-    entered : (dp key zone : ℕ) → IsDatapathKey s.keys i.switch dp → IsPortKey s.keys i.switch i.name key → s.number (of_port i.name) ≡ Some zone → Does s (op.Set reg.Dp dp ∷ op.Set reg.InPort key ∷ op.Set reg.ZIn zone ∷ op.Go 8 ∷ []) zones copy Enters
+    entered : (dp key zone : ℕ) → IsDatapathKey s.keys i.switch dp → IsPortKey s.keys i.switch i.name key → s.number (of_port i.name) ≡ Some zone → DoesOps s (op.Set reg.Dp dp ∷ op.Set reg.InPort key ∷ op.Set reg.ZIn zone ∷ op.Go 8 ∷ []) zones copy Enters
     entered dp key zone on of is told done =
         let few = port_low s laid i.switch i.name key of in
         subst (λ l. Enters l zones (at_first dp key zone ∷ [])) done.effects
@@ -157,7 +158,7 @@ module _ (s : Chassis) (laid : IsLaidOut s) (numbers : GivenNumbers) (wired : Is
           hold_them = hold;
         }) (λ rest choices ends. refl))
 
-    on_0 : (f : Flow) → Taken s ENTRY_TABLE (EntryRow (basis_of s numbers)) wired.entry copy f → EntryRow (basis_of s numbers) f → Does s f.ops zones copy Enters
+    on_0 : (f : Flow) → Taken s ENTRY_TABLE (EntryRow (basis_of s numbers)) wired.entry copy f → EntryRow (basis_of s numbers) f → DoesOps s f.ops zones copy Enters
     on_0 f t (EntryRow.entry q port dp key zone theirs there e) =
         let is : at_of.Local i.name ≡ at_of.Local q = fits_entry copy.regs p q (row_fits s ENTRY_TABLE (EntryRow (basis_of s numbers)) wired.entry copy f (entry_row q dp key zone) t e) in
         let named : q ≡ i.name = sym (ap name_at is) in

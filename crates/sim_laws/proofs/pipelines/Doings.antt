@@ -30,10 +30,10 @@ use Rattle.switch_engine.specs.Zones.{ZoneLists, zone_number, with_zone}
 use Rattle.switch_engine.specs.declared.carried.Carried.{Carried}
 use Rattle.switch_engine.specs.declared.effect.Effect.{Effect}
 use Rattle.switch_engine.specs.declared.effect.Effect.TheVariants as effect
-use Rattle.sim_laws.proofs.pipelines.Tables.{Does}
 use Rattle.sim_laws.proofs.pipelines.WalkOn.{are_legal}
 use Rattle.sim_laws.specs.pipelines.Standing.{Chassis}
 use Rattle.sim_laws.specs.pipelines.WalkOn.{Reached}
+use Rattle.sim_laws.specs.routers.TranslatingWords.{Bring}
 
 -- the copy with a register set
 abbrev pub with_reg : Reg → ℕ → Carried → Carried
@@ -45,28 +45,28 @@ module _ (s : Chassis) (zones : ZoneLists) (copy : Carried) (So : Reached) where
 
   -- ---- to go on, to drop
 
-  pub go_does : (n : ℕ) → So [] zones (gone_on n copy ∷ []) → Does s (a.Go n ∷ []) zones copy So
+  pub go_does : (n : ℕ) → So [] zones (gone_on n copy ∷ []) → Bring s (a.Go n ∷ []) zones copy So
   unfolding lowered_op
   go_does n so told done = subst (λ l. So l zones (gone_on n copy ∷ [])) done.effects so
 
-  pub drop_does : (why : Cause) → So (drop_at copy.table why copy.regs ∷ []) zones [] → Does s (a.Drop why ∷ []) zones copy So
+  pub drop_does : (why : Cause) → So (drop_at copy.table why copy.regs ∷ []) zones [] → Bring s (a.Drop why ∷ []) zones copy So
   unfolding lowered_op
   drop_does why so told done = subst (λ l. So l zones []) done.effects so
 
   -- ---- to track, to judge
 
   pub find_does : (z : ZoneOf) (n : ℕ) → So [] zones (gone_on n (with_reg reg.Tracked 1 (looked_up (zone_number z copy.regs) zones copy)) ∷ [])
-      → Does s (a.Find z ∷ a.Set reg.Tracked 1 ∷ a.Go n ∷ []) zones copy So
+      → Bring s (a.Find z ∷ a.Set reg.Tracked 1 ∷ a.Go n ∷ []) zones copy So
   unfolding lowered_op
   find_does z n so told done = subst (λ l. So l zones (gone_on n (with_reg reg.Tracked 1 (looked_up (zone_number z copy.regs) zones copy)) ∷ [])) done.effects so
 
-  pub set_does : (r : Reg) (k n : ℕ) → So [] zones (gone_on n (with_reg r k copy) ∷ []) → Does s (a.Set r k ∷ a.Go n ∷ []) zones copy So
+  pub set_does : (r : Reg) (k n : ℕ) → So [] zones (gone_on n (with_reg r k copy) ∷ []) → Bring s (a.Set r k ∷ a.Go n ∷ []) zones copy So
   unfolding lowered_op
   set_does r k n so told done = subst (λ l. So l zones (gone_on n (with_reg r k copy) ∷ [])) done.effects so
 
   -- ---- to send
 
-  pub out_does : (q : List ℕ) (n : ℕ) → So [] zones (gone_on n (with_reg reg.OutPort (live_port_key s.keys q) copy) ∷ []) → Does s (a.SetOut q ∷ a.Go n ∷ []) zones copy So
+  pub out_does : (q : List ℕ) (n : ℕ) → So [] zones (gone_on n (with_reg reg.OutPort (live_port_key s.keys q) copy) ∷ []) → Bring s (a.SetOut q ∷ a.Go n ∷ []) zones copy So
   unfolding lowered_op
   out_does q n so told done = subst (λ l. So l zones (gone_on n (with_reg reg.OutPort (live_port_key s.keys q) copy) ∷ [])) done.effects so
 
@@ -74,7 +74,7 @@ module _ (s : Chassis) (zones : ZoneLists) (copy : Carried) (So : Reached) where
   abbrev pub answered : Mac → Ip4 → Carried
   answered mac ip = record copy { packet = arp_answered mac ip copy.packet; regs = set_reg reg.Loopback 1 (record copy.regs { out_port = copy.regs.in_port }) }
 
-  pub answer_does : (mac : Mac) (ip : Ip4) (n : ℕ) → So [] zones (gone_on n (answered mac ip) ∷ []) → Does s (a.ArpReply mac ip ∷ a.OutIsIn ∷ a.Set reg.Loopback 1 ∷ a.Go n ∷ []) zones copy So
+  pub answer_does : (mac : Mac) (ip : Ip4) (n : ℕ) → So [] zones (gone_on n (answered mac ip) ∷ []) → Bring s (a.ArpReply mac ip ∷ a.OutIsIn ∷ a.Set reg.Loopback 1 ∷ a.Go n ∷ []) zones copy So
   unfolding lowered_op
   answer_does mac ip n so told done = subst (λ l. So l zones (gone_on n (answered mac ip) ∷ [])) done.effects so
 
@@ -86,18 +86,18 @@ module _ (s : Chassis) (zones : ZoneLists) (copy : Carried) (So : Reached) where
   abbrev pub carried_by : ZoneLists → ℕ → Carried
   carried_by zs n = gone_on n (record copy { packet = found_translates copy.found zs copy.packet })
 
-  pub touch_does : (n : ℕ) → So [] (touched_zones zones) (carried_by (touched_zones zones) n ∷ []) → Does s (a.Touch ∷ a.Translate ∷ a.Go n ∷ []) zones copy So
+  pub touch_does : (n : ℕ) → So [] (touched_zones zones) (carried_by (touched_zones zones) n ∷ []) → Bring s (a.Touch ∷ a.Translate ∷ a.Go n ∷ []) zones copy So
   unfolding lowered_op
   touch_does n so told done = subst (λ l. So l (touched_zones zones) (carried_by (touched_zones zones) n ∷ [])) done.effects so
 
-  pub block_does : (why : Cause) → So (drop_at copy.table why copy.regs ∷ []) (found_changed (blocked_as true) copy.found zones) [] → Does s (a.Block ∷ a.Drop why ∷ []) zones copy So
+  pub block_does : (why : Cause) → So (drop_at copy.table why copy.regs ∷ []) (found_changed (blocked_as true) copy.found zones) [] → Bring s (a.Block ∷ a.Drop why ∷ []) zones copy So
   unfolding lowered_op
   block_does why so told done = subst (λ l. So l (found_changed (blocked_as true) copy.found zones) []) done.effects so
 
   abbrev pub unblocked_zones : ZoneLists
   unblocked_zones = touched_zones (found_changed (blocked_as false) copy.found zones)
 
-  pub unblock_does : (n : ℕ) → So [] unblocked_zones (carried_by unblocked_zones n ∷ []) → Does s (a.Unblock ∷ a.Touch ∷ a.Translate ∷ a.Go n ∷ []) zones copy So
+  pub unblock_does : (n : ℕ) → So [] unblocked_zones (carried_by unblocked_zones n ∷ []) → Bring s (a.Unblock ∷ a.Touch ∷ a.Translate ∷ a.Go n ∷ []) zones copy So
   unfolding lowered_op
   unblock_does n so told done = subst (λ l. So l unblocked_zones (carried_by unblocked_zones n ∷ [])) done.effects so
 
@@ -122,7 +122,7 @@ module _ (s : Chassis) (zones : ZoneLists) (copy : Carried) (So : Reached) where
   added_does k n told (Err why) so done = subst (λ l. So l zones []) done.effects so
 
   pub commit_does : (z : ZoneOf) (k : ℕ) (n : Newcomer) → newcomer (zone_number z copy.regs) zones copy.packet ≡ Some n → Begins k n (committed n.list n.tuple (reversed n.tuple) now)
-      → Does s (a.Commit z ∷ a.Go k ∷ []) zones copy So
+      → Bring s (a.Commit z ∷ a.Go k ∷ []) zones copy So
   unfolding lowered_op
   commit_does z k n is so told =
       subst (λ (o : Option Newcomer). Brings told (after_act (begins_as o (commits now) (doing (picks_in told))) (op.Go k ∷ []))) (sym is)
@@ -167,7 +167,7 @@ module _ (s : Chassis) (zones : ZoneLists) (copy : Carried) (So : Reached) where
   over_does k vip (x ∷ xs) n told so done = choice_does k vip x xs n told (picks_in told) so done
 
   pub balance_does : (z : ZoneOf) (vip : Backend) (bs : List Backend) (k : ℕ) (n : Newcomer) → newcomer (zone_number z copy.regs) zones copy.packet ≡ Some n → is_balanced n.tuple.protocol ≡ true
-      → Balances k vip n (filter (is_free_backend n.list n.tuple) bs) → Does s (a.Balance z vip bs ∷ a.Go k ∷ []) zones copy So
+      → Balances k vip n (filter (is_free_backend n.list n.tuple) bs) → Bring s (a.Balance z vip bs ∷ a.Go k ∷ []) zones copy So
   unfolding lowered_op
   balance_does z vip bs k n is tcp so told =
       subst (λ (o : Option Newcomer). Brings told (after_act (begins_as o (balances now vip bs) (doing (picks_in told))) (op.Go k ∷ []))) (sym is)

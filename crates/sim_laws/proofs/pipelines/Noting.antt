@@ -34,11 +34,11 @@ use Rattle.sim_laws.proofs.pipelines.Doings.{go_does, drop_does}
 use Rattle.sim_laws.proofs.pipelines.HeldLists.{list_is}
 use Rattle.sim_laws.proofs.pipelines.Registers.{or_one, or_stays, and_zero, and_stays, Notes, LeavesFlags}
 use Rattle.sim_laws.proofs.pipelines.Seeing.{IsSeen}
-use Rattle.sim_laws.proofs.pipelines.Tables.{Does}
 use Rattle.sim_laws.specs.pipelines.HeldLists.{IsGoodList}
 use Rattle.sim_laws.specs.pipelines.Pieces.{Piece, ComesTo}
 use Rattle.sim_laws.specs.pipelines.Standing.{Chassis, course_of, zone_of, StandsAt, Remembers, is_noted, IsStill}
 use Rattle.sim_laws.specs.pipelines.WalkOn.{Reached, Comes}
+use Rattle.sim_laws.specs.routers.TranslatingWords.{Bring}
 
 -- the copy stands before the table, and has noted what it may
 pub record Stands (s : Chassis) (way : Pipeline) (table : ℕ) (first : Carried) (c : Copy) (lists : Lists) (zones : ZoneLists) (copy : Carried) : Type 0 where
@@ -132,7 +132,7 @@ module _ (s : Chassis) (b : BeforeStage s) where
 
   -- what is known of the flows that are taken
   abbrev pub Step : List Action → Type 1
-  Step actions = (So : Reached) → Does s actions zones copy So → Comes (course_of s) zones (copy ∷ []) So
+  Step actions = (So : Reached) → Bring s actions zones copy So → Comes (course_of s) zones (copy ∷ []) So
 
   abbrev pub Came : {X : Type 0} → Piece X → (Lists → X → ZoneLists → Carried → Type 0) → Type 0
   Came piece Goes = Comes (course_of s) zones (copy ∷ []) (ComesTo s piece lists Goes)

@@ -55,12 +55,12 @@ use Rattle.sim_laws.proofs.pipelines.Pieces.{comes_same}
 use Rattle.sim_laws.proofs.pipelines.Seeing.{tuple_is}
 use Rattle.sim_laws.proofs.pipelines.StateBegins.{commit_step, balance_step}
 use Rattle.sim_laws.proofs.pipelines.StateCarried.{BeforeState}
-use Rattle.sim_laws.proofs.pipelines.Tables.{Does}
 use Rattle.sim_laws.proofs.pipelines.TrackJudge.{at_port}
 use Rattle.sim_laws.specs.pipelines.HeldLists.{IsTupleWithin}
 use Rattle.sim_laws.specs.pipelines.Pieces.{Piece, trail_with}
 use Rattle.sim_laws.specs.pipelines.Standing.{Chassis, net_of, course_of, IsLaidOut}
 use Rattle.sim_laws.specs.pipelines.WalkOn.{Comes}
+use Rattle.sim_laws.specs.routers.TranslatingWords.{Bring}
 
 -- ---- services of a switch
 
@@ -182,4 +182,4 @@ module _ (s : Chassis) (laid : IsLaidOut s) (first : Carried) (i : SwitchPort) (
     pub begins_in : StepOf (begin_in (net_of s) i.switch p ∷ go_on stage.SwitchStateIn ∷ []) → CameBy (λ rest u. finally (begin FromLport passage t u p) rest)
     begins_in step =
         by_service (service_for (net_of s) i.switch t) refl
-        (λ So. subst (λ (o : Option Tuple). Does s (begin_with (net_of s) (option_and_then (service_for (net_of s) i.switch) o) ∷ go_on stage.SwitchStateIn ∷ []) zones copy So → Comes (course_of s) zones (copy ∷ []) So) has (step So))
+        (λ So. subst (λ (o : Option Tuple). Bring s (begin_with (net_of s) (option_and_then (service_for (net_of s) i.switch) o) ∷ go_on stage.SwitchStateIn ∷ []) zones copy So → Comes (course_of s) zones (copy ∷ []) So) has (step So))

@@ -34,11 +34,11 @@ use Rattle.sim_laws.proofs.pipelines.Noting.{Stands, StandsBy, BeforeStage, own_
 use Rattle.sim_laws.proofs.pipelines.Pieces.{comes_same}
 use Rattle.sim_laws.proofs.pipelines.Seeing.{IsSeen, is_seen}
 use Rattle.sim_laws.proofs.pipelines.StateCarried.{BeforeState, reply_step, forward_step}
-use Rattle.sim_laws.proofs.pipelines.Tables.{Does}
 use Rattle.sim_laws.proofs.pipelines.TrackJudge.{at_port}
 use Rattle.sim_laws.specs.pipelines.Pieces.{Piece, trail_with, ComesTo}
 use Rattle.sim_laws.specs.pipelines.Standing.{Chassis, net_of, course_of, IsLaidOut, zone_of}
 use Rattle.sim_laws.specs.pipelines.WalkOn.{Comes}
+use Rattle.sim_laws.specs.routers.TranslatingWords.{Bring}
 
 -- where what is neither a connection's nor begins one is dropped
 cause_same : (b : Bool) (v : Verdict) → invalid_cause b v ≡ cond b (Some cause.Invalid) (denial v)
@@ -109,7 +109,7 @@ module _ (s : Chassis) (laid : IsLaidOut s) (stage : Stage) (way : Pipeline) (di
     by_seen begun (reply e) is step =
         let x = is_such (reply e) is in
         reply_step s laid in_state e x.0 x.1 (remembered (reply e) is) e.blocked
-        (λ So. subst (λ (b : Bool). Does s (reply_actions stage b) zones copy So → Comes (course_of s) zones (copy ∷ []) So) (ap is_seen_blocked is) (step So))
+        (λ So. subst (λ (b : Bool). Bring s (reply_actions stage b) zones copy So → Comes (course_of s) zones (copy ∷ []) So) (ap is_seen_blocked is) (step So))
     by_seen begun (forward e) is step =
         let x = is_such (forward e) is in
         forward_step s laid in_state e x.0 x.1 (remembered (forward e) is) (denial v) step

@@ -13,7 +13,7 @@ use Rattle.switch_engine.specs.Zones.{ZoneLists}
 use Rattle.switch_engine.specs.declared.actions.Turn.TheVariants.{Leaves}
 use Rattle.switch_engine.specs.declared.carried.Carried.{Carried}
 use Rattle.switch_engine.specs.declared.effect.Effect.{Effect}
-use Rattle.sim_laws.proofs.passes.RowSteps.{Does}
+use Rattle.sim_laws.proofs.pipelines.Tables.{DoesOps}
 use Rattle.sim_laws.specs.pipelines.Standing.{Chassis}
 use Rattle.sim_laws.specs.pipelines.WalkOn.{Reached}
 
@@ -31,8 +31,8 @@ module _ (s : Chassis) (zones : ZoneLists) (copy : Carried) (So : Reached) (to :
   abbrev DoesIf : Bool → Type 0
   DoesIf may = (told : List Effect) → IsDone s.by (outcome_if may told) told → So told (outcome_if may told).zones (going_on (outcome_if may told))
 
-  pub passes_does : nat_lt copy.passes MAX_HOPS ≡ true → So [] zones (patched beyond_regs copy ∷ []) → Does s (op.Patch to.dp to.in_port to.z_dnat to.z_snat ∷ []) zones copy So
+  pub passes_does : nat_lt copy.passes MAX_HOPS ≡ true → So [] zones (patched beyond_regs copy ∷ []) → DoesOps s (op.Patch to.dp to.in_port to.z_dnat to.z_snat ∷ []) zones copy So
   passes_does may so = subst DoesIf (sym may) (λ told done. subst (λ l. So l zones (patched beyond_regs copy ∷ [])) done.effects so)
 
-  pub stops_does : nat_lt copy.passes MAX_HOPS ≡ false → So (drop_at copy.table cause.HopLimit copy.regs ∷ []) zones [] → Does s (op.Patch to.dp to.in_port to.z_dnat to.z_snat ∷ []) zones copy So
+  pub stops_does : nat_lt copy.passes MAX_HOPS ≡ false → So (drop_at copy.table cause.HopLimit copy.regs ∷ []) zones [] → DoesOps s (op.Patch to.dp to.in_port to.z_dnat to.z_snat ∷ []) zones copy So
   stops_does may so = subst DoesIf (sym may) (λ told done. subst (λ l. So l zones []) done.effects so)

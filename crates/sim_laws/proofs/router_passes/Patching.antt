@@ -21,8 +21,9 @@ use Rattle.switch_engine.specs.Actions.{drop_at, patched}
 use Rattle.switch_engine.specs.Zones.{ZoneLists}
 use Rattle.switch_engine.specs.declared.carried.Carried.{Carried}
 use Rattle.sim_laws.proofs.passes.Leaving.{dp_within, to_within}
-use Rattle.sim_laws.proofs.passes.RowSteps.{Does, Taken, row_step, row_fits, as_row, drop_does}
+use Rattle.sim_laws.proofs.passes.RowSteps.{Taken, row_step, row_fits, as_row, drop_does}
 use Rattle.sim_laws.proofs.pipelines.Copies.{has_datapath_key, has_port_key, goes_so}
+use Rattle.sim_laws.proofs.pipelines.Tables.{DoesOps}
 use Rattle.sim_laws.specs.Naming.{IsNumbered}
 use Rattle.sim_laws.specs.passes.Physical.{basis_of}
 use Rattle.sim_laws.specs.pipelines.Pieces.{trail_with, has_ended, ComesTo}
@@ -81,7 +82,7 @@ module _ (s : Chassis) (numbers : GivenNumbers) (around : IsLaidAround s numbers
   -- ---- without a partner
 
   module _ (h : IsBeforePatch s by None p lists zones copy) where
-    none_64 : (f : Flow) → Taken s OUTPUT_TABLE Row around.wired.output copy f → Row f → Does s f.ops zones copy (Goes None)
+    none_64 : (f : Flow) → Taken s OUTPUT_TABLE Row around.wired.output copy f → Row f → DoesOps s f.ops zones copy (Goes None)
     none_64 f t (OutputRow.output r other d k theirs virtual e) =
         let fits = exit_of None h d k (row_fits s OUTPUT_TABLE Row around.wired.output copy f (output_row d r k) t e) in
         absurd (not_virtual s around.laid numbers by None copy.regs.dp copy.regs.out_port h.on h.to h.leads r other d k theirs fits.0 fits.1 virtual)
@@ -103,7 +104,7 @@ module _ (s : Chassis) (numbers : GivenNumbers) (around : IsLaidAround s numbers
     To = Goes (Some partner)
 
     abbrev Passes : Partner → Type 0
-    Passes other = Does s (patch_row 0 0 (beyond b other)).ops zones copy To
+    Passes other = DoesOps s (patch_row 0 0 (beyond b other)).ops zones copy To
 
     passes_so : (n : ℕ) → left ≡ n → Passes partner
     passes_so zero none =
@@ -130,7 +131,7 @@ module _ (s : Chassis) (numbers : GivenNumbers) (around : IsLaidAround s numbers
           few = omega (arith, few);
         }) (λ rest choices ends. ap (λ n. into_next n by (Some partner) rest (trail_with lists choices ends)) some))
 
-    some_64 : (f : Flow) → Taken s OUTPUT_TABLE Row around.wired.output copy f → Row f → Does s f.ops zones copy To
+    some_64 : (f : Flow) → Taken s OUTPUT_TABLE Row around.wired.output copy f → Row f → DoesOps s f.ops zones copy To
     some_64 f t (OutputRow.output r other d k theirs virtual e) =
         let fits = exit_of (Some partner) h d k (row_fits s OUTPUT_TABLE Row around.wired.output copy f (output_row d r k) t e) in
         absurd (not_virtual s around.laid numbers by (Some partner) copy.regs.dp copy.regs.out_port h.on h.to h.leads r other d k theirs fits.0 fits.1 virtual)

@@ -35,7 +35,8 @@ use Rattle.sim_laws.proofs.GroupNumbers.{no_group}
 use Rattle.sim_laws.proofs.Homes.{only_reached}
 use Rattle.sim_laws.proofs.passes.Leaving.{dp_within, to_within, from_within, loopback_is}
 use Rattle.sim_laws.proofs.passes.LiveNumbers.{port_low}
-use Rattle.sim_laws.proofs.passes.RowSteps.{Does, Taken, row_step, row_fits, as_row, go_does, leave_does, forgotten}
+use Rattle.sim_laws.proofs.passes.RowSteps.{Taken, row_step, row_fits, as_row, go_does, leave_does, forgotten}
+use Rattle.sim_laws.proofs.pipelines.Tables.{DoesOps}
 use Rattle.sim_laws.specs.passes.Physical.{basis_of}
 use Rattle.sim_laws.specs.pipelines.Standing.{Chassis, net_of, course_of}
 use Rattle.sim_laws.specs.pipelines.WalkOn.{Reached, Comes}
@@ -120,7 +121,7 @@ module _ (s : Chassis) (numbers : GivenNumbers) (around : IsLaidAround s numbers
       abbrev Stays : Reached
       Stays = IsNext zones (gone_on LOCAL_TABLE copy)
 
-      on_32 : (f : Flow) → Taken s REMOTE_TABLE Remote around.wired.remote copy f → Remote f → Does s f.ops zones copy Stays
+      on_32 : (f : Flow) → Taken s REMOTE_TABLE Remote around.wired.remote copy f → Remote f → DoesOps s f.ops zones copy Stays
       on_32 f t (RemoteRow.remote r other d k home theirs bound apart e) =
           let fits = exit_of REMOTE_TABLE lists zones copy h d k (row_fits s REMOTE_TABLE Remote around.wired.remote copy f (remote_row d k home) t e) in
           absurd (not_switch REMOTE_TABLE lists zones copy h r other d k theirs fits.0 fits.1)
@@ -142,7 +143,7 @@ module _ (s : Chassis) (numbers : GivenNumbers) (around : IsLaidAround s numbers
       abbrev Enters : Reached
       Enters = IsNext zones (gone_on LOOPBACK_TABLE copy)
 
-      on_33 : (f : Flow) → Taken s LOCAL_TABLE Local around.wired.home copy f → Local f → Does s f.ops zones copy Enters
+      on_33 : (f : Flow) → Taken s LOCAL_TABLE Local around.wired.home copy f → Local f → DoesOps s f.ops zones copy Enters
       on_33 f t (HomeRow.home r other d k zone theirs here e) =
           let fits = exit_of LOCAL_TABLE lists zones copy h d k (row_fits s LOCAL_TABLE Local around.wired.home copy f (home_row d k zone) t e) in
           absurd (not_switch LOCAL_TABLE lists zones copy h r other d k theirs fits.0 fits.1)
@@ -198,7 +199,7 @@ module _ (s : Chassis) (numbers : GivenNumbers) (around : IsLaidAround s numbers
           let is : bit_and copy.regs.flags.0 1 ≡ reg_number reg.Loopback copy.regs = loopback_is copy.regs in
           absurd (omega (arith, may, off, is))
 
-      on_34 : (f : Flow) → Taken s LOOPBACK_TABLE Return around.wired.back copy f → Return f → Does s f.ops zones copy Leaves
+      on_34 : (f : Flow) → Taken s LOOPBACK_TABLE Return around.wired.back copy f → Return f → DoesOps s f.ops zones copy Leaves
       on_34 f t (ReturnRow.back r other d k theirs e) = absurd (may_return d k (row_fits s LOOPBACK_TABLE Return around.wired.back copy f (return_row d k) t e))
       on_34 f t (ReturnRow.back_in r other d k theirs e) = absurd (may_return d k (row_fits s LOOPBACK_TABLE Return around.wired.back copy f (return_row d k) t e))
       on_34 f t (ReturnRow.leave e) = as_row s LOOPBACK_TABLE Return around.wired.back zones copy Leaves f leave_row e (leave_does s zones copy Leaves 40 (refl, refl, refl))

@@ -42,16 +42,14 @@ use Rattle.row_laws.specs.routers.TranslatingActions.{HasComeTo, router_actions_
 use Rattle.switch_engine.proofs.Wholes.{whole_between}
 use Rattle.switch_engine.specs.Actions.{set_flag, drop_at, gone_on}
 use Rattle.switch_engine.specs.Headers.{ttl_spent}
-use Rattle.switch_engine.specs.Outcome.{outcome, going_on, choosing, IsDone}
 use Rattle.switch_engine.specs.Zones.{ZoneLists}
 use Rattle.switch_engine.specs.declared.carried.Carried.{Carried}
-use Rattle.switch_engine.specs.declared.effect.Effect.{Effect}
 use Rattle.switch_engine.specs.declared.effect.Effect.TheVariants as effect
 use Rattle.sim_laws.proofs.pipelines.Copies.{has_datapath_key, has_port_key, goes_so}
 use Rattle.sim_laws.proofs.pipelines.Doings.{go_does, drop_does}
 use Rattle.sim_laws.proofs.pipelines.Pieces.{comes_same}
 use Rattle.sim_laws.proofs.pipelines.Registers.{or_one, or_stays, still_after}
-use Rattle.sim_laws.proofs.pipelines.Tables.{Does}
+use Rattle.sim_laws.proofs.pipelines.Tables.{DoesOps}
 use Rattle.sim_laws.proofs.pipelines.TargetKeys.{key_small}
 use Rattle.sim_laws.proofs.pipelines.WalkOn.{comes_step}
 use Rattle.sim_laws.proofs.router_stages.NextHops.{next_small, hop_is}
@@ -70,18 +68,13 @@ use Rattle.sim_laws.specs.pipelines.WalkOn.{Reached, Comes}
 use Rattle.sim_laws.proofs.translating_stages.AnyTables.{DoesAsTold}
 use Rattle.sim_laws.specs.routers.RouterStanding.{StandsInRouter, is_for_way}
 use Rattle.sim_laws.specs.routers.RouterWays.{Leaving, by_neighbour, by_hop, by_route, GoesOut}
+use Rattle.sim_laws.specs.routers.TranslatingWords.{Bring}
 
 -- ---- a step
 
--- these operations, done on a copy, bring it so far, whatever they tell
-abbrev DoesSo : Chassis → List FlowOp → ZoneLists → Carried → Reached → Type 0
-DoesSo s ops zones copy So =
-    (told : List Effect) → IsDone s.by (outcome s.entry s.scene.now ops (choosing copy zones told)) told
-    → So told (outcome s.entry s.scene.now ops (choosing copy zones told)).zones (going_on (outcome s.entry s.scene.now ops (choosing copy zones told)))
-
 -- what the network tells of the stage is what the flow does that is taken
 pub any_step : (s : Chassis) (here : Stage) → DoesAsTold s here → (c : RouterCopy) (lists : Lists) (zones : ZoneLists) (copy : Carried) → StandsInRouter s here (stage_table here) c lists zones copy
-    → (So : Reached) → Does s (router_actions_by here (net_of s) c) zones copy So → Comes (course_of s) zones (copy ∷ []) So
+    → (So : Reached) → Bring s (router_actions_by here (net_of s) c) zones copy So → Comes (course_of s) zones (copy ∷ []) So
 any_step s here law c lists zones copy h So does =
     let t = law c lists zones copy h in
     comes_step (course_of s) zones copy So
@@ -89,7 +82,7 @@ any_step s here law c lists zones copy h So does =
     (λ f best.
     let own : IsBest s.flows (stage_table here) copy.regs c.sight.packet f =
     subst (λ (q : Packet). IsBest s.flows (stage_table here) copy.regs q f) h.packet (subst (λ (k : ℕ). IsBest s.flows k copy.regs copy.packet f) h.in_table best) in
-    subst (λ (ops : List FlowOp). DoesSo s ops zones copy So) (sym (t.1 f own)) does)
+    subst (λ (ops : List FlowOp). DoesOps s ops zones copy So) (sym (t.1 f own)) does)
 
 -- true on the right changes nothing
 pub and_true : (b : Bool) → (b && true) ≡ b
@@ -114,7 +107,7 @@ module _ (s : Chassis) (laid : IsLaidOut s) (i : RouterPort) (first : Carried) w
     Lands piece copy = Comes (course_of s) zones (copy ∷ []) (ComesTo s piece lists Goes)
 
     abbrev pub Step : Carried → List Action → Type 1
-    Step copy actions = (So : Reached) → Does s actions zones copy So → Comes (course_of s) zones (copy ∷ []) So
+    Step copy actions = (So : Reached) → Bring s actions zones copy So → Comes (course_of s) zones (copy ∷ []) So
 
     pub took : (here : Stage) → DoesAsTold s here → (c : RouterCopy) (copy : Carried) → Before here c lists zones copy → Step copy (router_actions_by here net c)
     took here one c copy h So does = any_step s here one c lists zones copy h.stands So does

@@ -26,7 +26,6 @@ use Rattle.sim_laws.proofs.pipelines.Copies.{goes_so}
 use Rattle.sim_laws.proofs.pipelines.Doings.{go_does}
 use Rattle.sim_laws.proofs.pipelines.Pieces.{comes_same, comes_goes, comes_then}
 use Rattle.sim_laws.proofs.pipelines.Registers.{still_after}
-use Rattle.sim_laws.proofs.pipelines.Tables.{Does}
 use Rattle.sim_laws.proofs.router_lists.Snats.{seeks_so, snats}
 use Rattle.sim_laws.proofs.router_stages.RouterSteps.{IsNext, goes_then}
 use Rattle.sim_laws.proofs.translating_stages.AnyCopiesOn.{sought_in, sought_of, stands_on, stands_sought, at_exit}
@@ -39,7 +38,7 @@ use Rattle.sim_laws.specs.routers.TranslatingLists.{translating_snat}
 use Rattle.sim_laws.proofs.translating_stages.AnyTables.{DoesAsTold, do_so}
 use Rattle.sim_laws.specs.routers.RouterStanding.{StandsInRouter}
 use Rattle.sim_laws.specs.routers.RouterWays.{way_by_port, ComesToOutput, RouterEgressLaw}
-use Rattle.sim_laws.specs.routers.TranslatingWords.{seen_by, is_none_set, GoesOnAt, GoesOnSought}
+use Rattle.sim_laws.specs.routers.TranslatingWords.{seen_by, is_none_set, GoesOnAt, GoesOnSought, Bring}
 
 module _ (s : Chassis) (laid : IsLaidOut s) (find_law : DoesAsTold s stage.RouterFind) (snat_law : DoesAsTold s stage.RouterSnat) (c : RouterCopy) (out : RouterPort) (lists : Lists) (zones : ZoneLists) (copy : Carried)
     (to : c.out ≡ Some out) (h : StandsInRouter s stage.RouterFind (stage_table stage.RouterFind) c lists zones copy) where
@@ -56,7 +55,7 @@ module _ (s : Chassis) (laid : IsLaidOut s) (find_law : DoesAsTold s stage.Route
   Lands piece = Comes (course_of s) zones (copy ∷ []) (ComesTo s piece lists (ComesToOutput s copy))
 
   abbrev StepIf : Bool → Type 1
-  StepIf k = (So : Reached) → Does s (find_actions k) zones copy So → Comes (course_of s) zones (copy ∷ []) So
+  StepIf k = (So : Reached) → Bring s (find_actions k) zones copy So → Comes (course_of s) zones (copy ∷ []) So
 
   -- its source is translated
   module _ (on : is_translating (net_of s) c.port ≡ true) (ip4 : carries_ip4 q ≡ true) where
@@ -86,7 +85,7 @@ module _ (s : Chassis) (laid : IsLaidOut s) (find_law : DoesAsTold s stage.Route
             hold = k.hold;
           }) last (next ∷ [])
           (any_step s stage.RouterSnat snat_law (sought_in c r f) after last next stands So
-          (subst (λ (d : Name). Does s (snat_actions (snat_row (net_of s) d (src_of r)) f) last next So) way.on does))
+          (subst (λ (d : Name). Bring s (snat_actions (snat_row (net_of s) d (src_of r)) f) last next So) way.on does))
 
     translated_lands : StepIf true → Lands (out_piece true q)
     translated_lands step =
@@ -104,7 +103,7 @@ module _ (s : Chassis) (laid : IsLaidOut s) (find_law : DoesAsTold s stage.Route
       let stands : StandsInRouter s stage.RouterSnat 41 c lists zones next = stands_on s h stage.RouterSnat 41 (subst (IsAskedOf q) (sym none) tt) in
       goes_then s zones copy next So (step (IsNext zones next) (go_does s zones copy (IsNext zones next) 41 (refl, refl, refl)))
       (any_step s stage.RouterSnat snat_law c lists zones next stands So
-      (subst (λ (x : Finding). Does s (snat_actions (snat_row (net_of s) c.port.router (src_of q)) x) zones next So) (sym none)
+      (subst (λ (x : Finding). Bring s (snat_actions (snat_row (net_of s) c.port.router (src_of q)) x) zones next So) (sym none)
       (go_does s zones next So 64 (goes_so s (out_piece false q) lists lists (ComesToOutput s copy) zones q last (record {
         in_table = refl;
         packet = h.packet;
@@ -122,7 +121,7 @@ module _ (s : Chassis) (laid : IsLaidOut s) (find_law : DoesAsTold s stage.Route
   by_kind false tells none step = untranslated_lands none step
 
   pub exit_lands : (k : Bool) → k ≡ (not c.words.own && (is_translating (net_of s) c.port && carries_ip4 q)) → c.words.finding ≡ not_sought → Lands (out_piece k q)
-  exit_lands k tells none = by_kind k tells none (λ So. subst (λ (x : Bool). Does s (find_actions x) zones copy So → Comes (course_of s) zones (copy ∷ []) So) (sym tells) (any_step s stage.RouterFind find_law c lists zones copy h So))
+  exit_lands k tells none = by_kind k tells none (λ So. subst (λ (x : Bool). Bring s (find_actions x) zones copy So → Comes (course_of s) zones (copy ∷ []) So) (sym tells) (any_step s stage.RouterFind find_law c lists zones copy h So))
 
 pub any_egress : OfEachRouterStage AnyRouterTableLaw → RouterEgressLaw
 any_egress tables s laid c x lists zones copy to packet tells none h =

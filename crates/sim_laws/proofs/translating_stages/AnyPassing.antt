@@ -20,7 +20,6 @@ use Rattle.switch_engine.specs.Zones.{ZoneLists}
 use Rattle.switch_engine.specs.declared.carried.Carried.{Carried}
 use Rattle.sim_laws.proofs.pipelines.Pieces.{finally_then, comes_same, comes_then}
 use Rattle.sim_laws.proofs.pipelines.Registers.{still_after}
-use Rattle.sim_laws.proofs.pipelines.Tables.{Does}
 use Rattle.sim_laws.proofs.router_lists.Dnats.{dnats}
 use Rattle.sim_laws.proofs.router_lists.Undoing.{undoes}
 use Rattle.sim_laws.proofs.translating_stages.AnyCopiesOn.{sought_of, stands_sought, at_entry}
@@ -32,7 +31,7 @@ use Rattle.sim_laws.specs.pipelines.WalkOn.{Comes}
 use Rattle.sim_laws.specs.routers.TranslatingLists.{undoing, translating_dnat}
 use Rattle.sim_laws.proofs.translating_stages.AnyTables.{DoesAsTold}
 use Rattle.sim_laws.specs.routers.RouterWays.{Leaving, by_route}
-use Rattle.sim_laws.specs.routers.TranslatingWords.{HasSought, seen_by, is_none_set, GoesOnAt, GoesOnSought}
+use Rattle.sim_laws.specs.routers.TranslatingWords.{HasSought, seen_by, is_none_set, GoesOnAt, GoesOnSought, Bring}
 
 -- a packet that passes on, of which a list said this
 abbrev pub passing_on : RouterPort → Finding → Packet → RouterCopy
@@ -129,7 +128,7 @@ module _ (s : Chassis) (laid : IsLaidOut s) (i : RouterPort) (first : Carried) (
 
       pub passing_lands : Lands s laid i first lists zones (come_piece b) copy
       passing_lands =
-          by_kind b refl (λ So. subst (λ (k : Bool). Does s (undo_actions k) zones copy So → Comes (course_of s) zones (copy ∷ []) So) (both_true b is)
+          by_kind b refl (λ So. subst (λ (k : Bool). Bring s (undo_actions k) zones copy So → Comes (course_of s) zones (copy ∷ []) So) (both_true b is)
           (took s laid i first lists zones stage.RouterUndo undo_law (passing_on i not_sought p) copy h So))
         where
           both_true : (k : Bool) → is_translating (net_of s) i ≡ k → (is_translating (net_of s) i && carries_ip4 p) ≡ k
