@@ -1,5 +1,5 @@
 -- Rows that agree wherever a packet is: at a port of the switch or router or not, and whatever stands in its registers.
-use Rattle.std.specs.Prelude.{◌≡◌, ◌⊎◌, false, List, Some, IsSome}
+use Rattle.std.specs.Prelude.{◌≡◌, ◌⊎◌, List, Some, IsSome}
 use Rattle.ovn_base.specs.declared.name.Name.{Name}
 use Rattle.ovn_base.specs.names.ByName.{at}
 use Rattle.inet_packet.specs.declared.packet.Packet.{Packet}
@@ -10,8 +10,6 @@ use Rattle.match_cubes.specs.Points.{members_of}
 use Rattle.match_cubes.specs.Suited.{HasFieldsInRange}
 use Rattle.match_cubes.specs.declared.sets.Sets.{Sets}
 use Rattle.nb_records.specs.Network.{Network}
-use Rattle.nb_records.specs.Routers.{translates}
-use Rattle.nb_records.specs.declared.router.Router.{Router}
 use Rattle.nb_records.specs.declared.router.RouterPort.{RouterPort}
 use Rattle.nb_records.specs.declared.switch.SwitchPort.{SwitchPort}
 use Rattle.nb_rules.specs.Valid.{IsValid}
@@ -24,20 +22,12 @@ use Rattle.net_model.specs.Sights.{Sight, roster_of}
 use Rattle.row_laws.specs.BestRow.{HoldsRows}
 use Rattle.row_laws.specs.Numbers.{AreSameMembers}
 use Rattle.row_laws.specs.Rows.{IsBestRow}
-use Rattle.row_laws.specs.routers.RouterCopies.{router_roster}
 
 -- Two unbeaten rows of the stage that hold of one packet on the switch have equal actions, whatever the registers, the port of entry and the target.
 abbrev pub AgreeAnywhereLaw : Stage → Type 0
 AgreeAnywhereLaw s =
     (net : Network) → IsValid net → (switch : Name) → IsSome (at net.switches switch) → (regs : Regs) (sight : Sight) → HasFieldsInRange sight.packet
     → (row other : LFlow) → IsBestRow net (roster_of net) (stage_table s) switch regs sight row → IsBestRow net (roster_of net) (stage_table s) switch regs sight other
-    → row.actions ≡ other.actions
-
--- So it is on a router that translates nothing, whatever the port of entry and the one by which the packet leaves.
-abbrev pub RouterAgreeAnywhereLaw : Stage → Type 0
-RouterAgreeAnywhereLaw s =
-    (net : Network) → IsValid net → (d : Name) (router : Router) → at net.routers d ≡ Some router → translates net router ≡ false → (regs : Regs) (sight : Sight) → HasFieldsInRange sight.packet
-    → (row other : LFlow) → IsBestRow net (router_roster net) (stage_table s) d regs sight row → IsBestRow net (router_roster net) (stage_table s) d regs sight other
     → row.actions ≡ other.actions
 
 -- ---- in numbers

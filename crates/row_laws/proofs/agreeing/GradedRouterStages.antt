@@ -16,14 +16,12 @@ use Rattle.logical_flows.specs.declared.flow.LFlow.{LFlow}
 use Rattle.logical_flows.specs.declared.stage.Stage.{Stage}
 use Rattle.logical_flows.specs.declared.stage.Stage.TheVariants as stage
 use Rattle.stage_rows.specs.Facts.{own_ips}
-use Rattle.stage_rows.specs.RouterRows.{known_dnat, own_row}
+use Rattle.stage_rows.specs.RouterRows.{own_row}
 use Rattle.stage_rows.specs.Rows.{go_on}
 use Rattle.stage_rows.specs.Units.{router_port_rows, route_rows, neighbour_rows, router_rows}
 use Rattle.net_model.specs.Sights.{Sight}
 use Rattle.row_laws.proofs.agreeing.GradedStages.{Told, IsTold, AreTold, each}
-use Rattle.row_laws.proofs.agreeing.TwoRouterRows.{AreTakenThere, OwnRow, of_port, of_route, of_neighbour, of_router, law_by, same_priority, same_rank}
-use Rattle.row_laws.proofs.units.StageRows.{is_of_switches}
-use Rattle.row_laws.specs.AgreeAnywhere.{RouterAgreeAnywhereLaw}
+use Rattle.row_laws.proofs.agreeing.TwoRouterRows.{AreTakenThere, OwnRow, of_port, of_route, of_neighbour, of_router, same_priority, same_rank}
 
 -- the rows of all units of the stage are so
 pub record IsGraded (s : Stage) (f : Told) : Type 0 where
@@ -43,9 +41,6 @@ two_by_grade s f graded net d regs sight r q t first second = told net d r first
     told net d r (of_neighbour q port is on ip mac known m) = among_all (IsTold f) r (neighbour_rows s q ip mac) (graded.neighbours q ip mac) m
     told net d r (of_router x is m) = among_all (IsTold f) r (router_rows s _) (graded.routers _) m
 
-by_grade : (s : Stage) → is_of_switches s ≡ false → (f : Told) → IsGraded s f → RouterAgreeAnywhereLaw s
-by_grade s of f graded = law_by s of (two_by_grade s f graded)
-
 -- ---- r_admit, r_own
 
 abbrev pub at_admit : Told
@@ -59,9 +54,6 @@ admit_graded = record {
   routers = λ translating. (refl, tt);
 }
 
-pub router_admit_agrees : RouterAgreeAnywhereLaw stage.RouterAdmit
-router_admit_agrees = by_grade stage.RouterAdmit refl at_admit admit_graded
-
 abbrev pub at_own : Told
 at_own p k = cond (nat_eq p 100) (a.Drop cause.ForRouter ∷ []) (go_on stage.RouterOwn ∷ [])
 
@@ -73,10 +65,7 @@ own_graded = record {
   routers = λ translating. (refl, tt);
 }
 
-pub router_own_agrees : RouterAgreeAnywhereLaw stage.RouterOwn
-router_own_agrees = by_grade stage.RouterOwn refl at_own own_graded
-
--- ---- r_undo, r_dnat, r_find, r_snat
+-- ---- r_undo, r_find
 
 abbrev pub at_undo : Told
 at_undo p k = cond (nat_eq p 100) (a.Undo ∷ a.Find zone.Dnat ∷ go_on stage.RouterUndo ∷ []) (go_on stage.RouterUndo ∷ [])
@@ -93,20 +82,6 @@ undo_graded = record {
   routers = undo_rows;
 }
 
-pub router_undo_agrees : RouterAgreeAnywhereLaw stage.RouterUndo
-router_undo_agrees = by_grade stage.RouterUndo refl at_undo undo_graded
-
-abbrev at_dnat : Told
-at_dnat p k = cond (nat_eq p 100) known_dnat (go_on stage.RouterDnat ∷ [])
-
-pub router_dnat_agrees : RouterAgreeAnywhereLaw stage.RouterDnat
-router_dnat_agrees = by_grade stage.RouterDnat refl at_dnat (record {
-  ports = λ net q. tt;
-  routes = λ net x. tt;
-  neighbours = λ q ip mac. tt;
-  routers = λ translating. (refl, (refl, (refl, tt)));
-})
-
 abbrev pub at_find : Told
 at_find p k = cond (nat_eq p 100) (a.Find zone.Snat ∷ go_on stage.RouterFind ∷ []) (go_on stage.RouterFind ∷ [])
 
@@ -121,17 +96,3 @@ find_graded = record {
   neighbours = λ q ip mac. tt;
   routers = find_rows;
 }
-
-pub router_find_agrees : RouterAgreeAnywhereLaw stage.RouterFind
-router_find_agrees = by_grade stage.RouterFind refl at_find find_graded
-
-abbrev at_snat : Told
-at_snat p k = cond (nat_eq p 200) (a.Touch ∷ a.Translate ∷ go_on stage.RouterSnat ∷ []) (go_on stage.RouterSnat ∷ [])
-
-pub router_snat_agrees : RouterAgreeAnywhereLaw stage.RouterSnat
-router_snat_agrees = by_grade stage.RouterSnat refl at_snat (record {
-  ports = λ net q. tt;
-  routes = λ net x. tt;
-  neighbours = λ q ip mac. tt;
-  routers = λ translating. (refl, (refl, tt));
-})

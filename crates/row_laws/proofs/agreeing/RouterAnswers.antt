@@ -22,12 +22,11 @@ use Rattle.stage_rows.specs.Rows.{in_is, asks_for, go_on}
 use Rattle.stage_rows.specs.SwitchRows.{answer_actions}
 use Rattle.net_model.specs.Headers.{asked_ip}
 use Rattle.net_model.specs.Sights.{Sight, holds_at, is_live_one}
-use Rattle.row_laws.proofs.agreeing.TwoRouterRows.{AreTakenThere, OwnRow, of_port, of_route, of_neighbour, of_router, law_by, same_priority, terms_hold, one_port}
+use Rattle.row_laws.proofs.agreeing.TwoRouterRows.{AreTakenThere, OwnRow, of_port, of_route, of_neighbour, of_router, same_priority, terms_hold, one_port}
 use Rattle.row_laws.proofs.records.AnsweredIps.{answered_ok}
 use Rattle.row_laws.proofs.routers.TakenAtRouter.{own_place}
 use Rattle.row_laws.proofs.terms.PacketTerms.{asks_from}
 use Rattle.row_laws.proofs.terms.Terms.{says_in}
-use Rattle.row_laws.specs.AgreeAnywhere.{RouterAgreeAnywhereLaw}
 use Rattle.row_laws.specs.Rows.{RowHolds}
 use Rattle.row_laws.specs.routers.RouterCopies.{router_roster}
 
@@ -92,6 +91,3 @@ module _ (net : Network) (d : Name) (regs : Regs) (sight : Sight) (r q : LFlow) 
 
   pub taken_in : OwnRow net stage.RouterInput d r → OwnRow net stage.RouterInput d q → r.actions ≡ q.actions
   taken_in first second = agree (kind r t.first.holds_here first) (kind q t.second.holds_here second)
-
-pub router_input_agrees : RouterAgreeAnywhereLaw stage.RouterInput
-router_input_agrees = law_by stage.RouterInput refl taken_in

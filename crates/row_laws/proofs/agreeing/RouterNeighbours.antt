@@ -1,6 +1,6 @@
 -- r_neighbour: the port of exit and the next hop have one Ethernet address.
 use Rattle.std.specs.Prelude.{◌≡◌, ◌∷◌, [], true, Some}
-use Rattle.std.proofs.Common.{refl, sym, ap, ◌∙◌, arith, subst}
+use Rattle.std.proofs.Common.{sym, ap, ◌∙◌, arith, subst}
 use Rattle.std.proofs.lemmas.Option.{same_Some}
 use Rattle.ovn_base.specs.declared.address.Ip4.{Ip4}
 use Rattle.ovn_base.specs.declared.address.Mac.{Mac}
@@ -20,11 +20,10 @@ use Rattle.stage_rows.specs.RouterRows.{neighbour_row}
 use Rattle.stage_rows.specs.Rows.{reg_is, drop_row, deliver}
 use Rattle.flow_lowering.specs.Registers.{reg_number}
 use Rattle.net_model.specs.Sights.{Sight, holds_at, is_live_one}
-use Rattle.row_laws.proofs.agreeing.TwoRouterRows.{AreTakenThere, OwnRow, of_port, of_route, of_neighbour, of_router, law_by, same_priority, one_port}
+use Rattle.row_laws.proofs.agreeing.TwoRouterRows.{AreTakenThere, OwnRow, of_port, of_route, of_neighbour, of_router, same_priority, one_port}
 use Rattle.row_laws.proofs.routers.TakenAtRouter.{port_named, own_place}
 use Rattle.row_laws.proofs.terms.Terms.{says_out}
 use Rattle.row_laws.proofs.units.TakenRow.{among_one}
-use Rattle.row_laws.specs.AgreeAnywhere.{RouterAgreeAnywhereLaw}
 use Rattle.row_laws.specs.Rows.{RowHolds}
 use Rattle.row_laws.specs.routers.RouterCopies.{router_roster}
 
@@ -81,6 +80,3 @@ module _ (net : Network) (d : Name) (regs : Regs) (sight : Sight) (r q : LFlow) 
 
   pub sent : OwnRow net stage.RouterNeighbour d r → OwnRow net stage.RouterNeighbour d q → r.actions ≡ q.actions
   sent first second = agree (kind r t.first.holds_here first) (kind q t.second.holds_here second)
-
-pub router_neighbour_agrees : RouterAgreeAnywhereLaw stage.RouterNeighbour
-router_neighbour_agrees = law_by stage.RouterNeighbour refl sent

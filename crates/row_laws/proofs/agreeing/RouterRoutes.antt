@@ -21,14 +21,13 @@ use Rattle.stage_rows.specs.RouterRows.{network_row, route_row}
 use Rattle.stage_rows.specs.Rows.{ip_in, match_row, drop_row}
 use Rattle.net_model.specs.Headers.{carries_ip4, dst_of}
 use Rattle.net_model.specs.Sights.{Sight, holds_at}
-use Rattle.row_laws.proofs.agreeing.TwoRouterRows.{AreTakenThere, OwnRow, of_port, of_route, of_neighbour, of_router, law_by, same_priority, terms_hold}
+use Rattle.row_laws.proofs.agreeing.TwoRouterRows.{AreTakenThere, OwnRow, of_port, of_route, of_neighbour, of_router, same_priority, terms_hold}
 use Rattle.row_laws.proofs.records.OnePrefix.{network_prefix, route_prefix}
 use Rattle.row_laws.proofs.routers.BestWays.{IsWay, by_network, by_a_route, network_way, weight, same_weight, same_way}
 use Rattle.row_laws.proofs.routers.TakenAtRouter.{own_place}
 use Rattle.row_laws.proofs.terms.PacketTerms.{says_dst_in}
 use Rattle.row_laws.proofs.units.RowUnits.{in_some}
 use Rattle.row_laws.proofs.units.TakenRow.{among_one}
-use Rattle.row_laws.specs.AgreeAnywhere.{RouterAgreeAnywhereLaw}
 use Rattle.row_laws.specs.Rows.{RowHolds}
 use Rattle.row_laws.specs.routers.RouterActions.{route_actions}
 use Rattle.row_laws.specs.routers.RouterCopies.{router_roster}
@@ -81,6 +80,3 @@ module _ (net : Network) (d : Name) (regs : Regs) (sight : Sight) (r q : LFlow) 
 
   pub routed : OwnRow net stage.RouterRoute d r → OwnRow net stage.RouterRoute d q → r.actions ≡ q.actions
   routed first second = agree (kind r t.first.holds_here first) (kind q t.second.holds_here second)
-
-pub router_route_agrees : RouterAgreeAnywhereLaw stage.RouterRoute
-router_route_agrees = law_by stage.RouterRoute refl routed
