@@ -6,7 +6,7 @@ use Rattle.chassis_sim.specs.State as sim
 use Rattle.chassis_sim.specs.State.{numbered}
 use Rattle.chassis_sim.specs.declared.out.SimOut.{SimOut}
 use Rattle.conn_zones.specs.Zoning.{Zoned}
-use Rattle.switch_engine.specs.Outcome.{any_legal}
+use Rattle.switch_engine.specs.Outcome.{of_program}
 use Rattle.chassis_sim.specs.Passing as passing
 use Rattle.net_model.specs.declared.crossing.Crossing.{Crossing}
 use Rattle.world_core.proofs.WaitingNames.{own_number}
@@ -28,7 +28,7 @@ use Rattle.physical_flows.proofs.FlowSearch.{is_some_of}
 pub record AreDraining (old : WorldView) (before : SimOut) (left : ℕ) (now : WorldView) (told : SimOut) : Type 0 where
   pub own : List End
   pub all : told.effects ≡ before.effects ++ effects_of old.state.keys old.state.next own
-  pub drained : (after : SimOut) (s : sim.SimState) → AreDrained old.state.clock left now.sim told after s → AreDrained old.state.clock most_arrivals old.sim before after s
+  pub drained : (after : SimOut) (s : sim.SimState) → AreDrained of_program old.state.clock left now.sim told after s → AreDrained of_program old.state.clock most_arrivals old.sim before after s
   pub moves : (ends : List End) (m : State) → AreMoved left now.state ends m → AreMoved most_arrivals old.state (own ++ ends) m
   pub still : now.state ≡ state_with old.state now.state.lists now.state.waiting (old.state.next + length (crossings_in own))
   pub under_way : IsUnderWay now.state now.zones (sent_among told.effects)
@@ -85,7 +85,7 @@ drain_goes_on old before left now next told more n x behind d first p =
         first = d.held.waiting ∙ ap (λ ws. map (frame_of_crossing now.state.keys) ws) first;
         between = more;
         mid = next.sim;
-        arrives = subst (λ t. passing.IsArrived any_legal now.sim n false t told more next.sim) clock p.passed;
+        arrives = subst (λ t. passing.IsArrived of_program now.sim n false t told more next.sim) clock p.passed;
         others = rest;
       }));
       moves = λ ends m rest. subst (λ l. AreMoved most_arrivals old.state l m) (sym (append_assoc d.own p.ends ends)) (d.moves (p.ends ++ ends) m (inr (record {
@@ -111,7 +111,7 @@ drain_goes_on old before left now next told more n x behind d first p =
         let both : length (crossings_in (es ++ fs)) ≡ length (crossings_in es) + length (crossings_in fs) = ap length (crossings_append es fs) ∙ length_append (crossings_in es) (crossings_in fs) in
         omega (arith, is, both)
 
-over_sim : (now left : ℕ) (s : sim.SimState) (told : SimOut) → (left ≡ 0) ⊎ (s.waiting ≡ []) → AreDrained now left s told told s
+over_sim : (now left : ℕ) (s : sim.SimState) (told : SimOut) → (left ≡ 0) ⊎ (s.waiting ≡ []) → AreDrained of_program now left s told told s
 over_sim now zero s told e = (refl, refl)
 over_sim now (suc left) s told (inl z) = absurd (omega (arith, z))
 over_sim now (suc left) s told (inr none) = inl (none, refl, refl)

@@ -2,6 +2,7 @@
 use Rattle.std.specs.Prelude.{◌≡◌, ℕ, true, false, [], refl}
 use Rattle.chassis_sim.specs.State as sim
 use Rattle.chassis_sim.specs.declared.out.SimOut.{SimOut}
+use Rattle.switch_engine.specs.Outcome.{of_program}
 use Rattle.world_core.specs.EventPasses.{Passes}
 use Rattle.world_setup.specs.TurnEvents.{event_of_turn}
 use Rattle.world_core.specs.PacketEvents.{event_of_packets}
@@ -25,7 +26,7 @@ packets_move packets.Drain = refl
 packets_move (packets.Packet port frame) = refl
 
 -- a turn has no packet
-pub no_walks : (now : ℕ) (s : sim.SimState) (event : TurnEvent) (out : SimOut) (new : sim.SimState) → out.walks ≡ [] → Passes now s (event_of_turn event) out new
+pub no_walks : (now : ℕ) (s : sim.SimState) (event : TurnEvent) (out : SimOut) (new : sim.SimState) → out.walks ≡ [] → Passes of_program now s (event_of_turn event) out new
 no_walks now s (turn.Edit ops) out new none = none
 no_walks now s (turn.Bind p c) out new none = none
 no_walks now s (turn.AddChassis c) out new none = none

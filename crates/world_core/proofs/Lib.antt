@@ -13,6 +13,7 @@ pub mod HeaderParts
 pub mod KeptLists
 pub mod NumberedNames
 pub mod OneStep
+pub mod OwnPicks
 pub mod PacketEvents
 pub mod PacketState
 pub mod Refusal

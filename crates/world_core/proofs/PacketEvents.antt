@@ -24,7 +24,7 @@ use Rattle.sim_laws.specs.Effects.{effects_of}
 use Rattle.sim_laws.specs.Passing.{most_arrivals, AreDrained, no_out}
 use Rattle.sim_laws.specs.journeys.Refining.{without_crossing}
 use Rattle.sim_laws.specs.journeys.UnderWay.{IsUnderWay}
-use Rattle.switch_engine.specs.Outcome.{any_legal}
+use Rattle.switch_engine.specs.Outcome.{of_program}
 use Rattle.switch_engine.specs.Zones.{ZoneLists, zone_at}
 use Rattle.switch_engine.specs.declared.effect.NetEffect.{NetEffect}
 use Rattle.switch_engine.specs.declared.walk.Walk.{Walk}
@@ -45,7 +45,7 @@ use Rattle.world_setup.specs.Zones.{Relists, Rezones}
 
 -- a state that is left by packets is counted: with it the world is one that events can leave
 pub finish_done : (old : WorldView) (event : Event) (effects : List NetEffect) (walks : List Walk) (mid new : WorldView) (more count : ℕ) → more ≤ 2 ^ 64 → IsTaken old → event_count old.state < 2 ^ 42 → mid.state ≡ state_with old.state mid.state.lists mid.state.waiting mid.state.next
-    → Does old.state event effects mid.state → Passes old.state.clock old.sim event (record { effects = effects; walks = walks }) mid.sim → IsUnderWay mid.state mid.zones more → AreHeld mid.state mid.zones mid.sim
+    → Does old.state event effects mid.state → Passes of_program old.state.clock old.sim event (record { effects = effects; walks = walks }) mid.sim → IsUnderWay mid.state mid.zones more → AreHeld mid.state mid.zones mid.sim
     → mid ≡ record old { state = mid.state; sim = mid.sim } → new ≡ record mid { state = finished mid.state } → Rezones event old.zones old.zones → (moves_packets event ≡ false → Relists event old.state.clock old.zones old.zones old.sim mid.sim) → count ≡ matched walks → IsDone old event effects walks count new
 finish_done old event effects walks mid new more count few t room still does passes u held rest then zones lists counts =
     let same : event_count mid.state ≡ event_count old.state = ap event_count still in
@@ -56,7 +56,7 @@ finish_done old event effects walks mid new more count few t room still does pas
     let clock : mid.state.clock ≤ 1000000 * event_count mid.state = subst (λ (m : State). m.clock ≤ 1000000 * event_count m) (sym still) t.consistent.clock in
     record {
       step = record { mid = mid.state; does = does; state = ap (λ (w : WorldView). w.state) then };
-      passed = subst (λ s. Passes old.state.clock old.sim event (record { effects = effects; walks = walks }) s) (sym (ap (λ (w : WorldView). w.sim) then)) passes;
+      passed = subst (λ s. Passes of_program old.state.clock old.sim event (record { effects = effects; walks = walks }) s) (sym (ap (λ (w : WorldView). w.sim) then)) passes;
       counts = counts;
       zones = subst (λ z. Rezones event old.zones z) (sym (ap (λ (w : WorldView). w.zones) then ∙ zoned)) zones;
       lists = λ none. subst (λ (w : WorldView). Relists event old.state.clock old.zones w.zones old.sim w.sim) (sym then) (subst (λ z. Relists event old.state.clock old.zones z old.sim mid.sim) (sym zoned) (lists none));
@@ -94,7 +94,7 @@ entry_done old p frame packet before after mid new count is t room none h then f
       frame_is = is.frame_is;
       moves = record { ends = h.ends; travels = travels m (enter_one p packet) h.ends mid.state h.moved; effects_are = h.effects ∙ ap (λ l. l ++ effects_of m.keys m.next h.ends) none.effects };
     })
-    (record { packet = packet; whole = is.whole; frame_is = is.frame_is; injected = subst (λ b. passing.IsInjected any_legal old.sim p m.clock packet b after mid.sim) (nothing before none) h.passed })
+    (record { packet = packet; whole = is.whole; frame_is = is.frame_is; injected = subst (λ b. passing.IsInjected of_program old.sim p m.clock packet b after mid.sim) (nothing before none) h.passed })
     h.under_way h.held h.rest then refl moves_some counts
 
 pub arrival_done : (old : WorldView) (n : ℕ) (keep : Bool) (before after : SimOut) (mid new : WorldView) (count : ℕ) → IsTaken old → event_count old.state < 2 ^ 42 → IsNothing before → HasArrived old n keep before after mid
@@ -104,8 +104,8 @@ arrival_done old n keep before after mid new count t room none h then fits count
     moves : (k : Bool) → (a : HasArrived old n k before after mid) → Moves old.state (arrive_one n k) after.effects mid.state
     moves k a = record { ends = a.ends; travels = travels old.state (arrive_one n k) a.ends mid.state a.moved; effects_are = a.effects ∙ ap (λ l. l ++ effects_of old.state.keys old.state.next a.ends) none.effects }
 
-    passed : (k : Bool) → (a : HasArrived old n k before after mid) → passing.IsArrived any_legal old.sim n k old.state.clock no_out after mid.sim
-    passed k a = subst (λ b. passing.IsArrived any_legal old.sim n k old.state.clock b after mid.sim) (nothing before none) a.passed
+    passed : (k : Bool) → (a : HasArrived old n k before after mid) → passing.IsArrived of_program old.sim n k old.state.clock no_out after mid.sim
+    passed k a = subst (λ b. passing.IsArrived of_program old.sim n k old.state.clock b after mid.sim) (nothing before none) a.passed
 
     by : (k : Bool) → HasArrived old n k before after mid → IsDone old (cond k (event_of.Repeat n) (event_of.Deliver n)) after.effects after.walks count new
     by true a = finish_done old (event_of.Repeat n) after.effects after.walks mid new (sent_among after.effects) count (few_sent after.effects fits) t room (next_aside old.state mid.state _ a.still) (moves true a) (passed true a) a.under_way a.held a.rest then refl moves_some counts
@@ -117,7 +117,7 @@ drain_done old before after mid new count t room none h then fits counts =
     let m = old.state in
     finish_done old event_of.Drain after.effects after.walks mid new (sent_among after.effects) count (few_sent after.effects fits) t room (next_aside m mid.state _ h.still)
     (record { ends = h.ends; travels = travels m arrive_all h.ends mid.state (all_drain m h.ends mid.state h.moved); effects_are = h.effects ∙ ap (λ l. l ++ effects_of m.keys m.next h.ends) none.effects })
-    (subst (λ b. AreDrained m.clock most_arrivals old.sim b after mid.sim) (nothing before none) h.passed) h.under_way h.held h.rest then refl moves_some counts
+    (subst (λ b. AreDrained of_program m.clock most_arrivals old.sim b after mid.sim) (nothing before none) h.passed) h.under_way h.held h.rest then refl moves_some counts
 
 pub packet_done : (old : WorldView) (p : Name) (frame : List ℕ) (packet : inet.Packet) (before between after : SimOut) (first mid new : WorldView) (count : ℕ) → IsPacketOf packet frame → IsTaken old → event_count old.state < 2 ^ 42 → IsNothing before → HasEntered old p packet before between first
     → AreGone most_arrivals first between after mid → new ≡ record mid { state = finished mid.state } → length after.effects < 2 ^ 64 → count ≡ matched after.walks → IsDone old (event_of.Packet p frame) after.effects after.walks count new
@@ -143,8 +143,8 @@ packet_done old p frame packet before between after first mid new count is t roo
     (record {
       between = between;
       mid = first.sim;
-      goes_in = record { packet = packet; whole = is.whole; frame_is = is.frame_is; injected = subst (λ b. passing.IsInjected any_legal old.sim p m.clock packet b between first.sim) (nothing before none) e.passed };
-      drained = subst (λ now. AreDrained now most_arrivals first.sim between after mid.sim) clock d.passed;
+      goes_in = record { packet = packet; whole = is.whole; frame_is = is.frame_is; injected = subst (λ b. passing.IsInjected of_program old.sim p m.clock packet b between first.sim) (nothing before none) e.passed };
+      drained = subst (λ now. AreDrained of_program now most_arrivals first.sim between after mid.sim) clock d.passed;
     })
     d.under_way d.held rest then refl moves_some counts
 

@@ -29,7 +29,7 @@ use Rattle.sim_laws.specs.journeys.Moves.{MovesFor}
 use Rattle.sim_laws.specs.journeys.Refining.{ArrivalJourneyLaw, EntryJourneyLaw, IsJourney, waiting_on}
 use Rattle.sim_laws.specs.journeys.SeenLists.{lists_seen}
 use Rattle.sim_laws.specs.journeys.UnderWay.{IsUnderWay}
-use Rattle.switch_engine.specs.Outcome.{any_legal}
+use Rattle.switch_engine.specs.Outcome.{of_program}
 use Rattle.switch_engine.specs.declared.effect.NetEffect.{NetEffect}
 use Rattle.switch_engine.specs.declared.effect.NetEffect.TheVariants as net
 use Rattle.world_core.specs.Packets.{CanBeKept, HasArrived, HasEntered, HasPassed, sent_among, state_with}
@@ -144,19 +144,19 @@ module _ (old : WorldView) (more : ℕ) (s : sim.SimState) (before after : SimOu
 -- ---- a packet that goes in
 
 pub entry_goes_on : EntryJourneyLaw → (old : WorldView) (p : Name) (packet : inet.Packet) (before after : SimOut) (s : sim.SimState) (effects : List NetEffect) → IsUnderWay old.state old.zones (sent_among before.effects) → AreHeld old.state old.zones old.sim
-    → IsWhole packet → passing.IsInjected any_legal old.sim p old.state.clock packet before after s → effects ≡ drop (length before.effects) after.effects → GoesOn old old.state.waiting s effects (λ new. HasEntered old p packet before after new)
+    → IsWhole packet → passing.IsInjected of_program old.sim p old.state.clock packet before after s → effects ≡ drop (length before.effects) after.effects → GoesOn old old.state.waiting s effects (λ new. HasEntered old p packet before after new)
 entry_goes_on law old p packet before after s effects u h whole injected are =
     let m = old.state in
     let sent = sent_among before.effects in
-    let entry = law m old.zones (sets_of m.config.net) sent old.sim s any_legal p packet before after u h whole injected in
-    goes_on old (sent + entry.sent) s before after (enter_one p packet) entry.journey entry.sent entry.count refl m.waiting effects entry.waiting entry.may are (λ s b a t. passing.IsInjected any_legal s p m.clock packet b a t) injected
+    let entry = law m old.zones (sets_of m.config.net) sent old.sim s of_program p packet before after u h whole injected in
+    goes_on old (sent + entry.sent) s before after (enter_one p packet) entry.journey entry.sent entry.count refl m.waiting effects entry.waiting entry.may are (λ s b a t. passing.IsInjected of_program s p m.clock packet b a t) injected
 
 -- ---- a frame that arrives
 
 pub arrival_goes_on : ArrivalJourneyLaw → (old : WorldView) (n : ℕ) (keep : Bool) (before after : SimOut) (s : sim.SimState) (effects : List NetEffect) → IsUnderWay old.state old.zones (sent_among before.effects) → AreHeld old.state old.zones old.sim
-    → passing.IsArrived any_legal old.sim n keep old.state.clock before after s → effects ≡ drop (length before.effects) after.effects → GoesOn old (waiting_on keep n old.state.waiting) s effects (λ new. HasArrived old n keep before after new)
+    → passing.IsArrived of_program old.sim n keep old.state.clock before after s → effects ≡ drop (length before.effects) after.effects → GoesOn old (waiting_on keep n old.state.waiting) s effects (λ new. HasArrived old n keep before after new)
 arrival_goes_on law old n keep before after s effects u h arrives are =
     let m = old.state in
     let sent = sent_among before.effects in
-    let came = law m old.zones (sets_of m.config.net) sent old.sim s any_legal n keep before after u h arrives in
-    goes_on old (sent + came.sent) s before after (arrive_one n keep) came.journey came.sent came.count refl (waiting_on keep n m.waiting) effects came.waiting came.may are (λ s b a t. passing.IsArrived any_legal s n keep m.clock b a t) arrives
+    let came = law m old.zones (sets_of m.config.net) sent old.sim s of_program n keep before after u h arrives in
+    goes_on old (sent + came.sent) s before after (arrive_one n keep) came.journey came.sent came.count refl (waiting_on keep n m.waiting) effects came.waiting came.may are (λ s b a t. passing.IsArrived of_program s n keep m.clock b a t) arrives

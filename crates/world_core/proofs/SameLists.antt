@@ -23,10 +23,11 @@ use Rattle.sim_laws.proofs.journey_laws.Finishing.{begins}
 use Rattle.sim_laws.specs.Passing.{most_arrivals, no_out, GoesIn}
 use Rattle.sim_laws.specs.journeys.Counts.{ArrivalCountLaw, AreAlike, BothHold, CountsAlike, DrainCountLaw, EntryCountLaw, HaveSameZones, ThroughCountLaw, choices_told, matched_on}
 use Rattle.sim_laws.specs.journeys.UnderWay.{IsUnderWay}
-use Rattle.switch_engine.specs.Outcome.{any_legal}
+use Rattle.switch_engine.specs.Outcome.{any_legal, of_program}
 use Rattle.switch_engine.specs.Zones.{ZoneLists, zone_at}
 use Rattle.switch_engine.specs.declared.effect.NetEffect.{NetEffect}
 use Rattle.switch_engine.specs.declared.walk.Walk.{Walk}
+use Rattle.world_core.proofs.OwnPicks.{passes_legally}
 use Rattle.world_core.specs.EventPasses.{Passes}
 use Rattle.world_core.specs.Outcome.{IsAccepted, matched, moves_packets}
 use Rattle.world_core.specs.WorldView.{AreHeld, IsSound, WorldView}
@@ -50,7 +51,7 @@ matched_is walks = matched_from 0 walks ∙ none_before (matched_on walks)
 -- ---- events without packets
 
 -- no flow is matched
-none_matched : (event : Event) (now : ℕ) (s : SimState) (out : SimOut) (new : SimState) → moves_packets event ≡ false → Passes now s event out new → out.walks ≡ []
+none_matched : (event : Event) (now : ℕ) (s : SimState) (out : SimOut) (new : SimState) → moves_packets event ≡ false → Passes of_program now s event out new → out.walks ≡ []
 none_matched (Edit ops) now s out new none h = h
 none_matched (Bind p chassis) now s out new none h = h
 none_matched (Unbind p) now s out new none h = h
@@ -106,14 +107,14 @@ alike_from after later new end c same =
 module _ (enters : EntryCountLaw) (arrives : ArrivalCountLaw) (drains : DrainCountLaw) (through : ThroughCountLaw) where
   module _ (m : State) (zones : Zoned) (sets : Sets) (u : IsUnderWay m zones 0) (s t : SimState) (both : BothHold m zones sets s t) (out other : SimOut) (same : out.effects ≡ other.effects) (new end : SimState) where
     -- a packet goes in
-    entries_alike : (p : Name) (frame : List ℕ) → GoesIn m.clock s p frame no_out out new → GoesIn m.clock t p frame no_out other end → AreAlike out.walks other.walks new end
+    entries_alike : (p : Name) (frame : List ℕ) → GoesIn any_legal m.clock s p frame no_out out new → GoesIn any_legal m.clock t p frame no_out other end → AreAlike out.walks other.walks new end
     entries_alike p frame h k =
         let packet : k.packet ≡ h.packet = one_packet_at_most k.packet h.packet k.whole h.whole (k.frame_is ∙ sym h.frame_is) in
         let also = subst (λ (x : inet.Packet). IsInjected any_legal t p m.clock x no_out other end) packet k.injected in
         alike_from out other new end (enters m zones sets 0 s t new end p h.packet no_out out no_out other u both h.injected also) same
 
     -- so it is with each event that moves packets
-    passes_alike : (event : Event) → moves_packets event ≡ true → Passes m.clock s event out new → Passes m.clock t event other end → AreAlike out.walks other.walks new end
+    passes_alike : (event : Event) → moves_packets event ≡ true → Passes any_legal m.clock s event out new → Passes any_legal m.clock t event other end → AreAlike out.walks other.walks new end
     passes_alike (Edit ops) moves h k = absurd (false≢true moves)
     passes_alike (Bind p chassis) moves h k = absurd (false≢true moves)
     passes_alike (Unbind p) moves h k = absurd (false≢true moves)
@@ -149,8 +150,8 @@ module _ (enters : EntryCountLaw) (arrives : ArrivalCountLaw) (drains : DrainCou
       both : BothHold m one.zones (sets_of m.config.net) one.sim two.sim
       both = record { first = sound.held; second = held; same_zones = lists }
 
-      passed : Passes m.clock two.sim event (out after k.effects) after.sim
-      passed = subst (λ (n : State). Passes n.clock two.sim event (out after k.effects) after.sim) (sym state) k.passed
+      passed : Passes of_program m.clock two.sim event (out after k.effects) after.sim
+      passed = subst (λ (n : State). Passes of_program n.clock two.sim event (out after k.effects) after.sim) (sym state) k.passed
 
       relisted : moves_packets event ≡ false → Relists event m.clock one.zones mid.zones two.sim after.sim
       relisted none =
@@ -160,7 +161,8 @@ module _ (enters : EntryCountLaw) (arrives : ArrivalCountLaw) (drains : DrainCou
       by : (b : Bool) → moves_packets event ≡ b → AreAlike mid.walks after.walks mid.sim after.sim
       by true moves =
           passes_alike m one.zones (sets_of m.config.net) (begins m one.zones sound.consistent.at_rest) one.sim two.sim both
-          (out mid h.effects) (out after k.effects) effects mid.sim after.sim event moves h.passed passed
+          (out mid h.effects) (out after k.effects) effects mid.sim after.sim event moves
+          (passes_legally event m.clock one.sim (out mid h.effects) mid.sim h.passed) (passes_legally event m.clock two.sim (out after k.effects) after.sim passed)
       by false none = record {
         count = ap matched_on (none_matched event m.clock one.sim (out mid h.effects) mid.sim none h.passed ∙ sym (none_matched event m.clock two.sim (out after k.effects) after.sim none passed));
         zones = lists_left m one.zones (sets_of m.config.net) one.sim two.sim both event m.clock one.zones mid.zones mid.sim after.sim (h.lists none) (relisted none);

@@ -7,6 +7,7 @@ use Rattle.event_lines.specs.Lines.{accepted_lines, refused_line}
 use Rattle.event_lines.specs.declared.refusal.Refusal.{Refusal}
 use Rattle.event_lines.specs.declared.refusal.StepFault.{StepFault}
 use Rattle.event_lines.specs.declared.refusal.StepFault.TheVariants.{Refused, Memory}
+use Rattle.switch_engine.specs.Outcome.{of_program}
 use Rattle.switch_engine.specs.declared.effect.NetEffect.{NetEffect}
 use Rattle.switch_engine.specs.declared.walk.Walk.{Walk}
 use Rattle.world_core.specs.EventPasses.{Passes}
@@ -38,13 +39,13 @@ moves_packets Drain = true
 moves_packets (Packet port frame) = true
 moves_packets (Unread fault) = false
 
--- an accepted event: its effects are a step of the network and what came of its packets on the chassis, and its text says them; where it moves none, each
--- zone of each chassis has the list that it leaves
+-- an accepted event: its effects are a step of the network and what came of its packets on the chassis, where backends and ports are the program's own
+-- picks, and its text says them; where it moves none, each zone of each chassis has the list that it leaves
 pub record IsAccepted (old : WorldView) (event : Event) (before after : List ℕ) (new : WorldView) : Type 0 where
   pub admitted : refusal old.state event ≡ None
   pub effects : List NetEffect
   pub step : net.NetworkStep old.state event effects new.state
-  pub passed : Passes old.state.clock old.sim event (record { effects = effects; walks = new.walks }) new.sim
+  pub passed : Passes of_program old.state.clock old.sim event (record { effects = effects; walks = new.walks }) new.sim
   pub zones : Rezones event old.zones new.zones
   pub lists : moves_packets event ≡ false → Relists event old.state.clock old.zones new.zones old.sim new.sim
   pub text : after ≡ before ++ accepted_lines (event_count old.state + 1) effects (matched new.walks)

@@ -9,7 +9,7 @@ use Rattle.std.specs.Ordering.{nat_cmp}
 use Rattle.ovn_base.specs.lists.Among.{Among}
 use Rattle.ovn_base.specs.names.ByName.{at}
 use Rattle.ovn_base.specs.declared.name.Name.{Name}
-use Rattle.switch_engine.specs.Outcome.{any_legal}
+use Rattle.switch_engine.specs.Outcome.{of_program}
 use Rattle.chassis_sim.specs.InNames.{frames_sent}
 use Rattle.chassis_sim.specs.Passing as sim
 use Rattle.chassis_sim.specs.State as held
@@ -59,17 +59,17 @@ pub record HasPassed (old : WorldView) (before after : SimOut) (new : WorldView)
   pub held : AreHeld new.state new.zones new.sim
   pub rest : new ≡ record old { state = new.state; sim = new.sim }
 
--- a packet went in at a port
+-- a packet went in at a port, with the program's own picks
 abbrev pub HasEntered : WorldView → Name → inet.Packet → SimOut → SimOut → WorldView → Type 0
-HasEntered old p packet before after new = HasPassed old before after new (λ s b a t. sim.IsInjected any_legal s p old.state.clock packet b a t) (λ m ends k. MovesFor (enter_one p packet) m ends k)
+HasEntered old p packet before after new = HasPassed old before after new (λ s b a t. sim.IsInjected of_program s p old.state.clock packet b a t) (λ m ends k. MovesFor (enter_one p packet) m ends k)
 
--- a frame arrived
+-- a frame arrived, with the program's own picks
 abbrev pub HasArrived : WorldView → ℕ → Bool → SimOut → SimOut → WorldView → Type 0
-HasArrived old n keep before after new = HasPassed old before after new (λ s b a t. sim.IsArrived any_legal s n keep old.state.clock b a t) (λ m ends k. MovesFor (arrive_one n keep) m ends k)
+HasArrived old n keep before after new = HasPassed old before after new (λ s b a t. sim.IsArrived of_program s n keep old.state.clock b a t) (λ m ends k. MovesFor (arrive_one n keep) m ends k)
 
--- the waiting frames arrived, up to so many
+-- the waiting frames arrived, up to so many, with the program's own picks
 abbrev pub AreGone : ℕ → WorldView → SimOut → SimOut → WorldView → Type 0
-AreGone most old before after new = HasPassed old before after new (λ s b a t. AreDrained old.state.clock most s b a t) (λ m ends k. AreMoved most m ends k)
+AreGone most old before after new = HasPassed old before after new (λ s b a t. AreDrained of_program old.state.clock most s b a t) (λ m ends k. AreMoved most m ends k)
 
 -- the crossing is one that may wait, and goes where its frame goes, which spells it under the keys
 pub record IsSentAs (m : State) (to : Name) (bytes : List ℕ) (x : Crossing) : Type 0 where

@@ -5,6 +5,7 @@ use Rattle.edit_reader.specs.declared.event.Event.{Event}
 use Rattle.event_lines.specs.Text.{StartsWith}
 use Rattle.event_lines.specs.declared.refusal.StepFault.{StepFault}
 use Rattle.event_lines.specs.declared.refusal.StepFault.TheVariants.{Refused, Memory}
+use Rattle.switch_engine.specs.Outcome.{of_program}
 use Rattle.switch_engine.specs.declared.effect.NetEffect.{NetEffect}
 use Rattle.switch_engine.specs.declared.walk.Walk.{Walk}
 use Rattle.world_core.specs.Outcome.{matched, moves_packets, IsAccepted, IsRefused}
@@ -36,7 +37,7 @@ clocked_world w seconds = record w { state = clocked seconds w.state; sim = all_
 -- what an accepted event leaves, and how many flows its packets matched
 pub record IsDone (old : WorldView) (event : Event) (effects : List NetEffect) (walks : List Walk) (count : ℕ) (new : WorldView) : Type 0 where
   pub step : net.NetworkStep old.state event effects new.state
-  pub passed : Passes old.state.clock old.sim event (record { effects = effects; walks = walks }) new.sim
+  pub passed : Passes of_program old.state.clock old.sim event (record { effects = effects; walks = walks }) new.sim
   pub counts : count ≡ matched walks
   pub zones : Rezones event old.zones new.zones
   pub lists : moves_packets event ≡ false → Relists event old.state.clock old.zones new.zones old.sim new.sim

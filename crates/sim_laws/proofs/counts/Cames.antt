@@ -98,7 +98,7 @@ abbrev pub came_arrived : {s new : SimState} {n now : ℕ} {keep : Bool} {before
 came_arrived (passing.IsArrived.through frame flows lists left vni in_key out_key packet steps effects waits held listed carries walk told) = came_told told
 came_arrived (passing.IsArrived.gone frame waits none told) = came_told told
 
-abbrev pub came_drained : (k now : ℕ) (s new : SimState) (before after : SimOut) → AreDrained now k s before after new → Came before after
+abbrev pub came_drained : (k now : ℕ) (s new : SimState) (before after : SimOut) → AreDrained any_legal now k s before after new → Came before after
 came_drained zero now s new before after d = came_as d.0 (came_none before)
 came_drained (suc k) now s new before after (inl d) = came_as d.1 (came_none before)
 came_drained (suc k) now s new before after (inr f) = came_then (came_arrived f.arrives) (came_drained k now f.mid new f.between after f.others)

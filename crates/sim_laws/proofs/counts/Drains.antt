@@ -88,7 +88,7 @@ module _ (law : ChassisWalksLaw) (arrival : ArrivalJourneyLaw) (zones : Zoned) (
       (λ a. subst (λ e. (b : IsArrived any_legal t e false m.clock then middle other) → Alike (came_arrived a) (came_arrived b) mid other) same (λ b. arrived_alike law m zones sets more u s t h mid other before between then middle n false a b))
 
   pub drained_alike : (k now more : ℕ) (m : State) (s t new end : SimState) (before after then later : SimOut) → m.clock ≡ now → IsUnderWay m zones more → BothHold m zones sets s t
-      → (a : AreDrained now k s before after new) (b : AreDrained now k t then later end) → Alike (came_drained k now s new before after a) (came_drained k now t end then later b) new end
+      → (a : AreDrained any_legal now k s before after new) (b : AreDrained any_legal now k t then later end) → Alike (came_drained k now s new before after a) (came_drained k now t end then later b) new end
   drained_alike zero now more m s t new end before after then later is u h a b = alike_none a.0 b.0 a.1 b.1 h.same_zones
   drained_alike (suc k) now more m s t new end before after then later is u h (inl a) (inl b) = alike_none a.1 b.1 a.2 b.2 h.same_zones
   drained_alike (suc k) now more m s t new end before after then later is u h (inl a) (inr g) = absurd (none_first (g.n, g.frame) g.behind (sym a.0 ∙ waiting_same m s t h ∙ g.first))

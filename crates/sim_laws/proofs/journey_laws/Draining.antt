@@ -98,7 +98,7 @@ none_more : (m : State) (zones : Zoned) (more : ℕ) → IsUnderWay m zones more
 none_more m zones more u = let same : more ≡ more + 0 = omega arith in subst (λ n. IsUnderWay m zones n) same u
 
 module _ (arrival : ArrivalJourneyLaw) (zones : Zoned) (sets : Sets) where
-  drained : (k more : ℕ) (m : State) (s new : SimState) (before after : SimOut) → IsUnderWay m zones more → HoldsNetwork m zones.numbers sets s → AreDrained m.clock k s before after new → IsDrained k m zones sets more before after new
+  drained : (k more : ℕ) (m : State) (s new : SimState) (before after : SimOut) → IsUnderWay m zones more → HoldsNetwork m zones.numbers sets s → AreDrained any_legal m.clock k s before after new → IsDrained k m zones sets more before after new
   drained zero more m s new before after u h d = record {
     ends = [];
     effects = ap (λ (o : SimOut). o.effects) d.0 ∙ sym (append-nil before.effects);
@@ -121,7 +121,7 @@ module _ (arrival : ArrivalJourneyLaw) (zones : Zoned) (sets : Sets) where
       let a = came.journey in
       let still = a.moves.rest in
       let r =
-      drained k (more + came.sent) a.left f.mid new f.between after a.sound a.held (subst (λ t. AreDrained t k f.mid f.between after new) (sym (ap (λ (l : State). l.clock) still)) f.others) in
+      drained k (more + came.sent) a.left f.mid new f.between after a.sound a.held (subst (λ t. AreDrained any_legal t k f.mid f.between after new) (sym (ap (λ (l : State). l.clock) still)) f.others) in
       record {
         ends = a.ends ++ r.ends;
         effects = behind_effects m a.left a.ends r.ends before.effects f.between.effects after.effects (ap (λ (l : State). l.keys) still) (ap (λ (l : State). l.next) still) a.effects r.effects;
@@ -131,7 +131,7 @@ module _ (arrival : ArrivalJourneyLaw) (zones : Zoned) (sets : Sets) where
         held = r.held;
       }
 
-  pub all_arrive : (more : ℕ) (m : State) (s new : SimState) (before after : SimOut) → IsUnderWay m zones more → HoldsNetwork m zones.numbers sets s → AreDrained m.clock most_arrivals s before after new → IsDrained most_arrivals m zones sets more before after new
+  pub all_arrive : (more : ℕ) (m : State) (s new : SimState) (before after : SimOut) → IsUnderWay m zones more → HoldsNetwork m zones.numbers sets s → AreDrained any_legal m.clock most_arrivals s before after new → IsDrained most_arrivals m zones sets more before after new
   all_arrive more m s new before after u h d = drained most_arrivals more m s new before after u h d
 
 pub all_arrives : ArrivalJourneyLaw → AllArriveLaw
@@ -144,13 +144,13 @@ all_arrives arrival m zones sets more s new before after u h d =
     }
 
 -- what a packet left that went in, and what all left that waited then
-then_drained : ArrivalJourneyLaw → (m : State) (zones : Zoned) (sets : Sets) (more first : ℕ) (s new : SimState) (port : Name) (frame : List ℕ) (after : SimOut) (through : GoesThrough m.clock s port frame after new)
+then_drained : ArrivalJourneyLaw → (m : State) (zones : Zoned) (sets : Sets) (more first : ℕ) (s new : SimState) (port : Name) (frame : List ℕ) (after : SimOut) (through : GoesThrough any_legal m.clock s port frame after new)
     → (a : IsJourney m zones sets (more + first) (enter_one port through.goes_in.packet) no_out through.between through.mid) → length (crossings_in a.ends) ≡ first
     → IsThrough m zones sets more (enter_and_arrive port through.goes_in.packet) no_out after new
 then_drained arrival m zones sets more first s new port frame after through a count =
     let still = a.moves.rest in
     let r =
-    all_arrive arrival zones sets (more + first) a.left through.mid new through.between after a.sound a.held (subst (λ t. AreDrained t most_arrivals through.mid through.between after new) (sym (ap (λ (l : State). l.clock) still)) through.drained) in
+    all_arrive arrival zones sets (more + first) a.left through.mid new through.between after a.sound a.held (subst (λ t. AreDrained any_legal t most_arrivals through.mid through.between after new) (sym (ap (λ (l : State). l.clock) still)) through.drained) in
     record {
       sent = length (crossings_in (a.ends ++ r.ends));
       journey = record {

@@ -126,7 +126,7 @@ abbrev pub DrainCountLaw : Type 0
 DrainCountLaw =
     (m : State) (zones : Zoned) (sets : Sets) (more most : ℕ) (s t new end : SimState) (before after then later : SimOut)
     → IsUnderWay m zones more → BothHold m zones sets s t
-    → AreDrained m.clock most s before after new → AreDrained m.clock most t then later end
+    → AreDrained any_legal m.clock most s before after new → AreDrained any_legal m.clock most t then later end
     → CountsAlike before after then later new end
 
 -- and with a packet that goes in before all that wait arrive.
@@ -134,5 +134,5 @@ abbrev pub ThroughCountLaw : Type 0
 ThroughCountLaw =
     (m : State) (zones : Zoned) (sets : Sets) (more : ℕ) (s t new end : SimState) (port : Name) (frame : List ℕ) (after later : SimOut)
     → IsUnderWay m zones more → BothHold m zones sets s t
-    → GoesThrough m.clock s port frame after new → GoesThrough m.clock t port frame later end
+    → GoesThrough any_legal m.clock s port frame after new → GoesThrough any_legal m.clock t port frame later end
     → CountsAlike no_out after no_out later new end

@@ -10,6 +10,7 @@ use Rattle.net_model.specs.State.{State}
 use Rattle.net_model.specs.Trail.{End, crossings_in}
 use Rattle.ovn_base.specs.declared.limits.TheConstants.{MAX_ARRIVALS}
 use Rattle.ovn_base.specs.declared.name.Name.{Name}
+use Rattle.switch_engine.specs.Outcome.{any_legal}
 use Rattle.sim_laws.specs.Passing.{most_arrivals, AreDrained, GoesThrough, no_out}
 use Rattle.sim_laws.specs.journeys.Holding.{HoldsNetwork}
 use Rattle.sim_laws.specs.journeys.Moves.{MovesFor, AreMoved}
@@ -45,7 +46,7 @@ abbrev pub AllArriveLaw : Type 0
 AllArriveLaw =
     (m : State) (zones : Zoned) (sets : Sets) (more : ℕ) (s new : SimState) (before after : SimOut)
     → IsUnderWay m zones more → HoldsNetwork m zones.numbers sets s
-    → AreDrained m.clock most_arrivals s before after new
+    → AreDrained any_legal m.clock most_arrivals s before after new
     → IsThrough m zones sets more arrive_all before after new
 
 -- The packet of a frame goes in at a port, and then all frames arrive that wait.
@@ -53,5 +54,5 @@ abbrev pub GoesThroughLaw : Type 0
 GoesThroughLaw =
     (m : State) (zones : Zoned) (sets : Sets) (more : ℕ) (s new : SimState) (port : Name) (frame : List ℕ) (after : SimOut)
     → IsUnderWay m zones more → HoldsNetwork m zones.numbers sets s
-    → (through : GoesThrough m.clock s port frame after new)
+    → (through : GoesThrough any_legal m.clock s port frame after new)
     → IsThrough m zones sets more (enter_and_arrive port through.goes_in.packet) no_out after new

@@ -14,7 +14,7 @@ use Rattle.sim_laws.proofs.WaitingLists.{numbered_map}
 use Rattle.sim_laws.specs.Held.{HaveOwnersNames, frame_of_crossing}
 use Rattle.sim_laws.specs.journeys.Refining.{ArrivalJourneyLaw, waiting_on}
 use Rattle.sim_laws.specs.journeys.UnderWay.{IsUnderWay}
-use Rattle.switch_engine.specs.Outcome.{any_legal}
+use Rattle.switch_engine.specs.Outcome.{of_program}
 use Rattle.switch_engine.specs.declared.effect.NetEffect.{NetEffect}
 use Rattle.world_core.proofs.PacketState.{GoesOn, arrival_goes_on, has_room, world_with}
 use Rattle.world_core.proofs.WaitingNames.{named_on, names_on, on_named, others_wait, seen_front}
@@ -27,7 +27,7 @@ use Rattle.world_core.proofs.world.World.arrive.Goals as goal
 
 -- The frame arrives at the world as it is kept: what came, with the crossings that are kept then.
 module _ (law : ArrivalJourneyLaw) (w : Inside) (v : WorldView) (view : seen_of w ≡ v) (n : ℕ) (keep : Bool) (before after : SimOut) (s : sim.SimState) (effects : List NetEffect) (under_way : IsUnderWay v.state v.zones (sent_among before.effects))
-    (held : AreHeld v.state v.zones v.sim) (arrives : IsArrived any_legal w.sim.state n keep w.clock before after s) (are : effects ≡ drop (length before.effects) after.effects) where
+    (held : AreHeld v.state v.zones v.sim) (arrives : IsArrived of_program w.sim.state n keep w.clock before after s) (are : effects ≡ drop (length before.effects) after.effects) where
   abbrev old : WorldView
   old = seen_of w
 
@@ -90,33 +90,33 @@ unreachable-requires-in-Err-NoFrame c =
 
 pub keep_crossings-requires-clause-valid : goal.keep_crossings-requires-clause-valid
 keep_crossings-requires-clause-valid c =
-    valid c.journeys_refine.ensures.arrives c.self.inside c.args.self.now c.self.view_is c.args.frame c.args.keep c.args.out.now c.arrive.new.out c.arrive.new.self.state _ c.requires.under_way c.requires.held c.in-Ok.ensures.answer.0
+    valid c.journeys_refine.ensures.arrives c.self.inside c.args.self.now c.self.view_is c.args.frame c.args.keep c.args.out.now c.arrive.new.out c.arrive.new.self.state _ c.requires.under_way c.requires.held c.in-Ok.ensures.answer.1
     (take_rest c.as_slice.result.now c.len-before.result ∙ ap (λ l. drop c.len-before.result l) c.as_slice.ensures ∙ ap (λ n. drop n c.arrive.new.out.effects) c.len-before.ensures) c.let_go.new.self c.let_go.ensures
 
 pub keep_crossings-requires-clause-keys : goal.keep_crossings-requires-clause-keys
 keep_crossings-requires-clause-keys c =
-    keys c.journeys_refine.ensures.arrives c.self.inside c.args.self.now c.self.view_is c.args.frame c.args.keep c.args.out.now c.arrive.new.out c.arrive.new.self.state _ c.requires.under_way c.requires.held c.in-Ok.ensures.answer.0
+    keys c.journeys_refine.ensures.arrives c.self.inside c.args.self.now c.self.view_is c.args.frame c.args.keep c.args.out.now c.arrive.new.out c.arrive.new.self.state _ c.requires.under_way c.requires.held c.in-Ok.ensures.answer.1
     (take_rest c.as_slice.result.now c.len-before.result ∙ ap (λ l. drop c.len-before.result l) c.as_slice.ensures ∙ ap (λ n. drop n c.arrive.new.out.effects) c.len-before.ensures) c.let_go.new.self c.let_go.ensures
 
 pub keep_crossings-requires-clause-names : goal.keep_crossings-requires-clause-names
 keep_crossings-requires-clause-names c =
-    names c.journeys_refine.ensures.arrives c.self.inside c.args.self.now c.self.view_is c.args.frame c.args.keep c.args.out.now c.arrive.new.out c.arrive.new.self.state _ c.requires.under_way c.requires.held c.in-Ok.ensures.answer.0
+    names c.journeys_refine.ensures.arrives c.self.inside c.args.self.now c.self.view_is c.args.frame c.args.keep c.args.out.now c.arrive.new.out c.arrive.new.self.state _ c.requires.under_way c.requires.held c.in-Ok.ensures.answer.1
     (take_rest c.as_slice.result.now c.len-before.result ∙ ap (λ l. drop c.len-before.result l) c.as_slice.ensures ∙ ap (λ n. drop n c.arrive.new.out.effects) c.len-before.ensures) c.let_go.new.self c.let_go.ensures
 
 pub keep_crossings-requires-clause-sent : goal.keep_crossings-requires-clause-sent
 keep_crossings-requires-clause-sent c = (
   _,
-  can c.journeys_refine.ensures.arrives c.self.inside c.args.self.now c.self.view_is c.args.frame c.args.keep c.args.out.now c.arrive.new.out c.arrive.new.self.state _ c.requires.under_way c.requires.held c.in-Ok.ensures.answer.0
+  can c.journeys_refine.ensures.arrives c.self.inside c.args.self.now c.self.view_is c.args.frame c.args.keep c.args.out.now c.arrive.new.out c.arrive.new.self.state _ c.requires.under_way c.requires.held c.in-Ok.ensures.answer.1
       (take_rest c.as_slice.result.now c.len-before.result ∙ ap (λ l. drop c.len-before.result l) c.as_slice.ensures ∙ ap (λ n. drop n c.arrive.new.out.effects) c.len-before.ensures) c.let_go.new.self c.let_go.ensures,
 )
 
 pub keep_crossings-requires-clause-waiting : goal.keep_crossings-requires-clause-waiting
 keep_crossings-requires-clause-waiting c =
-    waiting c.journeys_refine.ensures.arrives c.self.inside c.args.self.now c.self.view_is c.args.frame c.args.keep c.args.out.now c.arrive.new.out c.arrive.new.self.state _ c.requires.under_way c.requires.held c.in-Ok.ensures.answer.0
+    waiting c.journeys_refine.ensures.arrives c.self.inside c.args.self.now c.self.view_is c.args.frame c.args.keep c.args.out.now c.arrive.new.out c.arrive.new.self.state _ c.requires.under_way c.requires.held c.in-Ok.ensures.answer.1
     (take_rest c.as_slice.result.now c.len-before.result ∙ ap (λ l. drop c.len-before.result l) c.as_slice.ensures ∙ ap (λ n. drop n c.arrive.new.out.effects) c.len-before.ensures) c.let_go.new.self c.let_go.ensures
 
 pub returns : goal.returns
 returns c =
-    arrived c.journeys_refine.ensures.arrives c.self.inside c.args.self.now c.self.view_is c.args.frame c.args.keep c.args.out.now c.arrive.new.out c.arrive.new.self.state _ c.requires.under_way c.requires.held c.in-Ok.ensures.answer.0
-    (take_rest c.as_slice.result.now c.len-before.result ∙ ap (λ l. drop c.len-before.result l) c.as_slice.ensures ∙ ap (λ n. drop n c.arrive.new.out.effects) c.len-before.ensures) c.let_go.new.self c.let_go.ensures c.keep_crossings.new.self (c.in_ok-keep_crossings.ensures _ (can c.journeys_refine.ensures.arrives c.self.inside c.args.self.now c.self.view_is c.args.frame c.args.keep c.args.out.now c.arrive.new.out c.arrive.new.self.state _ c.requires.under_way c.requires.held c.in-Ok.ensures.answer.0
+    arrived c.journeys_refine.ensures.arrives c.self.inside c.args.self.now c.self.view_is c.args.frame c.args.keep c.args.out.now c.arrive.new.out c.arrive.new.self.state _ c.requires.under_way c.requires.held c.in-Ok.ensures.answer.1
+    (take_rest c.as_slice.result.now c.len-before.result ∙ ap (λ l. drop c.len-before.result l) c.as_slice.ensures ∙ ap (λ n. drop n c.arrive.new.out.effects) c.len-before.ensures) c.let_go.new.self c.let_go.ensures c.keep_crossings.new.self (c.in_ok-keep_crossings.ensures _ (can c.journeys_refine.ensures.arrives c.self.inside c.args.self.now c.self.view_is c.args.frame c.args.keep c.args.out.now c.arrive.new.out c.arrive.new.self.state _ c.requires.under_way c.requires.held c.in-Ok.ensures.answer.1
     (take_rest c.as_slice.result.now c.len-before.result ∙ ap (λ l. drop c.len-before.result l) c.as_slice.ensures ∙ ap (λ n. drop n c.arrive.new.out.effects) c.len-before.ensures) c.let_go.new.self c.let_go.ensures))

@@ -6,7 +6,7 @@ use Rattle.chassis_sim.specs.declared.out.SimOut.{SimOut}
 use Rattle.inet_packet.specs.Whole.{IsWhole}
 use Rattle.inet_packet.specs.declared.packet.Packet as inet
 use Rattle.sim_laws.specs.journeys.Refining.{EntryJourneyLaw}
-use Rattle.switch_engine.specs.Outcome.{any_legal}
+use Rattle.switch_engine.specs.Outcome.{of_program}
 use Rattle.world_core.specs.declared.world.World.TheInside.{Inside}
 use Rattle.ovn_base.specs.declared.name.Name.{Name}
 use Rattle.sim_laws.specs.journeys.UnderWay.{IsUnderWay}
@@ -20,7 +20,7 @@ use Rattle.world_core.proofs.world.World.enter.Goals as goal
 
 -- the packet goes in from the world as it is kept
 goes : EntryJourneyLaw → (w : Inside) (v : WorldView) → seen_of w ≡ v → (p : Name) (packet : inet.Packet) (before after : SimOut) (s : sim.SimState) (effects : List NetEffect) → IsUnderWay v.state v.zones (sent_among before.effects) → AreHeld v.state v.zones v.sim
-    → IsWhole packet → IsInjected any_legal w.sim.state p w.clock packet before after s → effects ≡ drop (length before.effects) after.effects → GoesOn (seen_of w) (seen_of w).state.waiting s effects (λ new. HasEntered (seen_of w) p packet before after new)
+    → IsWhole packet → IsInjected of_program w.sim.state p w.clock packet before after s → effects ≡ drop (length before.effects) after.effects → GoesOn (seen_of w) (seen_of w).state.waiting s effects (λ new. HasEntered (seen_of w) p packet before after new)
 goes law w v view p packet before after s effects under_way held whole injected are =
     entry_goes_on law (seen_of w) p packet before after s effects (subst (λ (v : WorldView). IsUnderWay v.state v.zones (sent_among before.effects)) (sym view) under_way)
     (subst (λ (v : WorldView). AreHeld v.state v.zones v.sim) (sym view) held) whole injected are
@@ -35,7 +35,7 @@ keep_crossings-requires-clause-sent c =
     let old = seen_of c.self.inside in
     let s = c.inject.new.self.state in
     let g =
-    goes c.journeys_refine.ensures.enters c.self.inside c.args.self.now c.self.view_is c.args.port.now c.args.packet c.args.out.now c.inject.new.out c.inject.new.self.state _ c.requires.under_way c.requires.held c.requires.whole c.in-Ok.ensures.answer.0
+    goes c.journeys_refine.ensures.enters c.self.inside c.args.self.now c.self.view_is c.args.port.now c.args.packet c.args.out.now c.inject.new.out c.inject.new.self.state _ c.requires.under_way c.requires.held c.requires.whole c.in-Ok.ensures.answer.1
     (take_rest c.as_slice.result.now c.len-before.result ∙ ap (λ l. drop c.len-before.result l) c.as_slice.ensures ∙ ap (λ n. drop n c.inject.new.out.effects) c.len-before.ensures) in
     let k = (world_with old (old.state.waiting ++ g.crossings) s).state in
     let seen = seen_front k old.state.waiting g.crossings s refl g.done.under_way.crossings g.done.held.waiting c.self.inside.crossings.entries (sym (names_back c.self.inside.crossings.entries old.sim.waiting)) in
@@ -44,7 +44,7 @@ keep_crossings-requires-clause-sent c =
 pub keep_crossings-requires-clause-names : goal.keep_crossings-requires-clause-names
 keep_crossings-requires-clause-names c =
     let g =
-    goes c.journeys_refine.ensures.enters c.self.inside c.args.self.now c.self.view_is c.args.port.now c.args.packet c.args.out.now c.inject.new.out c.inject.new.self.state _ c.requires.under_way c.requires.held c.requires.whole c.in-Ok.ensures.answer.0
+    goes c.journeys_refine.ensures.enters c.self.inside c.args.self.now c.self.view_is c.args.port.now c.args.packet c.args.out.now c.inject.new.out c.inject.new.self.state _ c.requires.under_way c.requires.held c.requires.whole c.in-Ok.ensures.answer.1
     (take_rest c.as_slice.result.now c.len-before.result ∙ ap (λ l. drop c.len-before.result l) c.as_slice.ensures ∙ ap (λ n. drop n c.inject.new.out.effects) c.len-before.ensures) in
     g.done.held.names
 
@@ -53,7 +53,7 @@ keep_crossings-requires-clause-waiting c =
     let old = seen_of c.self.inside in
     let s = c.inject.new.self.state in
     let g =
-    goes c.journeys_refine.ensures.enters c.self.inside c.args.self.now c.self.view_is c.args.port.now c.args.packet c.args.out.now c.inject.new.out c.inject.new.self.state _ c.requires.under_way c.requires.held c.requires.whole c.in-Ok.ensures.answer.0
+    goes c.journeys_refine.ensures.enters c.self.inside c.args.self.now c.self.view_is c.args.port.now c.args.packet c.args.out.now c.inject.new.out c.inject.new.self.state _ c.requires.under_way c.requires.held c.requires.whole c.in-Ok.ensures.answer.1
     (take_rest c.as_slice.result.now c.len-before.result ∙ ap (λ l. drop c.len-before.result l) c.as_slice.ensures ∙ ap (λ n. drop n c.inject.new.out.effects) c.len-before.ensures) in
     let k = (world_with old (old.state.waiting ++ g.crossings) s).state in
     others_wait k old.state.waiting g.crossings s refl g.done.under_way.crossings g.done.held.waiting _ g.can.sent.frames
@@ -63,7 +63,7 @@ returns c =
     let old = seen_of c.self.inside in
     let s = c.inject.new.self.state in
     let g =
-    goes c.journeys_refine.ensures.enters c.self.inside c.args.self.now c.self.view_is c.args.port.now c.args.packet c.args.out.now c.inject.new.out c.inject.new.self.state _ c.requires.under_way c.requires.held c.requires.whole c.in-Ok.ensures.answer.0
+    goes c.journeys_refine.ensures.enters c.self.inside c.args.self.now c.self.view_is c.args.port.now c.args.packet c.args.out.now c.inject.new.out c.inject.new.self.state _ c.requires.under_way c.requires.held c.requires.whole c.in-Ok.ensures.answer.1
     (take_rest c.as_slice.result.now c.len-before.result ∙ ap (λ l. drop c.len-before.result l) c.as_slice.ensures ∙ ap (λ n. drop n c.inject.new.out.effects) c.len-before.ensures) in
     let k = (world_with old (old.state.waiting ++ g.crossings) s).state in
     let names = c.self.inside.crossings.entries in
