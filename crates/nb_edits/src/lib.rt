@@ -6,7 +6,7 @@ mod change;
 mod direction;
 pub mod edit;
 pub mod laws;
-mod marks;
+pub mod marks;
 mod operate;
 mod owners;
 pub mod plan;

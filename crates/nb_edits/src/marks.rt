@@ -1,4 +1,4 @@
-//! Marks of backends that no balancer lists any more.
+//! Backends that balancers list, and marks of those that none lists any more.
 ghost use Rattle.std.specs.Prelude.{◌≡◌, not, OnOk};
 ghost use Rattle.std.specs.List.{find, list_any};
 ghost use Rattle.nb_records.specs.Editing as spec;
@@ -16,8 +16,8 @@ fn has_backend(backends: &[Backend], backend: Backend) -> bool
     backends.iter().any(|other| backend.ip.0 == other.ip.0 && backend.port == other.port)
 }
 
-// A vip of the balancer lists the backend.
-fn lists(balancer: &LoadBalancer, backend: Backend) -> bool
+/// Whether a vip of the balancer lists the backend.
+pub fn lists_backend(balancer: &LoadBalancer, backend: Backend) -> bool
     ensures { result ≡ spec.lists_backend backend (Some balancer.now) }
 {
     balancer
@@ -30,7 +30,7 @@ fn is_kept(records: &Records, mark: &OfflineMark) -> bool
     ensures { result ≡ is_kept_mark records.now mark.now }
 {
     match records.load_balancer(&mark.balancer) {
-        Some(balancer) => lists(balancer, mark.backend),
+        Some(balancer) => lists_backend(balancer, mark.backend),
         None => false,
     }
 }
