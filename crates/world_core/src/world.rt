@@ -26,6 +26,7 @@ use event_lines::lines::{accepted, refused};
 use event_lines::refusal::{Refusal, StepFault};
 use flow_table::exact::exact_flow;
 use flow_table::flow::Flow;
+use ovn_base::address::Backend;
 use ovn_base::list::List;
 use ovn_base::memory::NoMemory;
 use ovn_base::name::Name;
@@ -231,6 +232,29 @@ impl World {
         }
     }
 
+    // Takes the mark of a backend.
+    fn take_mark<L>(
+        &mut self,
+        balancer: Name,
+        backend: Backend,
+        online: bool,
+        text: &mut Vec<u8>,
+        steps: &mut Steps<L>,
+    ) -> Result<(), StepFault>
+        requires sound { IsSound self.old }
+        requires room { event_count self.old.state < 2 ^ 42 }
+        requires admitted { IsEventInGrammar (event_of.Health balancer backend online) }
+        ensures outcome { Outcome result self.old (event_of.Health balancer backend online) text.old.items text.new.items self.new }
+        ensures steps { steps.old ≤ steps.new }
+    {
+        let event = TurnEvent::Health {
+            balancer,
+            backend,
+            online,
+        };
+        self.take_turn(&event, text, steps)
+    }
+
     // Takes an event that is refused and moves no packets, whichever it is.
     fn take_refused(&mut self, why: Refusal, text: &mut Vec<u8>) -> Result<(), StepFault>
         requires sound { IsSound self.old }
@@ -318,14 +342,7 @@ impl World {
                 balancer,
                 backend,
                 online,
-            } => {
-                let event = TurnEvent::Health {
-                    balancer: *balancer,
-                    backend: *backend,
-                    online: *online,
-                };
-                self.take_turn(&event, text, steps)
-            }
+            } => self.take_mark(*balancer, *backend, *online, text, steps),
             Event::Unbind { .. } | Event::RemoveChassis(_) | Event::Keys { .. } => {
                 self.take_refused(Refusal::NotBuilt, text)
             }

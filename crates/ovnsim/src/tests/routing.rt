@@ -146,12 +146,11 @@ const GATEWAYS_OUTPUT: &[u8] = b"1 key datapath g 1
 end events=14 accepted=14 refused=0 waiting=0
 ";
 
-// What takes a record, a binding or a chassis away, other ranges of keys, and marks of backends.
+// What takes a record, a binding or a chassis away, and other ranges of keys.
 const NOT_BUILT: &[u8] =
     b"{\"edit\":[{\"add\":\"router\",\"name\":\"r\"},{\"remove\":\"switch\",\"name\":\"s0\"}]}
 {\"unbind\":{\"port\":\"p1\"}}
 {\"keys\":{\"datapaths\":10,\"ports\":10}}
-{\"health\":{\"balancer\":\"l\",\"backend\":\"10.0.0.1:8080\",\"online\":true}}
 {\"chassis\":{\"remove\":\"hv1\"}}
 ";
 
@@ -159,8 +158,7 @@ const NOT_BUILT_OUTPUT: &[u8] = b"1 refused NotBuilt
 2 refused NotBuilt
 3 refused NotBuilt
 4 refused NotBuilt
-5 refused NotBuilt
-end events=5 accepted=0 refused=5 waiting=0
+end events=4 accepted=0 refused=4 waiting=0
 ";
 
 // What each of these inputs is, with its status and output.
