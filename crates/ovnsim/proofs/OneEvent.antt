@@ -7,6 +7,7 @@ use Rattle.event_lines.specs.declared.refusal.Refusal.{Refusal}
 use Rattle.switch_engine.specs.declared.effect.NetEffect.{NetEffect}
 use Rattle.event_lines.specs.Lines.{accepted_lines}
 use Rattle.event_lines.specs.Picks.{picks_of}
+use Rattle.world_core.proofs.OwnPicks.{passes_legally}
 use Rattle.world_core.specs.Outcome.{IsAccepted, IsRefused, matched}
 use Rattle.world_core.specs.WorldView.{WorldView, IsSound}
 use Rattle.net_model.specs.State.{State, event_count}
@@ -48,7 +49,7 @@ step_counts m event effects after h =
 
 accepts_from : (old : WorldView) (event : Event) (before text : List ℕ) (new : WorldView) → before ≡ [] → (h : IsAccepted old event before text new) → Takes old event (picks_of h.effects) text new
 accepts_from old event before text new empty h =
-    accepts (record { admitted = h.admitted; effects = h.effects; step = h.step; passed = h.passed; zones = h.zones; lists = h.lists; text = h.text ∙ ap (λ b. b ++ accepted_lines (event_count old.state + 1) h.effects (matched new.walks)) empty }) refl
+    accepts (record { admitted = h.admitted; effects = h.effects; step = h.step; passed = passes_legally event old.state.clock old.sim (record { effects = h.effects; walks = new.walks }) new.sim h.passed; zones = h.zones; lists = h.lists; text = h.text ∙ ap (λ b. b ++ accepted_lines (event_count old.state + 1) h.effects (matched new.walks)) empty }) refl
 
 -- an accepted event, where the text was empty
 pub takes_accepted : (old : WorldView) (event : Event) (before text : List ℕ) (new : WorldView) → before ≡ [] → IsAccepted old event before text new × IsSound new → TakesWith true old event text new

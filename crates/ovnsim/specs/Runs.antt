@@ -4,15 +4,16 @@ use Rattle.edit_reader.specs.declared.event.Event.{Event}
 use Rattle.event_lines.specs.Lines.{accepted_lines, refused_line}
 use Rattle.event_lines.specs.Picks.{Pick, picks_of}
 use Rattle.event_lines.specs.declared.refusal.Refusal.{Refusal}
-use Rattle.world_core.specs.Outcome.{IsAccepted, IsRefused}
+use Rattle.switch_engine.specs.Outcome.{any_legal}
+use Rattle.world_core.specs.Outcome.{IsAcceptedBy, IsRefused}
 use Rattle.world_core.specs.StepParts.{new_world}
 use Rattle.world_core.specs.Picks.{Fate, was_refused, was_accepted}
 use Rattle.world_core.specs.WorldView.{WorldView, IsSound}
 use Rattle.ovnsim.specs.Events.{AreEvents}
 
--- one event with its text and what was picked for it: accepted, and its effects name what was picked; or refused, and nothing was picked
+-- one event with its text and what was picked for it: accepted, with any legal choices, and its effects name what was picked; or refused, and nothing was picked
 pub data Takes (old : WorldView) (event : Event) (picks : List Pick) (text : List ℕ) (new : WorldView) : Type 0 where
-  accepts : (accepted : IsAccepted old event [] text new) → picks ≡ picks_of accepted.effects → Takes old event picks text new
+  accepts : (accepted : IsAcceptedBy any_legal old event [] text new) → picks ≡ picks_of accepted.effects → Takes old event picks text new
   refuses : (why : Refusal) → IsRefused old event why [] text new → picks ≡ [] → Takes old event picks text new
 
 -- The first of some events with the first of the picks, and the others after it with those that are left. After the

@@ -23,13 +23,12 @@ use Rattle.sim_laws.proofs.journey_laws.Finishing.{begins}
 use Rattle.sim_laws.specs.Passing.{most_arrivals, no_out, GoesIn}
 use Rattle.sim_laws.specs.journeys.Counts.{ArrivalCountLaw, AreAlike, BothHold, CountsAlike, DrainCountLaw, EntryCountLaw, HaveSameZones, ThroughCountLaw, choices_told, matched_on}
 use Rattle.sim_laws.specs.journeys.UnderWay.{IsUnderWay}
-use Rattle.switch_engine.specs.Outcome.{any_legal, of_program}
+use Rattle.switch_engine.specs.Outcome.{any_legal}
 use Rattle.switch_engine.specs.Zones.{ZoneLists, zone_at}
 use Rattle.switch_engine.specs.declared.effect.NetEffect.{NetEffect}
 use Rattle.switch_engine.specs.declared.walk.Walk.{Walk}
-use Rattle.world_core.proofs.OwnPicks.{passes_legally}
 use Rattle.world_core.specs.EventPasses.{Passes}
-use Rattle.world_core.specs.Outcome.{IsAccepted, matched, moves_packets}
+use Rattle.world_core.specs.Outcome.{IsAcceptedBy, matched, moves_packets}
 use Rattle.world_core.specs.WorldView.{AreHeld, IsSound, WorldView}
 use Rattle.world_setup.specs.Zones.{Relists, emptied_by, left_by, list_on}
 
@@ -51,7 +50,7 @@ matched_is walks = matched_from 0 walks ∙ none_before (matched_on walks)
 -- ---- events without packets
 
 -- no flow is matched
-none_matched : (event : Event) (now : ℕ) (s : SimState) (out : SimOut) (new : SimState) → moves_packets event ≡ false → Passes of_program now s event out new → out.walks ≡ []
+none_matched : (event : Event) (now : ℕ) (s : SimState) (out : SimOut) (new : SimState) → moves_packets event ≡ false → Passes any_legal now s event out new → out.walks ≡ []
 none_matched (Edit ops) now s out new none h = h
 none_matched (Bind p chassis) now s out new none h = h
 none_matched (Unbind p) now s out new none h = h
@@ -135,7 +134,7 @@ module _ (enters : EntryCountLaw) (arrives : ArrivalCountLaw) (drains : DrainCou
 
   -- whichever event it is
   pub accepted_alike : (one two mid after : WorldView) (event : Event) (first other : List ℕ) → IsSound one → IsSound two → one.state ≡ two.state → one.zones ≡ two.zones → HaveSameZones one.sim two.sim
-      → (h : IsAccepted one event [] first mid) (k : IsAccepted two event [] other after) → h.effects ≡ k.effects → mid.zones ≡ after.zones → AreAlike mid.walks after.walks mid.sim after.sim
+      → (h : IsAcceptedBy any_legal one event [] first mid) (k : IsAcceptedBy any_legal two event [] other after) → h.effects ≡ k.effects → mid.zones ≡ after.zones → AreAlike mid.walks after.walks mid.sim after.sim
   accepted_alike one two mid after event first other sound also state zones lists h k effects later = by (moves_packets event) refl
     where
       m : State
@@ -150,8 +149,8 @@ module _ (enters : EntryCountLaw) (arrives : ArrivalCountLaw) (drains : DrainCou
       both : BothHold m one.zones (sets_of m.config.net) one.sim two.sim
       both = record { first = sound.held; second = held; same_zones = lists }
 
-      passed : Passes of_program m.clock two.sim event (out after k.effects) after.sim
-      passed = subst (λ (n : State). Passes of_program n.clock two.sim event (out after k.effects) after.sim) (sym state) k.passed
+      passed : Passes any_legal m.clock two.sim event (out after k.effects) after.sim
+      passed = subst (λ (n : State). Passes any_legal n.clock two.sim event (out after k.effects) after.sim) (sym state) k.passed
 
       relisted : moves_packets event ≡ false → Relists event m.clock one.zones mid.zones two.sim after.sim
       relisted none =
@@ -161,8 +160,7 @@ module _ (enters : EntryCountLaw) (arrives : ArrivalCountLaw) (drains : DrainCou
       by : (b : Bool) → moves_packets event ≡ b → AreAlike mid.walks after.walks mid.sim after.sim
       by true moves =
           passes_alike m one.zones (sets_of m.config.net) (begins m one.zones sound.consistent.at_rest) one.sim two.sim both
-          (out mid h.effects) (out after k.effects) effects mid.sim after.sim event moves
-          (passes_legally event m.clock one.sim (out mid h.effects) mid.sim h.passed) (passes_legally event m.clock two.sim (out after k.effects) after.sim passed)
+          (out mid h.effects) (out after k.effects) effects mid.sim after.sim event moves h.passed passed
       by false none = record {
         count = ap matched_on (none_matched event m.clock one.sim (out mid h.effects) mid.sim none h.passed ∙ sym (none_matched event m.clock two.sim (out after k.effects) after.sim none passed));
         zones = lists_left m one.zones (sets_of m.config.net) one.sim two.sim both event m.clock one.zones mid.zones mid.sim after.sim (h.lists none) (relisted none);

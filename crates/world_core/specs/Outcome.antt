@@ -7,7 +7,7 @@ use Rattle.event_lines.specs.Lines.{accepted_lines, refused_line}
 use Rattle.event_lines.specs.declared.refusal.Refusal.{Refusal}
 use Rattle.event_lines.specs.declared.refusal.StepFault.{StepFault}
 use Rattle.event_lines.specs.declared.refusal.StepFault.TheVariants.{Refused, Memory}
-use Rattle.switch_engine.specs.Outcome.{of_program}
+use Rattle.switch_engine.specs.Outcome.{Choosing, of_program}
 use Rattle.switch_engine.specs.declared.effect.NetEffect.{NetEffect}
 use Rattle.switch_engine.specs.declared.walk.Walk.{Walk}
 use Rattle.world_core.specs.EventPasses.{Passes}
@@ -39,16 +39,20 @@ moves_packets Drain = true
 moves_packets (Packet port frame) = true
 moves_packets (Unread fault) = false
 
--- an accepted event: its effects are a step of the network and what came of its packets on the chassis, where backends and ports are the program's own
--- picks, and its text says them; where it moves none, each zone of each chassis has the list that it leaves
-pub record IsAccepted (old : WorldView) (event : Event) (before after : List ℕ) (new : WorldView) : Type 0 where
+-- an accepted event, with choices of this kind: its effects are a step of the network and what came of its packets on the chassis, and its text says them; where
+-- it moves none, each zone of each chassis has the list that it leaves
+pub record IsAcceptedBy (choosing : Choosing) (old : WorldView) (event : Event) (before after : List ℕ) (new : WorldView) : Type 0 where
   pub admitted : refusal old.state event ≡ None
   pub effects : List NetEffect
   pub step : net.NetworkStep old.state event effects new.state
-  pub passed : Passes of_program old.state.clock old.sim event (record { effects = effects; walks = new.walks }) new.sim
+  pub passed : Passes choosing old.state.clock old.sim event (record { effects = effects; walks = new.walks }) new.sim
   pub zones : Rezones event old.zones new.zones
   pub lists : moves_packets event ≡ false → Relists event old.state.clock old.zones new.zones old.sim new.sim
   pub text : after ≡ before ++ accepted_lines (event_count old.state + 1) effects (matched new.walks)
+
+-- backends and ports are the program's own picks
+abbrev pub IsAccepted : WorldView → Event → List ℕ → List ℕ → WorldView → Type 0
+IsAccepted old event before after new = IsAcceptedBy of_program old event before after new
 
 -- a refused event: it counts, and nothing else changes
 pub record IsRefused (old : WorldView) (event : Event) (why : Refusal) (before after : List ℕ) (new : WorldView) : Type 0 where
