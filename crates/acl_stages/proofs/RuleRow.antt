@@ -5,6 +5,7 @@ use Rattle.match_language.specs.declared.field.Direction.{Direction}
 use Rattle.match_language.specs.declared.field.Direction.TheVariants.{FromLport, ToLport}
 use Rattle.nb_records.specs.Network.{Network}
 use Rattle.nb_records.specs.declared.rule.Acl.{Acl}
+use Rattle.ovn_base.specs.declared.limits.TheConstants.{MAX_ACL_PRIORITY}
 use Rattle.ovn_base.specs.declared.name.Name.{Name}
 use Rattle.ovn_base.specs.names.ByName.{at}
 use Rattle.logical_flows.specs.declared.flow.LFlow.{LFlow}
@@ -36,8 +37,8 @@ some_is_none x h = cc
 pub row_of_found : (net : Network) (r d : Name) (x : Acl) → AdmitsRule net r d → Some x ≡ at net.acls r → rows_of net (Rule r d) ≡ rule_row x ∷ []
 row_of_found net r d x a h = rule_has_row net r d a ∙ ap (λ (y : Acl). rule_row y ∷ []) (some_same a.rule x (sym a.there ∙ sym h))
 
-pub priority_of_found : (net : Network) (r d : Name) (x : Acl) → AdmitsRule net r d → Some x ≡ at net.acls r → x.priority ≤ 32767
-priority_of_found net r d x a h = subst (λ (y : Acl). y.priority ≤ 32767) (some_same a.rule x (sym a.there ∙ sym h)) a.is_rule.priority
+pub priority_of_found : (net : Network) (r d : Name) (x : Acl) → AdmitsRule net r d → Some x ≡ at net.acls r → x.priority ≤ MAX_ACL_PRIORITY
+priority_of_found net r d x a h = subst (λ (y : Acl). y.priority ≤ MAX_ACL_PRIORITY) (some_same a.rule x (sym a.there ∙ sym h)) a.is_rule.priority
 
 pub is_found : (net : Network) (r d : Name) → AdmitsRule net r d → None ≡ at net.acls r → ⊥
 is_found net r d a h = some_is_none a.rule (sym a.there ∙ sym h)

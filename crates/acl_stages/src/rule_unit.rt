@@ -1,5 +1,6 @@
 //! A rule on a switch to which it applies.
 ghost use Rattle.std.specs.Prelude.{◌≡◌, ◌≤◌, ◌++◌, ◌∷◌, [], IfOk, OnOk, OnErr};
+ghost use Rattle.ovn_base.specs.declared.limits.TheConstants.{MAX_ACL_PRIORITY};
 ghost use Rattle.ovn_base.specs.numbers.Steps.{after_steps};
 ghost use Rattle.logical_flows.specs.declared.unit.UnitId.TheVariants.{Rule};
 ghost use Rattle.stage_rows.specs.Admitting.{AdmitsRule};
@@ -67,7 +68,7 @@ fn rule_stage(way: Direction) -> Stage
 
 // The row of the rule.
 pub(crate) fn rule_row(alloc: Global, rule: &Acl) -> Result<LFlow, NoMemory>
-    requires { rule.now.priority ≤ 32767 }
+    requires { rule.now.priority ≤ MAX_ACL_PRIORITY }
     ensures { IfOk result (λ f. f ≡ spec.rule_row rule.now) }
 {
     let stage = rule_stage(rule.direction);

@@ -1,5 +1,6 @@
 //! Rows of rules are as the table of stages writes them.
 ghost use Rattle.std.specs.Prelude.{◌≤◌};
+ghost use Rattle.ovn_base.specs.declared.limits.TheConstants.{MAX_ACL_PRIORITY};
 
 use crate::rule_unit::rule_row;
 use logical_flows::print_flow::print_flow;
@@ -7,6 +8,7 @@ use match_language::field::Direction;
 use match_language::reader::parse;
 use nb_records::rule::{Acl, RuleAction};
 use ovn_base::address::Birth;
+use ovn_base::limits::MAX_ACL_PRIORITY;
 use ovn_base::list::List;
 use ovn_base::name::Name;
 use std::alloc::Global;
@@ -20,7 +22,7 @@ fn prints(
     action: RuleAction,
     line: &str,
 ) -> Result<bool, Fail>
-    requires { priority ≤ 32767 }
+    requires { priority ≤ MAX_ACL_PRIORITY }
 {
     let (Some(name), Some(switch)) = (Name::read(b"a1"), Name::read(b"s0")) else {
         return Ok(false);
@@ -58,7 +60,15 @@ fn rows_set_the_verdict(rt: HostRuntime) -> Result<(), Fail> {
     );
     let line =
         "ingress s_acl_in priority=33767 rank=6 datapaths=s0 match=inport == \"p1\" && udp actions=set verdict=5;go 12\n";
-    assert!(rt; prints(alloc, Direction::FromLport, 32767, RuleAction::Drop, line)?);
+    assert!(rt;
+        prints(
+            alloc,
+            Direction::FromLport,
+            MAX_ACL_PRIORITY,
+            RuleAction::Drop,
+            line
+        )?
+    );
     let line =
         "egress s_acl_out priority=1000 rank=5 datapaths=s0 match=inport == \"p1\" && udp actions=set verdict=4;go 42\n";
     assert!(rt; prints(alloc, Direction::ToLport, 0, RuleAction::Reject, line)?);

@@ -9,7 +9,7 @@ use Rattle.std.proofs.lemmas.Slice.Eq.{bytes_eq-Decides}
 use Rattle.serde_json.specs.Data.{Data, array, Items, no_items, item}
 use Rattle.serde_json.specs.Events.{items_len}
 use Rattle.serde_json.specs.Find.{get, as_str, as_array}
-use Rattle.ovn_base.specs.declared.limits.TheConstants.{MAX_OPERATIONS}
+use Rattle.ovn_base.specs.declared.limits.TheConstants.{MAX_OPERATIONS, MAX_ACL_PRIORITY}
 use Rattle.ovn_base.specs.declared.name.Name.{Name}
 use Rattle.ovn_base.specs.names.NameText.{IsName, spelled_name}
 use Rattle.nb_records.specs.Grammar.{IfGiven, HasItsRouterPort, IsOfOne, IsInGrammar, kind_of_change, IsChangeInGrammar, IsOpInGrammar}
@@ -139,7 +139,7 @@ change_fits kind.RouterPort (mac, (networks, (peer, end))) f = (refl, (f.1.0, f.
 change_fits kind.SwitchPort (addresses, (port_security, (enabled, end))) f = (refl, (f.0, f.1.0))
 change_fits kind.AddressSet (addresses, end) f = (refl, f.0)
 change_fits kind.PortGroup (ports, end) f = (refl, f.0)
-change_fits kind.Acl (priority, (matching, (action, end))) f = (refl, (if_given (λ p. (0 ≤ p) × (p ≤ 32767)) (λ p. p ≤ 32767) (λ p h. h.1) priority f.0, f.1.0))
+change_fits kind.Acl (priority, (matching, (action, end))) f = (refl, (if_given (λ p. (0 ≤ p) × (p ≤ MAX_ACL_PRIORITY)) (λ p. p ≤ MAX_ACL_PRIORITY) (λ p h. h.1) priority f.0, f.1.0))
 change_fits kind.Route (prefix, (nexthop, end)) f = (refl, (f.0, f.1.0))
 change_fits kind.Nat (external_ip, (logical_ip, end)) f = (refl, (f.0, f.1.0))
 change_fits kind.LoadBalancer (vips, (switches, (routers, end))) f = (refl, (f.0, f.1.0, f.1.1.0))

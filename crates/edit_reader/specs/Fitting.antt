@@ -1,7 +1,7 @@
 -- What a line may ask for: its numbers, texts, lists and matches are in their ranges and grammars.
 use Rattle.std.specs.Prelude.{◌≤◌, ◌<◌, ◌^◌, ℕ, List, length}
 use Rattle.std.specs.List.{AllByRecursion}
-use Rattle.ovn_base.specs.declared.limits.TheConstants.{MAX_OPERATIONS, MAX_DATAPATH_KEY, MAX_PORT_KEY}
+use Rattle.ovn_base.specs.declared.limits.TheConstants.{MAX_OPERATIONS, MAX_DATAPATH_KEY, MAX_PORT_KEY, MAX_CLOCK}
 use Rattle.ovn_base.specs.names.NameText.{IsName}
 use Rattle.nb_records.specs.Grammar.{IsOpInGrammar, IsBackend}
 use Rattle.nb_records.specs.declared.change.Op.{Op}
@@ -47,7 +47,7 @@ IsEventInGrammar (event.AddChassis name) = IsName name
 IsEventInGrammar (event.RemoveChassis name) = IsName name
 IsEventInGrammar (event.Keys datapaths ports) = AreKeys datapaths ports
 IsEventInGrammar (event.Health balancer backend online) = IsName balancer × IsBackend backend
-IsEventInGrammar (event.Clock seconds) = seconds ≤ 1000000
+IsEventInGrammar (event.Clock seconds) = seconds ≤ MAX_CLOCK
 IsEventInGrammar (event.Inject port frame) = IsName port × AreBytes frame
 IsEventInGrammar (event.Deliver frame) = IsFrameNumber frame
 IsEventInGrammar (event.Lose frame) = IsFrameNumber frame

@@ -14,6 +14,7 @@ use Rattle.ovn_base.specs.declared.address.Cidr.{Cidr}
 use Rattle.ovn_base.specs.declared.address.Ip4.{Ip4}
 use Rattle.ovn_base.specs.declared.address.Mac.{Mac}
 use Rattle.ovn_base.specs.declared.address.SetEntry.{SetEntry}
+use Rattle.ovn_base.specs.declared.limits.TheConstants.{MAX_ACL_PRIORITY, MAX_DATAPATH_KEY, MAX_PORT_KEY, MAX_CLOCK}
 use Rattle.ovn_base.specs.declared.name.Name.{Name}
 use Rattle.ovn_base.specs.names.NameText.{spelled_name}
 use Rattle.nb_records.specs.declared.balancer.BalancerProtocol.{BalancerProtocol}
@@ -237,7 +238,7 @@ rows_of kind.Acl =
     fixed (codes "switch") (a_text names) (only_where is_of_switch)
     ∷ fixed (codes "port_group") (a_text names) (only_where is_of_group)
     ∷ fixed (codes "direction") (a_text directions) required
-    ∷ free (codes "priority") (a_number 0 32767) required
+    ∷ free (codes "priority") (a_number 0 MAX_ACL_PRIORITY) required
     ∷ free (codes "match") a_match required
     ∷ free (codes "action") (a_text actions) required
     ∷ []
@@ -276,8 +277,8 @@ bind_rows =
 
 abbrev pub key_rows : List Row
 key_rows =
-    fixed (codes "datapaths") (a_number 1 16777215) required
-    ∷ fixed (codes "ports") (a_number 1 32767) required
+    fixed (codes "datapaths") (a_number 1 MAX_DATAPATH_KEY) required
+    ∷ fixed (codes "ports") (a_number 1 MAX_PORT_KEY) required
     ∷ []
 
 abbrev pub health_rows : List Row
@@ -288,7 +289,7 @@ health_rows =
     ∷ []
 
 abbrev pub clock_rows : List Row
-clock_rows = fixed (codes "seconds") (a_number 0 1000000) required ∷ []
+clock_rows = fixed (codes "seconds") (a_number 0 MAX_CLOCK) required ∷ []
 
 abbrev pub entry_rows : List Row
 entry_rows =

@@ -2,7 +2,7 @@
 ghost use Rattle.std.specs.Prelude.{◌≡◌, ◌≤◌, ◌^◌, ◌-◌, ◌&&◌, nat_le, IfOk, IfSome, length};
 ghost use Rattle.serde_json.specs.View.{view};
 ghost use Rattle.match_language.specs.Nesting.{FitsLevels};
-ghost use Rattle.ovn_base.specs.declared.limits.TheConstants.{MAX_DEPTH};
+ghost use Rattle.ovn_base.specs.declared.limits.TheConstants.{MAX_DEPTH, MAX_ACL_PRIORITY, MAX_DATAPATH_KEY, MAX_PORT_KEY, MAX_CLOCK};
 ghost use Rattle.edit_reader.specs.Outcomes.{Gives};
 ghost use Rattle.edit_reader.specs.Fields as spec;
 ghost use Rattle.edit_reader.specs.Tables as tables;
@@ -15,6 +15,7 @@ use match_language::fault::ParseFault;
 use match_language::field::Direction;
 use match_language::reader::parse;
 use ovn_base::address::Cidr;
+use ovn_base::limits::{MAX_ACL_PRIORITY, MAX_CLOCK, MAX_DATAPATH_KEY, MAX_PORT_KEY};
 use ovn_base::list::List;
 use serde_json::Value;
 use std::alloc::Global;
@@ -65,63 +66,63 @@ fn number_in(
     }
 }
 
-/// Priorities of rules: 0 to 32,767.
+/// Priorities of rules: 0 to `MAX_ACL_PRIORITY`.
 pub struct Priority;
 
 impl Field for Priority {
     type Of = u16;
 
-    ghost reads = { λ _. spec.number_in 0 32767 };
+    ghost reads = { λ _. spec.number_in 0 MAX_ACL_PRIORITY };
 
-    ghost fits = { λ _ n. n ≤ 32767 };
+    ghost fits = { λ _ n. n ≤ MAX_ACL_PRIORITY };
 
     fn read(&self, alloc: Global, field: &str, value: &Value) -> Result<u16, ReadError> {
-        Ok(number_in(alloc, 0, 32767, field, value)? as u16)
+        Ok(number_in(alloc, 0, u64::from(MAX_ACL_PRIORITY), field, value)? as u16)
     }
 }
 
-/// The greatest datapath key: 1 to 16,777,215.
+/// The greatest datapath key: 1 to `MAX_DATAPATH_KEY`.
 pub struct DatapathKeys;
 
 impl Field for DatapathKeys {
     type Of = u32;
 
-    ghost reads = { λ _. spec.number_in 1 16777215 };
+    ghost reads = { λ _. spec.number_in 1 MAX_DATAPATH_KEY };
 
-    ghost fits = { λ _ n. n ≤ 16777215 };
+    ghost fits = { λ _ n. n ≤ MAX_DATAPATH_KEY };
 
     fn read(&self, alloc: Global, field: &str, value: &Value) -> Result<u32, ReadError> {
-        Ok(number_in(alloc, 1, 16777215, field, value)? as u32)
+        Ok(number_in(alloc, 1, u64::from(MAX_DATAPATH_KEY), field, value)? as u32)
     }
 }
 
-/// The greatest port key: 1 to 32,767.
+/// The greatest port key: 1 to `MAX_PORT_KEY`.
 pub struct PortKeys;
 
 impl Field for PortKeys {
     type Of = u16;
 
-    ghost reads = { λ _. spec.number_in 1 32767 };
+    ghost reads = { λ _. spec.number_in 1 MAX_PORT_KEY };
 
-    ghost fits = { λ _ n. n ≤ 32767 };
+    ghost fits = { λ _ n. n ≤ MAX_PORT_KEY };
 
     fn read(&self, alloc: Global, field: &str, value: &Value) -> Result<u16, ReadError> {
-        Ok(number_in(alloc, 1, 32767, field, value)? as u16)
+        Ok(number_in(alloc, 1, u64::from(MAX_PORT_KEY), field, value)? as u16)
     }
 }
 
-/// Seconds that pass: 0 to 1,000,000.
+/// Seconds that pass: 0 to `MAX_CLOCK`.
 pub struct Seconds;
 
 impl Field for Seconds {
     type Of = u64;
 
-    ghost reads = { λ _. spec.number_in 0 1000000 };
+    ghost reads = { λ _. spec.number_in 0 MAX_CLOCK };
 
-    ghost fits = { λ _ n. n ≤ 1000000 };
+    ghost fits = { λ _ n. n ≤ MAX_CLOCK };
 
     fn read(&self, alloc: Global, field: &str, value: &Value) -> Result<u64, ReadError> {
-        number_in(alloc, 0, 1000000, field, value)
+        number_in(alloc, 0, MAX_CLOCK, field, value)
     }
 }
 

@@ -1,5 +1,6 @@
 -- The names and the tables of pipelines and stages.
 use Rattle.std.specs.Prelude.{ℕ, if◌then◌else◌, nat_lt, List, codes}
+use Rattle.ovn_base.specs.declared.stages.TheConstants.{ADMIT_TABLE, PORT_SECURITY_TABLE, TRACK_TABLE, ACL_TABLE, STATE_TABLE, ARP_TABLE, LOOKUP_TABLE, EGRESS_TRACK_TABLE, EGRESS_ACL_TABLE, EGRESS_STATE_TABLE, EGRESS_SECURITY_TABLE, ROUTER_INPUT_TABLE, ROUTER_UNDO_TABLE, ROUTER_DNAT_TABLE, ROUTER_OWN_TABLE, ROUTER_ROUTE_TABLE, ROUTER_SNAT_TABLE, REMOTE_TABLE}
 use Rattle.logical_flows.specs.declared.stage.Pipeline.{Pipeline}
 use Rattle.logical_flows.specs.declared.stage.Pipeline.TheVariants.{Ingress, Egress}
 use Rattle.logical_flows.specs.declared.stage.Stage.{Stage}
@@ -33,27 +34,27 @@ stage_name stage.RouterSnat = codes "r_snat"
 
 -- the number of the stage's table
 abbrev pub stage_table : Stage → ℕ
-stage_table stage.SwitchAdmit = 8
-stage_table stage.SwitchPortSecurity = 9
-stage_table stage.SwitchTrack = 10
-stage_table stage.SwitchAclIn = 11
-stage_table stage.SwitchStateIn = 12
-stage_table stage.SwitchArp = 13
-stage_table stage.SwitchLookup = 14
-stage_table stage.SwitchTrackOut = 40
-stage_table stage.SwitchAclOut = 41
-stage_table stage.SwitchStateOut = 42
-stage_table stage.SwitchSecurityOut = 43
-stage_table stage.RouterAdmit = 8
-stage_table stage.RouterInput = 9
-stage_table stage.RouterUndo = 10
-stage_table stage.RouterDnat = 11
-stage_table stage.RouterOwn = 12
-stage_table stage.RouterRoute = 13
-stage_table stage.RouterNeighbour = 14
-stage_table stage.RouterFind = 40
-stage_table stage.RouterSnat = 41
+stage_table stage.SwitchAdmit = ADMIT_TABLE
+stage_table stage.SwitchPortSecurity = PORT_SECURITY_TABLE
+stage_table stage.SwitchTrack = TRACK_TABLE
+stage_table stage.SwitchAclIn = ACL_TABLE
+stage_table stage.SwitchStateIn = STATE_TABLE
+stage_table stage.SwitchArp = ARP_TABLE
+stage_table stage.SwitchLookup = LOOKUP_TABLE
+stage_table stage.SwitchTrackOut = EGRESS_TRACK_TABLE
+stage_table stage.SwitchAclOut = EGRESS_ACL_TABLE
+stage_table stage.SwitchStateOut = EGRESS_STATE_TABLE
+stage_table stage.SwitchSecurityOut = EGRESS_SECURITY_TABLE
+stage_table stage.RouterAdmit = ADMIT_TABLE
+stage_table stage.RouterInput = ROUTER_INPUT_TABLE
+stage_table stage.RouterUndo = ROUTER_UNDO_TABLE
+stage_table stage.RouterDnat = ROUTER_DNAT_TABLE
+stage_table stage.RouterOwn = ROUTER_OWN_TABLE
+stage_table stage.RouterRoute = ROUTER_ROUTE_TABLE
+stage_table stage.RouterNeighbour = LOOKUP_TABLE
+stage_table stage.RouterFind = EGRESS_TRACK_TABLE
+stage_table stage.RouterSnat = ROUTER_SNAT_TABLE
 
--- the pipeline on which the stage lies: tables up to 14 are those of ingress
+-- the pipeline on which the stage lies: the tables before those of frames are of ingress
 abbrev pub stage_pipeline : Stage → Pipeline
-stage_pipeline s = if nat_lt (stage_table s) 32 then Ingress else Egress
+stage_pipeline s = if nat_lt (stage_table s) REMOTE_TABLE then Ingress else Egress

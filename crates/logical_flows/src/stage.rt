@@ -2,6 +2,13 @@
 ghost use Rattle.std.specs.Prelude.{◌≡◌};
 ghost use Rattle.logical_flows.specs.Stages as spec;
 
+use ovn_base::stages::{
+    ACL_TABLE, ADMIT_TABLE, ARP_TABLE, EGRESS_ACL_TABLE, EGRESS_SECURITY_TABLE, EGRESS_STATE_TABLE,
+    EGRESS_TRACK_TABLE, LOOKUP_TABLE, PORT_SECURITY_TABLE, REMOTE_TABLE, ROUTER_DNAT_TABLE,
+    ROUTER_INPUT_TABLE, ROUTER_OWN_TABLE, ROUTER_ROUTE_TABLE, ROUTER_SNAT_TABLE, ROUTER_UNDO_TABLE,
+    STATE_TABLE, TRACK_TABLE,
+};
+
 /// The way through a switch or router on which a stage lies.
 #[derive(Clone, Copy, PartialEq, Eq, Hash, Debug)]
 pub enum Pipeline {
@@ -102,17 +109,23 @@ impl Stage {
         ensures { result ≡ spec.stage_table self }
     {
         match self {
-            Stage::SwitchAdmit | Stage::RouterAdmit => 8,
-            Stage::SwitchPortSecurity | Stage::RouterInput => 9,
-            Stage::SwitchTrack | Stage::RouterUndo => 10,
-            Stage::SwitchAclIn | Stage::RouterDnat => 11,
-            Stage::SwitchStateIn | Stage::RouterOwn => 12,
-            Stage::SwitchArp | Stage::RouterRoute => 13,
-            Stage::SwitchLookup | Stage::RouterNeighbour => 14,
-            Stage::SwitchTrackOut | Stage::RouterFind => 40,
-            Stage::SwitchAclOut | Stage::RouterSnat => 41,
-            Stage::SwitchStateOut => 42,
-            Stage::SwitchSecurityOut => 43,
+            Stage::SwitchAdmit | Stage::RouterAdmit => ADMIT_TABLE,
+            Stage::SwitchPortSecurity => PORT_SECURITY_TABLE,
+            Stage::SwitchTrack => TRACK_TABLE,
+            Stage::SwitchAclIn => ACL_TABLE,
+            Stage::SwitchStateIn => STATE_TABLE,
+            Stage::SwitchArp => ARP_TABLE,
+            Stage::RouterInput => ROUTER_INPUT_TABLE,
+            Stage::RouterUndo => ROUTER_UNDO_TABLE,
+            Stage::RouterDnat => ROUTER_DNAT_TABLE,
+            Stage::RouterOwn => ROUTER_OWN_TABLE,
+            Stage::RouterRoute => ROUTER_ROUTE_TABLE,
+            Stage::SwitchLookup | Stage::RouterNeighbour => LOOKUP_TABLE,
+            Stage::SwitchTrackOut | Stage::RouterFind => EGRESS_TRACK_TABLE,
+            Stage::SwitchAclOut => EGRESS_ACL_TABLE,
+            Stage::SwitchStateOut => EGRESS_STATE_TABLE,
+            Stage::SwitchSecurityOut => EGRESS_SECURITY_TABLE,
+            Stage::RouterSnat => ROUTER_SNAT_TABLE,
         }
     }
 
@@ -120,7 +133,7 @@ impl Stage {
     pub fn pipeline(self) -> Pipeline
         ensures { result ≡ spec.stage_pipeline self }
     {
-        if self.table() < 32 {
+        if self.table() < REMOTE_TABLE {
             Pipeline::Ingress
         } else {
             Pipeline::Egress

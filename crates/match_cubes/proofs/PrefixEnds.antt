@@ -135,13 +135,6 @@ powers i w h (inr l) = omega (arith, ap (λ (k : ℕ). 2 ^ k) (same_from_le i w 
 pub shifts_order : (i w : ℕ) → w ≤ 48 → i ≤ w → 1 * 2 ^ i % 2 ^ 64 ≤ 1 * 2 ^ w % 2 ^ 64
 shifts_order i w h k = omega (arith, shifted i (omega arith), shifted w h, powers i w k (cases_lt i w))
 
--- the mask of a prefix of 32 bits
-pub mask_room : (i : ℕ) → i ≤ 32 → 1 * 2 ^ i % 2 ^ 64 ≤ 4294967296
-mask_room i h = shifts_order i 32 (omega arith) h
-
-pub mask_shifted : (i : ℕ) → i ≤ 32 → 1 * 2 ^ i % 2 ^ 64 ≡ 2 ^ i
-mask_shifted i h = shifted i (omega arith)
-
 -- ---- how many there are
 
 pub count_less : (w : ℕ) (rel : Rel) (v : ℕ) → rel ≡ r.Lt → v < 2 ^ w → count_ones v ≡ length (prefixes w rel v)

@@ -1,6 +1,5 @@
 //! The values that sets, groups and ports stand for.
-ghost use Rattle.std.specs.Prelude.{◌≡◌, ◌≤◌, ◌++◌, IfOk, OnOk, map};
-ghost use Rattle.match_language.specs.Constants.{prefix_mask};
+ghost use Rattle.std.specs.Prelude.{◌≡◌, ◌++◌, IfOk, OnOk, map};
 ghost use Rattle.match_cubes.specs.Points as spec;
 
 use crate::asked::width;
@@ -9,19 +8,12 @@ use crate::ternary::under;
 use inet_packet::cube::Bits;
 use match_language::expr::Value;
 use match_language::field::Field;
+use match_language::prefix::prefix_mask;
 use ovn_base::list::List;
 use ovn_base::memory::NoMemory;
 use ovn_base::name::Name;
 use ovn_base::ports::Ports;
 use std::alloc::Global;
-
-/// The mask of a prefix of so many bits of 32.
-#[tactic(auto, using(crate::proofs::PrefixEnds::mask_room, crate::proofs::PrefixEnds::mask_shifted))]
-pub(crate) fn mask_of(len: u8) -> u64
-    ensures { result ≡ prefix_mask len }
-{
-    (1 << 32) - (1 << 32u32.saturating_sub(u32::from(len)))
-}
 
 // The entry as a value of the field, if it is an address of the field's kind.
 fn entry_bits(field: Field, entry: &SetEntry) -> Option<Bits>
@@ -30,7 +22,7 @@ fn entry_bits(field: Field, entry: &SetEntry) -> Option<Bits>
     match entry {
         SetEntry::Ip(cidr) => {
             if width(field) == 32 {
-                Some(under(u64::from(cidr.addr.0), mask_of(cidr.len)))
+                Some(under(u64::from(cidr.addr.0), prefix_mask(u64::from(cidr.len))))
             } else {
                 None
             }

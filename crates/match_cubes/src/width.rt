@@ -8,11 +8,11 @@ ghost use Rattle.match_cubes.specs.Width.{saturated};
 
 use crate::asked::width as field_width;
 use crate::inwards::turned_rel;
-use crate::points::mask_of;
 use crate::ranges::prefix_count;
 use crate::sets::{SetEntry, SetSource};
 use match_language::expr::{Expr, Rel, Value};
 use match_language::field::{Field, Predicate};
+use match_language::prefix::prefix_mask;
 use ovn_base::name::Name;
 
 // A width with a value of so many bits more.
@@ -32,7 +32,7 @@ fn entry_weight(field: Field, entry: &SetEntry) -> u32
     match entry {
         SetEntry::Ip(cidr) => {
             if field_width(field) == 32 {
-                mask_of(cidr.len).count_ones()
+                prefix_mask(u64::from(cidr.len)).count_ones()
             } else {
                 1
             }

@@ -171,11 +171,3 @@ pub(crate) fn dotted_value(word: &[u8]) -> Option<u64>
         None
     }
 }
-
-/// The number with this many high bits of 32 set.
-pub(crate) fn prefix_mask(len: u64) -> u64
-    requires { len ≤ 32 }
-    ensures { result ≡ spec.prefix_mask len }
-{
-    (1 << 32) - (1 << (32 - len))
-}

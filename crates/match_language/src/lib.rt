@@ -7,6 +7,7 @@ pub mod exact;
 pub mod expr;
 pub mod fault;
 pub mod field;
+pub mod prefix;
 pub mod printer;
 pub mod reader;
 mod token;

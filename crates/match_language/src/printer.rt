@@ -8,9 +8,9 @@ ghost use Rattle.match_language.specs.Spelling as spec;
 ghost use Rattle.match_language.specs.declared.field.Direction.{Direction};
 ghost use Rattle.match_language.specs.Spelling.{spelling, inner_spelling};
 
-use crate::constant::prefix_mask;
 use crate::expr::{Expr, Rel, Value};
 use crate::field::Field;
+use crate::prefix::prefix_mask;
 use ovn_base::address::{Ip4, Mac};
 use ovn_base::memory::NoMemory;
 use ovn_base::number::push_number;

@@ -6,11 +6,11 @@ ghost use Rattle.match_language.specs.Values as values;
 ghost use Rattle.match_language.specs.Tables.{is_address};
 ghost use Rattle.match_language.specs.Input.{token};
 
-use crate::constant::prefix_mask;
 use crate::cursor::Cursor;
 use crate::expr::{Expr, Rel, Value};
 use crate::fault::{MatchFault, ParseFault};
 use crate::field::Field;
+use crate::prefix::prefix_mask;
 use crate::token::Token;
 use ovn_base::list::List;
 use std::alloc::Global;

@@ -8,7 +8,7 @@ use Rattle.match_language.specs.Nesting.{FitsLevels}
 use Rattle.match_language.specs.declared.expr.Expr.{Expr}
 use Rattle.match_language.specs.declared.field.Direction.{Direction}
 use Rattle.match_language.specs.declared.field.Direction.TheVariants as way
-use Rattle.ovn_base.specs.declared.limits.TheConstants.{MAX_DEPTH}
+use Rattle.ovn_base.specs.declared.limits.TheConstants.{MAX_DEPTH, MAX_ACL_PRIORITY}
 use Rattle.ovn_base.specs.declared.name.Name.{Name}
 use Rattle.ovn_base.specs.names.ByName.{at, IsByName}
 use Rattle.ovn_base.specs.names.NameText.{IsName}
@@ -187,11 +187,11 @@ changed_fits (change.SwitchPort addresses port_security enabled) (row.SwitchPort
 changed_fits (change.AddressSet addresses) (row.AddressSet r) f g none = record { name = f.name; addresses = given_or _ addresses r.addresses g f.addresses }
 changed_fits (change.PortGroup ports) (row.PortGroup r) f g none = record { name = f.name; ports = given_or _ ports r.ports g f.ports }
 changed_fits (change.Acl priority None action) (row.Acl r) f g none = (
-  record { name = f.0.name; scope = f.0.scope; priority = given_or (λ p. p ≤ 32767) priority r.priority g.0 f.0.priority; matching = f.0.matching },
+  record { name = f.0.name; scope = f.0.scope; priority = given_or (λ p. p ≤ MAX_ACL_PRIORITY) priority r.priority g.0 f.0.priority; matching = f.0.matching },
   f.1,
 )
 changed_fits (change.Acl priority (Some matching) action) (row.Acl r) f g none = (
-  record { name = f.0.name; scope = f.0.scope; priority = given_or (λ p. p ≤ 32767) priority r.priority g.0 f.0.priority; matching = g.1 },
+  record { name = f.0.name; scope = f.0.scope; priority = given_or (λ p. p ≤ MAX_ACL_PRIORITY) priority r.priority g.0 f.0.priority; matching = g.1 },
   directed_by r.direction matching g.1 none,
 )
 changed_fits (change.Route prefix nexthop) (row.Route r) f g none = record { name = f.name; router = f.router; prefix = given_or _ prefix r.prefix g.0 f.prefix; nexthop = given_or _ nexthop r.nexthop g.1 f.nexthop }

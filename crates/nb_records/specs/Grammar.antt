@@ -9,7 +9,7 @@ use Rattle.ovn_base.specs.declared.address.Cidr.{Cidr}
 use Rattle.ovn_base.specs.declared.address.Ip4.{Ip4}
 use Rattle.ovn_base.specs.declared.address.SetEntry.{SetEntry}
 use Rattle.ovn_base.specs.declared.address.SetEntry.TheVariants as entry
-use Rattle.ovn_base.specs.declared.limits.TheConstants.{MAX_DEPTH}
+use Rattle.ovn_base.specs.declared.limits.TheConstants.{MAX_DEPTH, MAX_ACL_PRIORITY}
 use Rattle.ovn_base.specs.declared.name.Name.{Name}
 use Rattle.ovn_base.specs.names.NameText.{IsName}
 use Rattle.nb_records.specs.Network.{backend_cmp}
@@ -131,7 +131,7 @@ pub record IsPortGroup (r : PortGroup) : Type 0 where
 pub record IsAcl (r : Acl) : Type 0 where
   pub name : IsName r.name
   pub scope : IsOfOne r.switch r.port_group
-  pub priority : r.priority ≤ 32767
+  pub priority : r.priority ≤ MAX_ACL_PRIORITY
   pub matching : FitsLevels way.ToLport MAX_DEPTH r.matching
 
 -- the match of a from-lport rule names no port of exit
@@ -199,7 +199,7 @@ IsChangeInGrammar (change.RouterPort mac networks peer) = IfGiven AreNetworks ne
 IsChangeInGrammar (change.SwitchPort addresses port_security enabled) = IfGiven (AllByRecursion IsPortAddress) addresses × IfGiven (AllByRecursion IsSecurityEntry) port_security
 IsChangeInGrammar (change.AddressSet addresses) = IfGiven (AllByRecursion IsSetEntry) addresses
 IsChangeInGrammar (change.PortGroup ports) = IfGiven AreNames ports
-IsChangeInGrammar (change.Acl priority matching action) = IfGiven (λ p. p ≤ 32767) priority × IfGiven (FitsLevels way.ToLport MAX_DEPTH) matching
+IsChangeInGrammar (change.Acl priority matching action) = IfGiven (λ p. p ≤ MAX_ACL_PRIORITY) priority × IfGiven (FitsLevels way.ToLport MAX_DEPTH) matching
 IsChangeInGrammar (change.Route prefix nexthop) = IfGiven IsCidr prefix × IfGiven IsIp4 nexthop
 IsChangeInGrammar (change.Nat external_ip logical_ip) = IfGiven IsIp4 external_ip × IfGiven IsCidr logical_ip
 IsChangeInGrammar (change.LoadBalancer vips switches routers) = IfGiven AreVips vips × IfGiven AreNames switches × IfGiven AreNames routers

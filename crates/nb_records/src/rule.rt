@@ -44,7 +44,7 @@ pub struct Acl {
     pub switch: Option<Name>,
     pub port_group: Option<Name>,
     pub direction: Direction,
-    /// 0 to 32,767; the greater one wins.
+    /// 0 to `MAX_ACL_PRIORITY`; the greater one wins.
     pub priority: u16,
     pub matching: Expr,
     pub action: RuleAction,

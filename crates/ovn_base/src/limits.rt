@@ -51,6 +51,12 @@ pub const MAX_DATAPATH_KEY: u32 = 16_777_215;
 /// The greatest key of a port, of 15 bits.
 pub const MAX_PORT_KEY: u16 = 32_767;
 
+/// The greatest priority of a rule, of 15 bits.
+pub const MAX_ACL_PRIORITY: u16 = 32_767;
+
+/// The most seconds that pass in one event.
+pub const MAX_CLOCK: u64 = 1_000_000;
+
 /// The key of all ports of a switch.
 pub const FLOOD_KEY: u16 = 32_768;
 

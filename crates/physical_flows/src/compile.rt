@@ -1,9 +1,7 @@
 //! The flows of a chassis around its pipelines, from the records, the keys and the homes.
 ghost use Rattle.std.specs.Prelude.{◌≡◌, ◌++◌, [], ◌∷◌, map, Some, IfOk, OnOk};
-ghost use Rattle.std.specs.List.{list_any};
 ghost use Rattle.std.specs.Option.{option_copied, option_map};
 ghost use Rattle.ovn_base.specs.names.ByName.{at, IsByName};
-ghost use Rattle.ovn_base.specs.names.SameName.{same_name};
 ghost use Rattle.physical_flows.specs.Around.{around_everywhere};
 ghost use Rattle.nb_records.specs.Routers.{switch_side, router_side, partner_of_switch_port, partner_of_router_port, switch_port_before, peer_by};
 ghost use Rattle.nb_records.specs.Switches.{is_virtual, router_port_behind};
@@ -182,7 +180,7 @@ impl Maps<'_> {
     fn is_other(&self, chassis: &Name, homes: &[Name]) -> bool
         ensures { result ≡ is_other_among (basis_of self.now) homes.now chassis.now }
     {
-        *chassis != self.chassis && has_name(homes, chassis)
+        *chassis != self.chassis && is_named(homes, chassis)
     }
 
     // Adds the rows of a group of a switch, which has these ports.
@@ -585,11 +583,4 @@ fn port_before<'a>(records: &'a Records, port: &RouterPort) -> Option<&'a Switch
         }
     }
     None
-}
-
-// Whether the name is in the list.
-fn has_name(names: &[Name], name: &Name) -> bool
-    ensures { result ≡ list_any (λ other. same_name other name.now) names.now }
-{
-    names.iter().any(|other| *other == *name)
 }

@@ -1,10 +1,10 @@
 //! The terms of which the matches of rows are made.
-ghost use Rattle.std.specs.Prelude.{◌≡◌, ◌≤◌, ◌∷◌, ◌^◌, ◌-◌, [], IfOk};
-ghost use Rattle.match_language.specs.Constants.{prefix_mask};
+ghost use Rattle.std.specs.Prelude.{◌≡◌, ◌∷◌, [], IfOk};
 ghost use Rattle.stage_rows.specs.Rows as spec;
 
 use match_language::expr::{Expr, Rel, Value};
 use match_language::field::{Field, Predicate};
+use match_language::prefix::prefix_mask;
 use ovn_base::address::{Cidr, Ip4, Mac};
 use ovn_base::boxed::Boxed;
 use ovn_base::list::List;
@@ -90,26 +90,11 @@ pub fn has_bit(alloc: Global, field: Field, bit: u64) -> Result<Expr, NoMemory>
 
 // ---- prefixes
 
-// The 32 bits without so many low ones.
-fn bits_without(low: u32) -> u64
-    requires { low ≤ 32 }
-    ensures { result ≡ 2 ^ 32 - 2 ^ low }
-{
-    (1 << 32) - (1 << low)
-}
-
-// The mask of a prefix.
-fn mask_of(len: u8) -> u64
-    ensures { result ≡ prefix_mask len }
-{
-    bits_without(32_u32.saturating_sub(u32::from(len)))
-}
-
 // The prefix as a value of a field.
 fn prefix_value(prefix: Cidr) -> Value
     ensures { result ≡ spec.prefix_value prefix }
 {
-    let mask = mask_of(prefix.len);
+    let mask = prefix_mask(u64::from(prefix.len));
     Value::Number {
         bits: u64::from(prefix.addr.0) & mask,
         mask,

@@ -17,6 +17,7 @@ use Rattle.sim_laws.proofs.journey_laws.Ticking.{looked_over, ticks, zone_then}
 use Rattle.sim_laws.specs.journeys.SeenLists.{lists_seen}
 use Rattle.sim_laws.specs.journeys.Ticking.{all_zones_expired}
 use Rattle.sim_laws.specs.journeys.UnderWay.{IsUnderWay}
+use Rattle.ovn_base.specs.declared.limits.TheConstants.{MAX_CLOCK}
 use Rattle.ovn_base.specs.names.SameName.{same_name}
 use Rattle.switch_engine.specs.Zones.{ZoneLists, all_expired, zone_at}
 use Rattle.world_core.proofs.PacketEvents.{counted_world}
@@ -49,14 +50,14 @@ clock_lists zones now seconds s chassis lists is z = by (sim.at_name s.zones cha
         ∙ ap (λ (o : Option ZoneLists). option_map (expired (now + seconds)) (option_and_then (λ (l : ZoneLists). zone_at l z) o)) (sym was)
 
 -- the event is accepted, and leaves a sound world
-pub clock_taken : (old : WorldView) (seconds : ℕ) → IsSound old → event_count old.state < 2 ^ 42 → seconds ≤ 1000000 → (before text : List ℕ) → text ≡ before ++ accepted_lines (event_count old.state + 1) [] 0
+pub clock_taken : (old : WorldView) (seconds : ℕ) → IsSound old → event_count old.state < 2 ^ 42 → seconds ≤ MAX_CLOCK → (before text : List ℕ) → text ≡ before ++ accepted_lines (event_count old.state + 1) [] 0
     → IsAccepted old (event_of.Clock seconds) before text (counted_world (clocked_world old seconds) []) × IsSound (counted_world (clocked_world old seconds) [])
 clock_taken old seconds sound room few before text lines =
     let m = old.state in
     let next = clocked seconds m in
     let left = ticked m old.zones old.sim seconds sound.consistent sound.held in
     let end = finishes next old.zones (sets_of m.config.net) 0 (all_zones_expired (m.clock + seconds) old.sim) left.0 (omega arith) room left.1 in
-    let clock : m.clock ≤ 1000000 * event_count m = sound.consistent.clock in (
+    let clock : m.clock ≤ MAX_CLOCK * event_count m = sound.consistent.clock in (
       record { admitted = refl; effects = []; step = record { mid = next; does = (refl, refl); state = refl }; passed = refl; zones = refl; lists = λ none. clock_lists old.zones m.clock seconds old.sim; text = lines },
       record { whole = refl; consistent = record { at_rest = end.0; marks = sound.consistent.marks; clock = omega (arith, clock, few); lists = clocked_keep seconds m sound.consistent.lists }; held = end.1 },
     )

@@ -15,6 +15,7 @@ use Rattle.inet_packet.specs.declared.packet.Packet as inet
 use Rattle.nb_edits.specs.EditLeaves.{AreListed}
 use Rattle.net_model.specs.Journey.{arrive_all, arrive_one, enter_and_arrive, enter_one, lose_one}
 use Rattle.net_model.specs.State.{State, event_count, finished}
+use Rattle.ovn_base.specs.declared.limits.TheConstants.{MAX_CLOCK}
 use Rattle.ovn_base.specs.declared.name.Name.{Name}
 use Rattle.sim_laws.proofs.journey_laws.Draining.{effects_append}
 use Rattle.sim_laws.proofs.journey_laws.Finishing.{begins, finishes}
@@ -53,7 +54,7 @@ finish_done old event effects walks mid new more count few t room still does pas
     let whole : mid.whole ≡ false = ap (λ (w : WorldView). w.whole) rest ∙ t.taken in
     let zoned : mid.zones ≡ old.zones = ap (λ (w : WorldView). w.zones) rest in
     let marks : AreListed mid.state.config.net = subst (λ (m : State). AreListed m.config.net) (sym still) t.consistent.marks in
-    let clock : mid.state.clock ≤ 1000000 * event_count mid.state = subst (λ (m : State). m.clock ≤ 1000000 * event_count m) (sym still) t.consistent.clock in
+    let clock : mid.state.clock ≤ MAX_CLOCK * event_count mid.state = subst (λ (m : State). m.clock ≤ MAX_CLOCK * event_count m) (sym still) t.consistent.clock in
     record {
       step = record { mid = mid.state; does = does; state = ap (λ (w : WorldView). w.state) then };
       passed = subst (λ s. Passes of_program old.state.clock old.sim event (record { effects = effects; walks = walks }) s) (sym (ap (λ (w : WorldView). w.sim) then)) passes;

@@ -1,6 +1,7 @@
 //! The state of the network and of its chassis, and its steps.
 ghost use Rattle.std.specs.Prelude.{◌-◌, ◌≡◌, ◌+◌, ◌<◌, ◌≤◌, ◌^◌, ◌++◌, ◌↔◌, [], ◌∷◌, None, Some, true, false, min, length, slice_get, IsTrue, IfErr, IfOk, OnOk, OnErr, List};
 ghost use Rattle.std.specs.Option.{option_copied};
+ghost use Rattle.ovn_base.specs.declared.limits.TheConstants.{MAX_CLOCK};
 ghost use Rattle.ovn_base.specs.lists.Once.{EachOnce};
 ghost use Rattle.chassis_sim.specs.State.{flow_at, at_name};
 ghost use Rattle.flow_table.specs.declared.flow.Flow.{Flow};
@@ -288,7 +289,7 @@ impl World {
     fn tick(&mut self, seconds: u64)
         requires taken { IsTaken self.old }
         requires room { event_count self.old.state < 2 ^ 42 }
-        requires few { seconds ≤ 1000000 }
+        requires few { seconds ≤ MAX_CLOCK }
         ensures { self.new ≡ clocked_world self.old seconds }
     {
         self.clock += seconds;
@@ -299,7 +300,7 @@ impl World {
     fn take_clock(&mut self, seconds: u64, text: &mut Vec<u8>) -> Result<(), StepFault>
         requires sound { IsSound self.old }
         requires room { event_count self.old.state < 2 ^ 42 }
-        requires few { seconds ≤ 1000000 }
+        requires few { seconds ≤ MAX_CLOCK }
         ensures { Outcome result self.old (event_of.Clock seconds) text.old.items text.new.items self.new }
     {
         accepted(&[], 0, self.accepted + self.refused + 1, text)?;

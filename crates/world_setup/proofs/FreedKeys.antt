@@ -1,6 +1,7 @@
 -- A state stays consistent where retired keys are given up because nothing waits.
 use Rattle.std.specs.Prelude.{◌≡◌, ◌+◌, ◌*◌, ◌≤◌, ℕ, List, [], ◌∷◌, refl}
 use Rattle.std.proofs.Common.{arith, subst}
+use Rattle.ovn_base.specs.declared.limits.TheConstants.{MAX_CLOCK}
 use Rattle.ovn_base.specs.lists.Among.{Among}
 use Rattle.ovn_base.proofs.AmongLaws.{among_none}
 use Rattle.conn_zones.specs.Zoning.{Zoned}
@@ -67,7 +68,7 @@ module _ (c : State) (zones : Zoned) (old : IsAtRest c zones) where
   settles = by_waiting c.waiting refl
 
 -- with one event more the clock is still where it may be
-pub clock_still : (clock accepted refused : ℕ) → clock ≤ 1000000 * (accepted + refused) → clock ≤ 1000000 * (accepted + 1 + refused)
+pub clock_still : (clock accepted refused : ℕ) → clock ≤ MAX_CLOCK * (accepted + refused) → clock ≤ MAX_CLOCK * (accepted + 1 + refused)
 clock_still clock accepted refused h = omega (arith, h)
 
 pub finished_consistent : (m : State) (zones : Zoned) → IsConsistent (counted m) zones → IsConsistent (finished m) zones
