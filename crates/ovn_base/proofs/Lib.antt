@@ -8,6 +8,7 @@ pub mod DecimalLemmas
 pub mod JoinedLemmas
 pub mod MacLemmas
 pub mod NameLemmas
+mod NameOrder
 pub mod Exact
 pub mod SeparatorLaws
 pub mod WhereToldLaws

@@ -115,6 +115,18 @@ impl PartialOrd for Name {
     }
 }
 
+// The order of two texts, byte by byte: that of the first bytes that differ, or else of the lengths.
+fn order_of(text: &[u8], other: &[u8]) -> Ordering
+    ensures { result ≡ slice_cmp nat_cmp text.now other.now }
+{
+    'bytes: for at in 0..text.len().min(other.len()) {
+        if text[at] != other[at] {
+            return text[at].cmp(&other[at]);
+        }
+    }
+    text.len().cmp(&other.len())
+}
+
 impl Ord for Name {
     ghost cmp = { slice_cmp nat_cmp };
 
@@ -125,7 +137,7 @@ impl Ord for Name {
     ghost matches_eq = { texts_ties };
 
     fn cmp(&self, other: &Self) -> Ordering {
-        self.text().cmp(other.text())
+        order_of(self.text(), other.text())
     }
 }
 
