@@ -1,6 +1,5 @@
 //! How zones get numbers.
-ghost use Rattle.std.specs.Prelude.{◌≡◌, ◌++◌, ◌∷◌, ◌<◌, ◌≤◌, [], IfOk, OnOk, cond, length};
-ghost use Rattle.std.specs.List.Sorted.{IsNonDecreasing, IsPermutation};
+ghost use Rattle.std.specs.Prelude.{◌≡◌, ◌↔◌, ◌++◌, ◌∷◌, ◌<◌, ◌≤◌, ℕ, [], IfOk, OnOk, cond, false, get_or, length, true};
 ghost use Rattle.ovn_base.specs.lists.Among.{Among};
 ghost use Rattle.ovn_base.specs.names.SameName.{same_name};
 ghost use Rattle.conn_zones.specs.declared.numbers.TheConstants.{MAX_ZONE};
@@ -50,33 +49,35 @@ fn numbers_of(alloc: Global, numbers: &ZoneNumbers, chassis: &Name) -> Result<Li
     Ok(taken)
 }
 
-// The numbers, the least first.
-fn in_rising_order(alloc: Global, numbers: &[u16]) -> Result<Vec<u16>, NoMemory>
-    ensures rising { IfOk result (λ v. IsNonDecreasing v.items) }
-    ensures same { IfOk result (λ v. IsPermutation numbers.now v.items) }
+// Of each number below the end, whether it is one of these.
+fn marks_below(alloc: Global, end: usize, numbers: &[u16]) -> Result<Vec<bool>, NoMemory>
+    ensures each { IfOk result (λ marks. length marks.items ≡ end) }
+    ensures marked { IfOk result (λ marks. (m : ℕ) → m < end → (get_or marks.items m false ≡ true) ↔ Among m numbers.now) }
 {
-    let mut rising = Vec::from_slice(alloc, numbers)?;
-    rising.sort_unstable();
-    Ok(rising)
-}
-
-// The least number from 1 on that isn't one of these, which rise.
-fn least_free(rising: &[u16]) -> u16
-    requires rising { IsNonDecreasing rising.now }
-    requires few { length rising.now < MAX_ZONE }
-    ensures least { IsLeastFree (λ m. Among m rising.now) result }
-    ensures few { result ≤ MAX_ZONE }
-{
-    let mut free = 1;
-    'rising: for number in rising {
-        if free < *number {
-            return free;
-        }
-        if free == *number {
-            free += 1;
+    let mut marks = vec![in alloc; false; end]?;
+    'numbers: for number in numbers {
+        let at = usize::from(*number);
+        if at < end {
+            marks[at] = true;
         }
     }
-    free
+    Ok(marks)
+}
+
+// The least number from 1 on that isn't one of these: they are too few to take all up to one more than their count.
+fn least_free(alloc: Global, numbers: &[u16]) -> Result<u16, NoMemory>
+    requires few { length numbers.now < MAX_ZONE }
+    ensures least { IfOk result (IsLeastFree (λ m. Among m numbers.now)) }
+    ensures few { IfOk result (λ n. n ≤ MAX_ZONE) }
+{
+    let end = numbers.len() + 2;
+    let taken = marks_below(alloc, end, numbers)?;
+    'free: for free in 1..end {
+        if !taken[free] {
+            return Ok(free as u16);
+        }
+    }
+    unreachable!()
 }
 
 impl ZoneNumbers {
@@ -104,8 +105,7 @@ fn give(
     ensures { OnOk result (IsGivenOne numbers.old zone.now chassis.now numbers.new) }
 {
     let taken = numbers_of(alloc, numbers, chassis)?;
-    let rising = in_rising_order(alloc, taken.as_slice())?;
-    let number = least_free(rising.as_slice());
+    let number = least_free(alloc, taken.as_slice())?;
     let place = ZonePlace {
         chassis: *chassis,
         number,

@@ -64,7 +64,7 @@ impl<V> NameMap<V> {
         ensures found { IfOk result (IsPlaceAt self.now name.now) }
         ensures absent { IfErr result (IsGapAt self.now name.now) }
     {
-        self.entries.binary_search_by_key(name, |entry| entry.0)
+        self.entries.binary_search_by(|entry| entry.0.cmp(name))
     }
 }
 
