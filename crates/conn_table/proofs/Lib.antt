@@ -5,3 +5,4 @@ pub mod ZoneLaws
 pub mod FindLaws
 pub mod TranslateLaws
 pub mod CommitLaws
+pub mod HeldPortsLaws

@@ -44,7 +44,7 @@ module _ (list after : ConnectionList) (fs gs : List (Tuple × Tuple)) (from bac
   added_new = at_among after from (begun from back now) (entries from ∙ cond-true (is_at (tuple_cmp from) from) (Some (begun from back now)) (at list from) (own_by_cmp from))
 
   -- the others stay
-  added_kept : (t : Tuple) (e : Entry) → Among (t, e) list → Among (t, e) after
+  pub added_kept : (t : Tuple) (e : Entry) → Among (t, e) list → Among (t, e) after
   added_kept t e m =
       let found : at list t ≡ Some e = among_at t e list zone.law.in_order m in
       let apart : from ≢ t = λ same. none-some e (sym can.no_entry ∙ ap (λ u. at list u) same ∙ found) in
@@ -229,6 +229,32 @@ module _ (f : Entry → Entry) (forward : (e : Entry) → (f e).forward ≡ e.fo
 
   set_entries : (e w : Entry) → at list t ≡ Some e → (q : Tuple) → at (set_value (is_at (tuple_cmp t)) list w) q ≡ cond (is_at (tuple_cmp t) q) (Some w) (at list q)
   set_entries e w is q = lookup-set_value {eq = eq_by_cmp tuple_cmp} (eq_by_cmp_equiv tuple_total) (is_at (tuple_cmp t)) one_test q w list (ap (λ o. is_some o) is)
+
+  -- each entry is there, with its tuples
+  pub entries_by_change : IsStrictlySortedBy tuple_cmp (keys_of list) → (q : Tuple) (y : Entry) → Among (q, y) list
+      → (w : Entry) × Among (q, w) (changed f t list) × (w.forward ≡ y.forward) × (w.reply ≡ y.reply)
+  entries_by_change sorted q y m = by (at list t) refl
+    where
+      by : (o : Option Entry) → at list t ≡ o → (w : Entry) × Among (q, w) (changed_option f t list o) × (w.forward ≡ y.forward) × (w.reply ≡ y.reply)
+      by None is = (y, m, refl, refl)
+      by (Some e) is =
+          let found : at list q ≡ Some y = among_at q y list sorted m in
+          elim (one_or_two t q) [
+            | inl same ↦
+                let there : is_at (tuple_cmp t) q ≡ true = subst (λ u. is_at (tuple_cmp t) u ≡ true) same (own_by_cmp t) in
+                let value : e ≡ y = same_Some e y (sym is ∙ ap (λ u. at list u) same ∙ found) in (
+                  f e,
+                  at_among (set_value (is_at (tuple_cmp t)) list (f e)) q (f e) (set_entries e (f e) is q ∙ cond-true (is_at (tuple_cmp t) q) (Some (f e)) (at list q) there),
+                  forward e ∙ ap (λ (z : Entry). z.forward) value,
+                  reply e ∙ ap (λ (z : Entry). z.reply) value,
+                )
+            | inr apart ↦ (
+              y,
+              at_among (set_value (is_at (tuple_cmp t)) list (f e)) q y (set_entries e (f e) is q ∙ cond-false (is_at (tuple_cmp t) q) (Some (f e)) (at list q) (other_by_cmp t q apart) ∙ found),
+              refl,
+              refl,
+            )
+          ]
 
   pub IsZone-by_change : (fs : List (Tuple × Tuple)) → IsZone list fs → IsZone (changed f t list) fs
   IsZone-by_change fs zone = by (at list t) refl

@@ -4,3 +4,4 @@ pub mod Tuples
 pub mod Connections
 pub mod Tracking
 pub mod Picks
+pub mod HeldPorts

@@ -1,8 +1,9 @@
 -- What may be picked for a connection that begins: a backend of a virtual address, or a port.
-use Rattle.std.specs.Prelude.{◌==◌, ◌&&◌, ◌+◌, ◌-◌, ◌%◌, ℕ, zero, suc, nat_le, Bool, true, false, not, cond, List, [], ◌∷◌, length, slice_get, Option, Some, None}
-use Rattle.std.specs.List.{filter, list_any}
+use Rattle.std.specs.Prelude.{◌==◌, ◌&&◌, ◌+◌, ◌-◌, ◌%◌, ℕ, zero, suc, nat_le, Bool, true, false, not, cond, List, ◌∷◌, length, slice_get, Option, Some, None}
+use Rattle.std.specs.List.{list_any}
 use Rattle.conn_table.specs.Connections.{ConnectionList, is_free}
 use Rattle.conn_table.specs.Tuples.{reversed, has_ports}
+use Rattle.conn_table.specs.declared.ports.TheConstants.{FIRST_PORT, LAST_PORT}
 use Rattle.conn_table.specs.declared.tuple.Protocol.{Protocol}
 use Rattle.conn_table.specs.declared.tuple.Protocol.TheVariants as protocol
 use Rattle.conn_table.specs.declared.tuple.Tuple.{Tuple}
@@ -65,10 +66,10 @@ abbrev pub is_free_port : ConnectionList → Tuple → ℕ → Bool
 is_free_port list back n = is_free list (with_port n back)
 
 abbrev pub first_port : ℕ
-first_port = 1024
+first_port = FIRST_PORT
 
 abbrev pub last_port : ℕ
-last_port = 65535
+last_port = LAST_PORT
 
 abbrev pub may_pick : ConnectionList → Tuple → ℕ → Bool
 may_pick list back n = nat_le first_port n && (nat_le n last_port && is_free_port list back n)

@@ -2,7 +2,9 @@
 #![tactic(auto)]
 
 pub mod connection;
+pub mod held_ports;
 pub mod idle;
+pub mod ports;
 pub mod rewrite;
 pub mod tuple;
 pub mod zone;

@@ -1,5 +1,5 @@
 //! Lists of connections.
-ghost use Rattle.std.specs.Prelude.{◌≡◌, ◌≤◌, [], not, nat_lt, is_some, length, Option, Ok, Some, IsOk, IfOk, OnOk, IfErr, OnErr, IsSome, MatchResult};
+ghost use Rattle.std.specs.Prelude.{◌≡◌, ◌≤◌, ◌<◌, ◌+◌, [], true, false, not, nat_lt, is_some, IfSome, IfNone, length, Option, Ok, Some, IsOk, IfOk, OnOk, IfErr, OnErr, IsSome, MatchResult};
 ghost use Rattle.std.specs.Option.{option_map, option_copied};
 ghost use Rattle.inet_packet.specs.Transport.{HasRightSum};
 ghost use Rattle.inet_packet.specs.Whole.{IsWhole};
@@ -7,9 +7,11 @@ ghost use Rattle.conn_table.specs.declared.connection.CommitFault.TheVariants.{M
 ghost use Rattle.conn_table.specs.declared.connection.State.{State};
 ghost use Rattle.conn_table.specs.declared.connection.State.TheVariants.{New};
 ghost use Rattle.conn_table.specs.declared.tuple.Tuple.{Tuple};
-ghost use Rattle.conn_table.specs.Tuples.{tuple_of};
+ghost use Rattle.conn_table.specs.Tuples.{has_ports, tuple_of};
 ghost use Rattle.conn_table.specs.Connections.{entry_of, answered, is_free, begun, committed, changed, touched, blocked_as, expired, IsPair, IsConnection, IsConnectionList, CanCommit};
+ghost use Rattle.conn_table.specs.HeldPorts.{IsBlock, IsFloor};
 ghost use Rattle.conn_table.specs.Order.{tuple_cmp};
+ghost use Rattle.conn_table.specs.Picks.{has_free_port, is_free_port, is_least_port, may_pick};
 ghost use Rattle.std.specs.BTreeMap.{insert_entry};
 ghost use Rattle.std.specs.List.{filter};
 ghost use Rattle.std.specs.List.Sorted.{IsStrictlySortedBy};
@@ -17,6 +19,8 @@ ghost use Rattle.std.specs.Map.{keys_of};
 ghost use Rattle.conn_table.specs.Tracking.{seen_tuple, state_of, IsHeld, NamesEntry, CanTranslate, tuple_after, translated};
 
 use crate::connection::{CommitFault, Entry, Slot, State};
+use crate::held_ports::{floor, forget_all_idle, with_port};
+use crate::ports::{BLOCK_PORTS, FIRST_PORT, LAST_PORT};
 use crate::rewrite::rewrite;
 use crate::tuple::Tuple;
 use inet_packet::packet::Packet;
@@ -26,6 +30,11 @@ use std::alloc::Global;
 use std::collections::BTreeMap;
 use std::marker::Model;
 
+// The block of the least port that is picked, and the one behind the block of the greatest.
+const FIRST_BLOCK: u32 = FIRST_PORT as u32 / BLOCK_PORTS as u32;
+
+const BLOCKS_END: u32 = LAST_PORT as u32 / BLOCK_PORTS as u32 + 1;
+
 /// A list of connections. A contract sees its entries, each at its forward tuple, in order of these; all tuples of different
 /// entries differ.
 #[derive(Drop)]
@@ -33,16 +42,19 @@ pub struct Zone {
     entries: BTreeMap<Tuple, Entry>,
     // the forward tuple of each entry, at its reply tuple
     forwards: BTreeMap<Tuple, Tuple>,
+    // what was learnt about held ports, at the tuples of blocks
+    floors: BTreeMap<Tuple, u32>,
 }
 
 impl Model for Zone {
     ghost use Rattle.conn_table.specs.Connections.{ConnectionList, IsZone};
+    ghost use Rattle.conn_table.specs.HeldPorts.{AreFloors};
 
     ghost Value = { ConnectionList };
 
     ghost view = { λ z. z.entries.entries };
 
-    ghost invariant = { λ z. IsZone z.entries.entries z.forwards.entries };
+    ghost invariant = { λ z. IsZone z.entries.entries z.forwards.entries × AreFloors z.entries.entries z.floors.entries };
 }
 
 impl Zone {
@@ -54,6 +66,7 @@ impl Zone {
         Ok(Zone {
             entries: BTreeMap::new(alloc),
             forwards: BTreeMap::new(alloc),
+            floors: BTreeMap::new(alloc),
         })
     }
 
@@ -109,6 +122,74 @@ impl Zone {
         ensures { result ≡ is_free self.now tuple.now }
     {
         !self.entries.contains_key(tuple) && self.forward_of(tuple).is_none()
+    }
+
+    // What is known of the block.
+    fn floor(&self, block: &Tuple) -> u32
+        requires { IsBlock block.now }
+        ensures { IsFloor self.now block.now result }
+    {
+        floor(&self.floors, block)
+    }
+
+    // The least port of the block that is free, from this one on, or the block's end.
+    fn free_from(&self, block: &Tuple, floor: u32) -> u32
+        requires block { IsBlock block.now }
+        requires floor { IsFloor self.now block.now floor }
+        ensures floor { IsFloor self.now block.now result }
+        ensures free { result < block.now.dst_port + BLOCK_PORTS → is_free_port self.now block.now result ≡ true }
+    {
+        let end = u32::from(block.dst_port) + u32::from(BLOCK_PORTS);
+        'ports: for port in floor..end {
+            if self.is_free(&with_port(port as u16, block)) {
+                return port;
+            }
+        }
+        end
+    }
+
+    // Keeps what was learnt about the block.
+    fn learn(&mut self, block: &Tuple, floor: u32) -> Result<(), NoMemory>
+        requires block { IsBlock block.now }
+        requires floor { IsFloor self.old block.now floor }
+        ensures { self.new ≡ self.old }
+    {
+        self.floors.insert(*block, floor)?;
+        Ok(())
+    }
+
+    // The least port of the block that is free, or the block's end. Ports below it that are known to be held aren't asked for.
+    fn least_in(&mut self, block: &Tuple) -> Result<u32, NoMemory>
+        requires { IsBlock block.now }
+        ensures floor { IfOk result (IsFloor self.old block.now) }
+        ensures free { IfOk result (λ n. n < block.now.dst_port + BLOCK_PORTS → is_free_port self.old block.now n ≡ true) }
+        ensures unchanged { self.new ≡ self.old }
+    {
+        let known = self.floor(block);
+        let port = self.free_from(block, known);
+        if port == known {
+            return Ok(port);
+        }
+        self.learn(block, port)?;
+        Ok(port)
+    }
+
+    /// The least port that is free and may be picked, if there is one: answers to it would be no other connection's. What is
+    /// learnt about held ports is kept, so that few of them are asked for again.
+    pub fn least_port(&mut self, back: &Tuple) -> Result<Option<u16>, NoMemory>
+        requires { has_ports back.now.protocol ≡ true }
+        ensures some { IfOk result (λ found. IfSome found (λ n. (has_free_port self.old back.now ≡ true) × (may_pick self.old back.now n ≡ true) × (is_least_port self.old back.now n ≡ true))) }
+        ensures none { IfOk result (λ found. IfNone found (has_free_port self.old back.now ≡ false)) }
+        ensures unchanged { self.new ≡ self.old }
+    {
+        'each: for number in FIRST_BLOCK..BLOCKS_END {
+            let first = number * u32::from(BLOCK_PORTS);
+            let port = self.least_in(&with_port(first as u16, back))?;
+            if port < first + u32::from(BLOCK_PORTS) {
+                return Ok(Some(port as u16));
+            }
+        }
+        Ok(None)
     }
 
     // Whether there are as many entries as there can be.
@@ -219,12 +300,14 @@ impl Zone {
     {
         self.entries.clear();
         self.forwards.clear();
+        self.floors.clear();
     }
 
     /// Ends the connections that weren't used for 300 seconds (TCP), 60 seconds (UDP) or 30 seconds (others).
     pub fn expire(&mut self, now: u64)
         ensures { self.new ≡ expired now self.old }
     {
+        forget_all_idle(&mut self.floors, &self.entries, now);
         keep_active(&mut self.entries, now);
         keep_of(&mut self.forwards, &self.entries);
     }

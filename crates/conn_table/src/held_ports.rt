@@ -1,0 +1,74 @@
+//! What is learnt about held ports: for a block of ports of a reply tuple, a floor below which none is free.
+ghost use Rattle.std.specs.Prelude.{◌≡◌};
+ghost use Rattle.conn_table.specs.HeldPorts.{block_of, floor_of, Forgets, AreForgotten, IsWithout};
+ghost use Rattle.conn_table.specs.Picks.{with_port};
+
+use crate::connection::Entry;
+use crate::ports::BLOCK_PORTS;
+use crate::tuple::{Protocol, Tuple};
+use std::collections::BTreeMap;
+
+/// The reply tuple that comes back to the port. An echo has its identifier twice.
+pub fn with_port(port: u16, back: &Tuple) -> Tuple
+    ensures { result ≡ with_port port back.now }
+{
+    match back.protocol {
+        Protocol::EchoReply => Tuple {
+            src_port: port,
+            dst_port: port,
+            ..*back
+        },
+        _ => Tuple {
+            dst_port: port,
+            ..*back
+        },
+    }
+}
+
+// The block that the port of the tuple is in, as the tuple with its first port.
+fn block_of(tuple: &Tuple) -> Tuple
+    ensures { result ≡ block_of tuple.now }
+{
+    with_port(tuple.dst_port - tuple.dst_port % BLOCK_PORTS, tuple)
+}
+
+// No port of the block below this number is free.
+pub(crate) fn floor(floors: &BTreeMap<Tuple, u32>, block: &Tuple) -> u32
+    ensures { result ≡ floor_of floors.now.entries block.now }
+{
+    match floors.get(block) {
+        Some(floor) => *floor,
+        None => u32::from(block.dst_port),
+    }
+}
+
+// Forgets what was learnt about the block that the port of the tuple is in.
+fn forget(floors: &mut BTreeMap<Tuple, u32>, tuple: &Tuple)
+    ensures { IsWithout (block_of tuple.now) floors.old.entries floors.new.entries }
+{
+    floors.remove(&block_of(tuple));
+}
+
+// Forgets it for both tuples of the entry, if the entry ends.
+fn forget_idle(floors: &mut BTreeMap<Tuple, u32>, entry: &Entry, now: u64)
+    ensures { Forgets now entry.now floors.old.entries floors.new.entries }
+{
+    if !entry.is_idle(now) {
+        return;
+    }
+    forget(floors, &entry.forward);
+    forget(floors, &entry.reply);
+}
+
+/// Forgets what was learnt about the blocks of all entries that end.
+pub(crate) fn forget_all_idle(
+    floors: &mut BTreeMap<Tuple, u32>,
+    entries: &BTreeMap<Tuple, Entry>,
+    now: u64,
+)
+    ensures { AreForgotten now entries.now.entries floors.old.entries floors.new.entries }
+{
+    for (_, entry) in entries {
+        forget_idle(floors, entry, now);
+    }
+}
