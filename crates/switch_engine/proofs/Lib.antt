@@ -8,7 +8,6 @@ pub mod Lists
 pub mod Measure
 pub mod OneWalkLaw
 pub mod PlainLaw
-pub mod Ports
 pub mod Beginnings
 pub mod Begun
 pub mod Ranges

@@ -1,10 +1,10 @@
 //! What actions do with a packet that begins a connection.
-ghost use Rattle.std.specs.Prelude.{◌≡◌, ◌≢◌, ◌++◌, [], true, false, Some, IfSome, IfNone, IfOk, OnOk, OnErr, length, slice_get};
+ghost use Rattle.std.specs.Prelude.{◌≡◌, ◌≢◌, ◌++◌, [], Some, IfSome, IfOk, OnOk, OnErr, length, slice_get};
 ghost use Rattle.std.specs.List.{filter};
 ghost use Rattle.indexmap.specs.IndexMap.{spare};
 ghost use Rattle.conn_table.specs.declared.connection.State.TheVariants.{New};
 ghost use Rattle.conn_table.specs.Connections.{committed, IsPair};
-ghost use Rattle.conn_table.specs.Picks.{towards, with_port, is_free_backend, backend_index, has_free_port, may_pick, is_least_port};
+ghost use Rattle.conn_table.specs.Picks.{towards, is_free_backend, backend_index};
 ghost use Rattle.conn_table.specs.Tracking.{with_option, seen, seen_tuple, state_of};
 ghost use Rattle.conn_table.specs.Tuples.{reversed, tuple_of, with_tuple, has_ports, CanBecome};
 ghost use Rattle.switch_engine.specs.Advance.{Does, Extends, IsCarriedInRange};
@@ -17,6 +17,7 @@ use crate::carried::Carried;
 use crate::effect::Effect;
 use crate::zones::ZoneMap;
 use conn_table::connection::{CommitFault, State};
+use conn_table::held_ports::with_port;
 use conn_table::rewrite::rewrite;
 use conn_table::tuple::{Protocol, Tuple};
 use conn_table::zone::Zone;
@@ -25,11 +26,6 @@ use inet_packet::packet::Packet;
 use ovn_base::address::{Backend, Ip4};
 use ovn_base::list::List;
 use ovn_base::memory::NoMemory;
-
-// The least port that may be picked, and the number after the greatest.
-const FIRST_PORT: u32 = 1_024;
-
-const PORTS_END: u32 = 65_536;
 
 // ---- one list
 
@@ -124,23 +120,6 @@ fn backend_of(zone: &Zone, tuple: &Tuple, backends: &[Backend]) -> Option<Backen
     nth_free(zone, tuple, backends, backend_index(tuple, count))
 }
 
-// The reply tuple that comes back to the port.
-fn with_port(port: u16, back: &Tuple) -> Tuple
-    ensures { result ≡ with_port port back.now }
-{
-    match back.protocol {
-        Protocol::EchoReply => Tuple {
-            src_port: port,
-            dst_port: port,
-            ..*back
-        },
-        _ => Tuple {
-            dst_port: port,
-            ..*back
-        },
-    }
-}
-
 // From where a new connection comes, once its source has another address.
 #[derive(Clone, Copy)]
 enum Source {
@@ -152,21 +131,6 @@ enum Source {
     NoneFree,
 }
 
-// The least port that is free, if there is one.
-fn least_port(zone: &Zone, back: &Tuple) -> Option<u16>
-    requires { has_ports back.now.protocol ≡ true }
-    ensures some { IfSome result (λ n. (has_free_port zone.now back.now ≡ true) × (may_pick zone.now back.now n ≡ true) × (is_least_port zone.now back.now n ≡ true)) }
-    ensures none { IfNone result (has_free_port zone.now back.now ≡ false) }
-{
-    'ports: for number in FIRST_PORT..PORTS_END {
-        let port = number as u16;
-        if zone.is_free(&with_port(port, back)) {
-            return Some(port);
-        }
-    }
-    None
-}
-
 // Whether the tuple's packets have ports, or an identifier.
 fn has_ports(tuple: &Tuple) -> bool
     ensures { result ≡ has_ports tuple.now.protocol }
@@ -175,18 +139,19 @@ fn has_ports(tuple: &Tuple) -> bool
 }
 
 // From where a connection comes whose answers have the tuple, if the port is kept.
-fn source_in(zone: &Zone, back: &Tuple) -> Source
-    ensures { IsSource back.now result zone.now }
+fn source_in(zone: &mut Zone, back: &Tuple) -> Result<Source, NoMemory>
+    ensures source { IfOk result (λ source. IsSource back.now source zone.old) }
+    ensures unchanged { zone.new ≡ zone.old }
 {
     if zone.is_free(back) {
-        return Source::Kept;
+        return Ok(Source::Kept);
     }
     if !has_ports(back) {
-        return Source::NoneFree;
+        return Ok(Source::NoneFree);
     }
-    match least_port(zone, back) {
-        Some(port) => Source::Port(port),
-        None => Source::NoneFree,
+    match zone.least_port(back)? {
+        Some(port) => Ok(Source::Port(port)),
+        None => Ok(Source::NoneFree),
     }
 }
 
@@ -246,12 +211,14 @@ fn backend_in(zones: &ZoneMap, number: u16, tuple: &Tuple, backends: &[Backend])
     }
 }
 
-fn source_at(zones: &ZoneMap, number: u16, back: &Tuple) -> Source
-    ensures { IsSourceIn back.now result (zone_at zones.now.entries number) }
+fn source_at(zones: &mut ZoneMap, number: u16, back: &Tuple) -> Result<Source, NoMemory>
+    ensures source { IfOk result (λ source. IsSourceIn back.now source (zone_at zones.old.entries number)) }
+    ensures unchanged { zones.new.entries ≡ zones.old.entries }
+    ensures room { spare zones.new ≡ spare zones.old }
 {
-    match zones.get(&number) {
+    match zones.get_mut(&number) {
         Some(zone) => source_in(zone, back),
-        None => Source::NoneFree,
+        None => Ok(Source::NoneFree),
     }
 }
 
@@ -435,7 +402,8 @@ pub(crate) fn snat(
         return Ok(Turn::Next);
     };
     let kept = Tuple { src: ip, ..from }.reversed();
-    match source_at(zones, number, &kept) {
+    let source = source_at(zones, number, &kept)?;
+    match source {
         Source::Kept => {
             let turn = begin_from(zones, number, from, kept, now, copy, effects)?;
             Ok(turn)
