@@ -75,7 +75,7 @@ def picked(count):
 
 def picked_behind(entries, count):
     """The same, where the connections to one server hold the first ports: the port behind them is picked."""
-    return [packet(2, first + at % entries, 0) for at in range(count)]
+    return [packet(2 + at // entries, first + at % entries, 0) for at in range(count)]
 
 
 def measure(name, command, entries, filled, what, traffic, picks, runs):
@@ -96,11 +96,11 @@ def measure_all(name, command, entries, count, behind, runs):
     measure(name, command, entries, each, "packets of known connections", known(entries, count), 0, runs)
     measure(name, command, entries, each, "packets of new connections that keep their port", begun(count), 0, runs)
     measure(name, command, entries, each, "packets for which one of the first four ports is picked", picked(count), count, runs)
-    measure(name, command, entries, one, f"packets for which the port behind {entries} is picked", picked_behind(entries, behind), behind, runs)
+    measure(name, command, entries, one, f"packets for which the port behind {entries} of one server is picked", picked_behind(entries, behind), behind, runs)
 
 
 if __name__ == "__main__":
-    measure_all("ovnsim", program, 1_000, 4_000, 200, 5)
-    measure_all("ovnsim", program, 60_000, 4_000, 20, 5)
+    measure_all("ovnsim", program, 1_000, 4_000, 4_000, 5)
+    measure_all("ovnsim", program, 60_000, 4_000, 4_000, 5)
     if os.path.exists(model):
         measure_all("model", [sys.executable, "-u", model, "replay"], 1_000, 200, 20, 1)
