@@ -1,11 +1,13 @@
-//! Tests of lists of connections from outside them: tuples of frames, connections both ways, their ends, and frames before and
-//! after translation.
+//! Tests of lists of connections from outside them: tuples of frames, connections both ways, their ends, ports that are picked, and
+//! frames before and after translation.
 #![tactic(auto)]
 
 #[cfg(test)]
 mod frames;
 #[cfg(test)]
 mod lists;
+#[cfg(test)]
+mod ports;
 #[cfg(test)]
 mod tables;
 #[cfg(test)]

@@ -113,6 +113,14 @@ impl Tracker {
         }
     }
 
+    // The least port that may be picked for the answers of the tuple, if there is one and the protocol has ports.
+    pub(crate) fn pick(&mut self, back: &Tuple) -> Option<u16> {
+        if matches!(back.protocol, Protocol::Other(_)) {
+            return None;
+        }
+        self.list.least_port(back).ok()?
+    }
+
     // Ends the connections that weren't used for long.
     pub(crate) fn expire(&mut self, now: u64) {
         self.list.expire(now);
