@@ -1,10 +1,11 @@
-//! What is learnt about held ports: for a block of ports of a reply tuple, a floor below which none is free.
-ghost use Rattle.std.specs.Prelude.{◌≡◌};
+//! What is learnt about held ports: for a block of ports of a reply tuple, a floor below which none is free. Blocks of two sizes are
+//! kept, each size in a map of its own.
+ghost use Rattle.std.specs.Prelude.{◌≡◌, ◌<◌};
 ghost use Rattle.conn_table.specs.HeldPorts.{block_of, floor_of, Forgets, AreForgotten, IsWithout};
 ghost use Rattle.conn_table.specs.Picks.{with_port};
 
 use crate::connection::Entry;
-use crate::ports::BLOCK_PORTS;
+use crate::ports::{ALL_PORTS, BLOCK_PORTS};
 use crate::tuple::{Protocol, Tuple};
 use std::collections::BTreeMap;
 
@@ -25,11 +26,13 @@ pub fn with_port(port: u16, back: &Tuple) -> Tuple
     }
 }
 
-// The block that the port of the tuple is in, as the tuple with its first port.
-fn block_of(tuple: &Tuple) -> Tuple
-    ensures { result ≡ block_of tuple.now }
+// The block of this size that the port of the tuple is in, as the tuple with its first port.
+fn block_of(size: u32, tuple: &Tuple) -> Tuple
+    requires { 0 < size }
+    ensures { result ≡ block_of size tuple.now }
 {
-    with_port(tuple.dst_port - tuple.dst_port % BLOCK_PORTS, tuple)
+    let port = u32::from(tuple.dst_port);
+    with_port((port - port % size) as u16, tuple)
 }
 
 // No port of the block below this number is free.
@@ -42,33 +45,38 @@ pub(crate) fn floor(floors: &BTreeMap<Tuple, u32>, block: &Tuple) -> u32
     }
 }
 
-// Forgets what was learnt about the block that the port of the tuple is in.
-fn forget(floors: &mut BTreeMap<Tuple, u32>, tuple: &Tuple)
-    ensures { IsWithout (block_of tuple.now) floors.old.entries floors.new.entries }
+// Forgets what was learnt about the block of this size that the port of the tuple is in.
+fn forget(floors: &mut BTreeMap<Tuple, u32>, size: u32, tuple: &Tuple)
+    requires { 0 < size }
+    ensures { IsWithout (block_of size tuple.now) floors.old.entries floors.new.entries }
 {
-    floors.remove(&block_of(tuple));
+    floors.remove(&block_of(size, tuple));
 }
 
 // Forgets it for both tuples of the entry, if the entry ends.
-fn forget_idle(floors: &mut BTreeMap<Tuple, u32>, entry: &Entry, now: u64)
-    ensures { Forgets now entry.now floors.old.entries floors.new.entries }
+fn forget_idle(floors: &mut BTreeMap<Tuple, u32>, size: u32, entry: &Entry, now: u64)
+    requires { 0 < size }
+    ensures { Forgets size now entry.now floors.old.entries floors.new.entries }
 {
     if !entry.is_idle(now) {
         return;
     }
-    forget(floors, &entry.forward);
-    forget(floors, &entry.reply);
+    forget(floors, size, &entry.forward);
+    forget(floors, size, &entry.reply);
 }
 
-/// Forgets what was learnt about the blocks of all entries that end.
+/// Forgets what was learnt about the blocks of all entries that end, those of few ports and those of all.
 pub(crate) fn forget_all_idle(
     floors: &mut BTreeMap<Tuple, u32>,
+    starts: &mut BTreeMap<Tuple, u32>,
     entries: &BTreeMap<Tuple, Entry>,
     now: u64,
 )
-    ensures { AreForgotten now entries.now.entries floors.old.entries floors.new.entries }
+    ensures few { AreForgotten BLOCK_PORTS now entries.now.entries floors.old.entries floors.new.entries }
+    ensures all { AreForgotten ALL_PORTS now entries.now.entries starts.old.entries starts.new.entries }
 {
     for (_, entry) in entries {
-        forget_idle(floors, entry, now);
+        forget_idle(floors, BLOCK_PORTS, entry, now);
+        forget_idle(starts, ALL_PORTS, entry, now);
     }
 }

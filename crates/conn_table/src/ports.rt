@@ -7,4 +7,7 @@ pub const FIRST_PORT: u16 = 1_024;
 pub const LAST_PORT: u16 = 65_535;
 
 /// What is learnt about held ports is kept for so many ports together, from a multiple of this number on.
-pub const BLOCK_PORTS: u16 = 256;
+pub const BLOCK_PORTS: u32 = 256;
+
+/// How many ports there are: what is learnt is kept for all of them together, too.
+pub const ALL_PORTS: u32 = 65_536;

@@ -9,7 +9,7 @@ ghost use Rattle.conn_table.specs.declared.connection.State.TheVariants.{New};
 ghost use Rattle.conn_table.specs.declared.tuple.Tuple.{Tuple};
 ghost use Rattle.conn_table.specs.Tuples.{has_ports, tuple_of};
 ghost use Rattle.conn_table.specs.Connections.{entry_of, answered, is_free, begun, committed, changed, touched, blocked_as, expired, IsPair, IsConnection, IsConnectionList, CanCommit};
-ghost use Rattle.conn_table.specs.HeldPorts.{IsBlock, IsFloor};
+ghost use Rattle.conn_table.specs.HeldPorts.{IsBlock, IsFloor, NoneFreeBelow};
 ghost use Rattle.conn_table.specs.Order.{tuple_cmp};
 ghost use Rattle.conn_table.specs.Picks.{has_free_port, is_free_port, is_least_port, may_pick};
 ghost use Rattle.std.specs.BTreeMap.{insert_entry};
@@ -20,7 +20,7 @@ ghost use Rattle.conn_table.specs.Tracking.{seen_tuple, state_of, IsHeld, NamesE
 
 use crate::connection::{CommitFault, Entry, Slot, State};
 use crate::held_ports::{floor, forget_all_idle, with_port};
-use crate::ports::{BLOCK_PORTS, FIRST_PORT, LAST_PORT};
+use crate::ports::{ALL_PORTS, BLOCK_PORTS, FIRST_PORT};
 use crate::rewrite::rewrite;
 use crate::tuple::Tuple;
 use inet_packet::packet::Packet;
@@ -30,10 +30,8 @@ use std::alloc::Global;
 use std::collections::BTreeMap;
 use std::marker::Model;
 
-// The block of the least port that is picked, and the one behind the block of the greatest.
-const FIRST_BLOCK: u32 = FIRST_PORT as u32 / BLOCK_PORTS as u32;
-
-const BLOCKS_END: u32 = LAST_PORT as u32 / BLOCK_PORTS as u32 + 1;
+// How many blocks all ports are in.
+const BLOCKS: u32 = ALL_PORTS / BLOCK_PORTS;
 
 /// A list of connections. A contract sees its entries, each at its forward tuple, in order of these; all tuples of different
 /// entries differ.
@@ -44,17 +42,19 @@ pub struct Zone {
     forwards: BTreeMap<Tuple, Tuple>,
     // what was learnt about held ports, at the tuples of blocks
     floors: BTreeMap<Tuple, u32>,
+    // and about all ports of a tuple together, at the tuple with port 0
+    starts: BTreeMap<Tuple, u32>,
 }
 
 impl Model for Zone {
     ghost use Rattle.conn_table.specs.Connections.{ConnectionList, IsZone};
-    ghost use Rattle.conn_table.specs.HeldPorts.{AreFloors};
+    ghost use Rattle.conn_table.specs.HeldPorts.{AreLearnt};
 
     ghost Value = { ConnectionList };
 
     ghost view = { λ z. z.entries.entries };
 
-    ghost invariant = { λ z. IsZone z.entries.entries z.forwards.entries × AreFloors z.entries.entries z.floors.entries };
+    ghost invariant = { λ z. IsZone z.entries.entries z.forwards.entries × AreLearnt z.entries.entries z.floors.entries z.starts.entries };
 }
 
 impl Zone {
@@ -67,6 +67,7 @@ impl Zone {
             entries: BTreeMap::new(alloc),
             forwards: BTreeMap::new(alloc),
             floors: BTreeMap::new(alloc),
+            starts: BTreeMap::new(alloc),
         })
     }
 
@@ -126,20 +127,20 @@ impl Zone {
 
     // What is known of the block.
     fn floor(&self, block: &Tuple) -> u32
-        requires { IsBlock block.now }
-        ensures { IsFloor self.now block.now result }
+        requires { IsBlock BLOCK_PORTS block.now }
+        ensures { IsFloor BLOCK_PORTS self.now block.now result }
     {
         floor(&self.floors, block)
     }
 
     // The least port of the block that is free, from this one on, or the block's end.
     fn free_from(&self, block: &Tuple, floor: u32) -> u32
-        requires block { IsBlock block.now }
-        requires floor { IsFloor self.now block.now floor }
-        ensures floor { IsFloor self.now block.now result }
+        requires block { IsBlock BLOCK_PORTS block.now }
+        requires floor { IsFloor BLOCK_PORTS self.now block.now floor }
+        ensures floor { IsFloor BLOCK_PORTS self.now block.now result }
         ensures free { result < block.now.dst_port + BLOCK_PORTS → is_free_port self.now block.now result ≡ true }
     {
-        let end = u32::from(block.dst_port) + u32::from(BLOCK_PORTS);
+        let end = u32::from(block.dst_port) + BLOCK_PORTS;
         'ports: for port in floor..end {
             if self.is_free(&with_port(port as u16, block)) {
                 return port;
@@ -150,8 +151,8 @@ impl Zone {
 
     // Keeps what was learnt about the block.
     fn learn(&mut self, block: &Tuple, floor: u32) -> Result<(), NoMemory>
-        requires block { IsBlock block.now }
-        requires floor { IsFloor self.old block.now floor }
+        requires block { IsBlock BLOCK_PORTS block.now }
+        requires floor { IsFloor BLOCK_PORTS self.old block.now floor }
         ensures { self.new ≡ self.old }
     {
         self.floors.insert(*block, floor)?;
@@ -160,8 +161,8 @@ impl Zone {
 
     // The least port of the block that is free, or the block's end. Ports below it that are known to be held aren't asked for.
     fn least_in(&mut self, block: &Tuple) -> Result<u32, NoMemory>
-        requires { IsBlock block.now }
-        ensures floor { IfOk result (IsFloor self.old block.now) }
+        requires { IsBlock BLOCK_PORTS block.now }
+        ensures floor { IfOk result (IsFloor BLOCK_PORTS self.old block.now) }
         ensures free { IfOk result (λ n. n < block.now.dst_port + BLOCK_PORTS → is_free_port self.old block.now n ≡ true) }
         ensures unchanged { self.new ≡ self.old }
     {
@@ -174,6 +175,47 @@ impl Zone {
         Ok(port)
     }
 
+    // No port that may be picked is free below this number.
+    fn start(&self, back: &Tuple) -> u32
+        ensures low { FIRST_PORT ≤ result }
+        ensures high { result ≤ ALL_PORTS }
+        ensures held { NoneFreeBelow self.now back.now result }
+    {
+        floor(&self.starts, &with_port(0, back)).max(u32::from(FIRST_PORT))
+    }
+
+    // Keeps that no port that may be picked is free below this number.
+    fn learn_start(&mut self, back: &Tuple, start: u32) -> Result<(), NoMemory>
+        requires high { start ≤ ALL_PORTS }
+        requires held { NoneFreeBelow self.old back.now start }
+        ensures { self.new ≡ self.old }
+    {
+        self.starts.insert(with_port(0, back), start)?;
+        Ok(())
+    }
+
+    // The least port that is free and may be picked, or the number of all ports. None is free below `start`, so nothing is asked of the
+    // blocks before its own.
+    fn least_from(&mut self, start: u32, back: &Tuple) -> Result<u32, NoMemory>
+        requires low { FIRST_PORT ≤ start }
+        requires high { start ≤ ALL_PORTS }
+        requires held { NoneFreeBelow self.old back.now start }
+        ensures low { IfOk result (λ n. FIRST_PORT ≤ n) }
+        ensures high { IfOk result (λ n. n ≤ ALL_PORTS) }
+        ensures held { IfOk result (λ n. NoneFreeBelow self.old back.now n) }
+        ensures free { IfOk result (λ n. n < ALL_PORTS → is_free_port self.old back.now n ≡ true) }
+        ensures unchanged { self.new ≡ self.old }
+    {
+        'each: for number in start / BLOCK_PORTS..BLOCKS {
+            let first = number * BLOCK_PORTS;
+            let port = self.least_in(&with_port(first as u16, back))?;
+            if port < first + BLOCK_PORTS {
+                return Ok(port);
+            }
+        }
+        Ok(ALL_PORTS)
+    }
+
     /// The least port that is free and may be picked, if there is one: answers to it would be no other connection's. What is
     /// learnt about held ports is kept, so that few of them are asked for again.
     pub fn least_port(&mut self, back: &Tuple) -> Result<Option<u16>, NoMemory>
@@ -182,14 +224,15 @@ impl Zone {
         ensures none { IfOk result (λ found. IfNone found (has_free_port self.old back.now ≡ false)) }
         ensures unchanged { self.new ≡ self.old }
     {
-        'each: for number in FIRST_BLOCK..BLOCKS_END {
-            let first = number * u32::from(BLOCK_PORTS);
-            let port = self.least_in(&with_port(first as u16, back))?;
-            if port < first + u32::from(BLOCK_PORTS) {
-                return Ok(Some(port as u16));
-            }
+        let start = self.start(back);
+        let port = self.least_from(start, back)?;
+        if start / BLOCK_PORTS < port / BLOCK_PORTS {
+            self.learn_start(back, port)?;
         }
-        Ok(None)
+        if port == ALL_PORTS {
+            return Ok(None);
+        }
+        Ok(Some(port as u16))
     }
 
     // Whether there are as many entries as there can be.
@@ -301,13 +344,14 @@ impl Zone {
         self.entries.clear();
         self.forwards.clear();
         self.floors.clear();
+        self.starts.clear();
     }
 
     /// Ends the connections that weren't used for 300 seconds (TCP), 60 seconds (UDP) or 30 seconds (others).
     pub fn expire(&mut self, now: u64)
         ensures { self.new ≡ expired now self.old }
     {
-        forget_all_idle(&mut self.floors, &self.entries, now);
+        forget_all_idle(&mut self.floors, &mut self.starts, &self.entries, now);
         keep_active(&mut self.entries, now);
         keep_of(&mut self.forwards, &self.entries);
     }

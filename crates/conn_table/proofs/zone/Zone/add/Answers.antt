@@ -2,9 +2,9 @@ use Rattle.std.proofs.Common.{◌≡◌, ◌+◌, length, refl, sym, subst, ◌�
 use Rattle.std.specs.Prelude.{None, Option, is_some, if◌then◌else◌}
 use Rattle.conn_table.specs.declared.connection.Entry.{Entry}
 use Rattle.conn_table.specs.Connections.{ConnectionList, CanCommit, IsZone}
-use Rattle.conn_table.specs.HeldPorts.{AreFloors}
+use Rattle.conn_table.specs.HeldPorts.{AreLearnt}
 use Rattle.conn_table.proofs.ZoneLaws.{added_kept, IsZone-added, IsZone-restored}
-use Rattle.conn_table.proofs.HeldPortsLaws.{floors_kept}
+use Rattle.conn_table.proofs.HeldPortsLaws.{learnt_kept}
 use Rattle.conn_table.proofs.zone.Zone.add.Goals as goal
 
 pub invariant_of-self-in-Ok : goal.invariant_of-self-in-Ok
@@ -18,7 +18,7 @@ invariant_of-self-in-Ok c =
     IsZone-added list after c.self.inside.forwards.entries c.insert.new.self.entries c.args.forward c.args.reply c.args.now c.self.invariant.0 can
     c.in-Ok.ensures.ordered c.in-Ok.ensures.updates.0 c.in_ok-insert.ensures.updates.0 longer in (
       zone,
-      floors_kept list after c.self.inside.floors.entries c.self.invariant.0.law zone.law
+      learnt_kept list after c.self.inside.floors.entries c.self.inside.starts.entries c.self.invariant.0.law zone.law
           (λ t e m. (
             e,
             added_kept list after c.self.inside.forwards.entries c.insert.new.self.entries c.args.forward c.args.reply c.args.now c.self.invariant.0 can
@@ -36,5 +36,5 @@ invariant_of-self-in-Err c =
       subst (λ (l : ConnectionList). IsZone l c.remove.new.self.entries) (sym c.in-Err.ensures.err)
           (IsZone-restored list c.self.inside.forwards.entries c.insert.new.self.entries c.remove.new.self.entries c.args.forward c.args.reply c.self.invariant.0 can
           c.in_ok-insert.ensures.updates.0 c.remove.ensures.updates.0),
-      subst (λ (l : ConnectionList). AreFloors l c.self.inside.floors.entries) (sym c.in-Err.ensures.err) c.self.invariant.1,
+      subst (λ (l : ConnectionList). AreLearnt l c.self.inside.floors.entries c.self.inside.starts.entries) (sym c.in-Err.ensures.err) c.self.invariant.1,
     )

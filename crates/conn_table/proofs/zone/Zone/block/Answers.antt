@@ -1,8 +1,8 @@
 use Rattle.std.proofs.Common.{refl, subst, sym}
 use Rattle.conn_table.specs.Connections.{ConnectionList, changed, blocked_as, IsZone}
 use Rattle.conn_table.specs.Tracking.{NamesEntry}
-use Rattle.conn_table.specs.HeldPorts.{AreFloors}
-use Rattle.conn_table.proofs.HeldPortsLaws.{floors_kept}
+use Rattle.conn_table.specs.HeldPorts.{AreLearnt}
+use Rattle.conn_table.proofs.HeldPortsLaws.{learnt_kept}
 use Rattle.conn_table.proofs.ZoneLaws.{entries_by_change, IsZone-by_change, names_by_change}
 use Rattle.conn_table.proofs.zone.Zone.block.Goals as goal
 
@@ -12,8 +12,8 @@ invariant_of-self c =
     let after = changed (blocked_as c.args.on) c.args.slot.forward list in
     let zone : IsZone after c.self.inside.forwards.entries = IsZone-by_change (blocked_as c.args.on) (λ e. refl) (λ e. refl) list c.args.slot.forward c.self.inside.forwards.entries c.self.invariant.0 in (
       subst (λ (l : ConnectionList). IsZone l c.self.inside.forwards.entries) (sym c.set_blocked.ensures) zone,
-      subst (λ (l : ConnectionList). AreFloors l c.self.inside.floors.entries) (sym c.set_blocked.ensures)
-          (floors_kept list after c.self.inside.floors.entries c.self.invariant.0.law zone.law
+      subst (λ (l : ConnectionList). AreLearnt l c.self.inside.floors.entries c.self.inside.starts.entries) (sym c.set_blocked.ensures)
+          (learnt_kept list after c.self.inside.floors.entries c.self.inside.starts.entries c.self.invariant.0.law zone.law
           (entries_by_change (blocked_as c.args.on) (λ e. refl) (λ e. refl) list c.args.slot.forward c.self.invariant.0.law.in_order) c.self.invariant.1),
     )
 
