@@ -3,12 +3,11 @@ use Rattle.std.specs.Prelude.{◌≡◌, ◌⊎◌, ◌↔◌, ◌+◌, ℕ, Boo
 use mathlib.Core.Path.{sym, ap, subst, ◌∙◌}
 use mathlib.Core.Logic.{inl, inr}
 use native.Mathlib.Omega.{arith}
-use Rattle.std.proofs.Common.{Vec}
-use Rattle.std.specs.declared.alloc.Global.{Global}
 use Rattle.indexmap.specs.IndexMap.{insert_entry}
+use Rattle.indexmap.proofs.MapLemmas.{absent_from_lookup, insert_entry-absent}
 use Rattle.std.specs.Cmp.Lexicographic.{pointwise}
 use Rattle.std.specs.Map.{lookup, set_value, keys_of}
-use Rattle.std.specs.Option.{option_map, option_map_or}
+use Rattle.std.specs.Option.{option_map_or}
 use Rattle.std.proofs.lemmas.Bool.{false≢true}
 use Rattle.std.proofs.lemmas.Option.{none-some, same_Some}
 use Rattle.ovn_base.specs.lists.Among.{Among}
@@ -17,8 +16,8 @@ use Rattle.ovn_base.specs.names.SameName.{bytes_decides}
 use Rattle.ovn_base.proofs.AmongLaws.{among_append, among_left, among_right, among_none}
 use Rattle.flow_table.specs.declared.flow.Flow.{Flow}
 use Rattle.flow_table.proofs.OnceLaws.{once_append}
-use Rattle.tuple_space.specs.Bunches.{Bunch, IsFalling, flows_in, flows_under, promised_under, AreBunches, bunches_of}
-use Rattle.tuple_space.proofs.MapLaws.{lookup_shown, set_shown, insert_shown, at_write, at_push, everywhere, found_key, keys_write, once_more}
+use Rattle.tuple_space.specs.Bunches.{Bunch, IsFalling, flows_in, flows_under, promised_under, AreBunches}
+use Rattle.tuple_space.proofs.MapLaws.{at_write, at_push, everywhere, found_key, keys_write, once_more}
 
 -- keys are compared exactly
 pub key_exact : (x y : List ℕ) → pointwise nat_eq x y ≡ true → x ≡ y
@@ -181,18 +180,9 @@ pub record IsWritten (key : List ℕ) (b w : Bunch) (old new : List (List ℕ ×
   pub set : new ≡ set_value (pointwise nat_eq key) old w
   pub change : IsChanged key w old new
 
-pub found_shown : (key : List ℕ) (es : List (Vec ℕ Global × Bunch)) → lookup (pointwise nat_eq key) (bunches_of es) ≡ lookup (λ (k : Vec ℕ Global). pointwise nat_eq key k.items) es
-found_shown key es = lookup_shown (λ (k : Vec ℕ Global). k.items) (λ (b : Bunch). b) (pointwise nat_eq key) es ∙ same (lookup (λ (k : Vec ℕ Global). pointwise nat_eq key k.items) es)
-  where
-    same : (o : Option Bunch) → option_map (λ (b : Bunch). b) o ≡ o
-    same None = refl
-    same (Some b) = refl
-
-pub written : (key : List ℕ) (es after : List (Vec ℕ Global × Bunch)) (b w : Bunch) → AreBunches (bunches_of es) → lookup (λ (k : Vec ℕ Global). pointwise nat_eq key k.items) es ≡ Some b → after ≡ set_value (λ (k : Vec ℕ Global). pointwise nat_eq key k.items) es w → IsWritten key b w (bunches_of es) (bunches_of after)
+pub written : (key : List ℕ) (es after : List (List ℕ × Bunch)) (b w : Bunch) → AreBunches es → lookup (pointwise nat_eq key) es ≡ Some b → after ≡ set_value (pointwise nat_eq key) es w → IsWritten key b w es after
 written key es after b w law at is =
-    let found : lookup (pointwise nat_eq key) (bunches_of es) ≡ Some b = found_shown key es ∙ at in
-    let set : bunches_of after ≡ set_value (pointwise nat_eq key) (bunches_of es) w = ap (λ l. bunches_of l) is ∙ set_shown (λ (k : Vec ℕ Global). k.items) (λ (b : Bunch). b) (pointwise nat_eq key) es w in
-    record { found = found; set = set; change = subst (λ l. IsChanged key w (bunches_of es) l) (sym set) (changed_write key (bunches_of es) w law (ap (λ o. is_some o) found)) }
+    record { found = at; set = is; change = subst (λ l. IsChanged key w es l) (sym is) (changed_write key es w law (ap (λ o. is_some o) at)) }
 
 pub under_found : (key : List ℕ) (es : List (List ℕ × Bunch)) (b : Bunch) → lookup (pointwise nat_eq key) es ≡ Some b → flows_under es key ≡ b.flows
 under_found key es b h = ap (λ o. flows_there o) h
@@ -201,8 +191,8 @@ pub promised_found : (key : List ℕ) (es : List (List ℕ × Bunch)) (b : Bunch
 promised_found key es b h = ap (λ o. promised_there o) h
 
 -- a bucket that was added
-pub added : (k : Vec ℕ Global) (es after : List (Vec ℕ Global × Bunch)) (w : Bunch) → lookup (pointwise nat_eq k.items) (bunches_of es) ≡ None → after ≡ insert_entry (λ (a b : Vec ℕ Global). pointwise nat_eq a.items b.items) es k w → bunches_of after ≡ bunches_of es ++ (k.items, w) ∷ []
-added k es after w none is = ap (λ l. bunches_of l) is ∙ insert_shown (λ (k : Vec ℕ Global). k.items) (λ (b : Bunch). b) (pointwise nat_eq) es k w none
+pub added : (k : List ℕ) (es after : List (List ℕ × Bunch)) (w : Bunch) → lookup (pointwise nat_eq k) es ≡ None → after ≡ insert_entry (pointwise nat_eq) es k w → after ≡ es ++ (k, w) ∷ []
+added k es after w none is = is ∙ insert_entry-absent (pointwise nat_eq) k w es (absent_from_lookup (pointwise nat_eq k) es none)
 
 -- the flow at an index, bunch by bunch
 pub get_in_step : (es : List (List ℕ × Bunch)) (i : ℕ) (e : List ℕ × Bunch) → slice_get es i ≡ Some e → flows_in (drop i es) ≡ e.1.flows ++ flows_in (drop (i + 1) es)
@@ -218,12 +208,3 @@ get_left (x ∷ xs) ys (suc k) l = get_left xs ys k (omega (arith, l))
 pub get_right : (xs ys : List Flow) (k : ℕ) → slice_get (xs ++ ys) (length xs + k) ≡ slice_get ys k
 get_right [] ys k = ap (λ n. slice_get ys n) (let e : 0 + k ≡ k = omega arith in e)
 get_right (x ∷ xs) ys k = ap (λ n. slice_get (x ∷ (xs ++ ys)) n) (let e : suc (length xs) + k ≡ suc (length xs + k) = omega arith in e) ∙ get_right xs ys k
-
-pub get_shown : (es : List (Vec ℕ Global × Bunch)) (i : ℕ) (k : Vec ℕ Global) (b : Bunch) → slice_get es i ≡ Some (k, b) → slice_get (bunches_of es) i ≡ Some (k.items, b)
-get_shown [] i k b h = absurd (none-some (k, b) h)
-get_shown (x ∷ es) zero k b h = ap (λ (y : Vec ℕ Global × Bunch). Some (y.0.items, y.1)) (same_Some x (k, b) h)
-get_shown (x ∷ es) (suc i) k b h = get_shown es i k b h
-
-pub shown_len : (es : List (Vec ℕ Global × Bunch)) → length (bunches_of es) ≡ length es
-shown_len [] = refl
-shown_len (e ∷ es) = ap (λ n. suc n) (shown_len es)

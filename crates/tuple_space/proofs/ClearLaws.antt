@@ -1,7 +1,5 @@
 -- Laws of buckets that are taken away.
 use Rattle.std.specs.Prelude.{◌≡◌, ℕ, Bool, true, false, cond, List, [], ◌∷◌, None, nat_eq, refl}
-use Rattle.std.proofs.Common.{Vec}
-use Rattle.std.specs.declared.alloc.Global.{Global}
 use mathlib.Core.Path.{sym, ap, subst, ◌∙◌}
 use mathlib.Core.Logic.{inl, inr}
 use Rattle.std.specs.Cmp.Lexicographic.{pointwise}
@@ -14,57 +12,55 @@ use Rattle.ovn_base.specs.lists.Among.{Among}
 use Rattle.ovn_base.specs.lists.Once.{EachOnce}
 use Rattle.ovn_base.proofs.AmongLaws.{among_none, among_cases}
 use Rattle.flow_table.specs.declared.flow.Flow.{Flow}
-use Rattle.tuple_space.specs.Bunches.{Bunch, IsFalling, flows_under, promised_under, AreBunches, bunches_of}
-use Rattle.tuple_space.proofs.BunchLaws.{key_exact, key_own, found_shown}
+use Rattle.tuple_space.specs.Bunches.{Bunch, IsFalling, flows_under, promised_under, AreBunches}
+use Rattle.tuple_space.proofs.BunchLaws.{key_exact, key_own}
 use Rattle.tuple_space.proofs.MapLaws.{turned}
 
 -- keys that are distinct stand once
-no_such : (es : List (Vec ℕ Global × Bunch)) (k : Vec ℕ Global) → AllByRecursion (λ (v : Vec ℕ Global). pointwise nat_eq k.items v.items ≡ false) (keys_of es) → Among k.items (keys_of (bunches_of es)) → ⊥
-no_such [] k h m = among_none k.items m
+no_such : (es : List (List ℕ × Bunch)) (k : List ℕ) → AllByRecursion (λ (v : List ℕ). pointwise nat_eq k v ≡ false) (keys_of es) → Among k (keys_of es) → ⊥
+no_such [] k h m = among_none k m
 no_such (e ∷ es) k h m =
-    elim (among_cases k.items e.0.items (keys_of (bunches_of es)) m) [
-      | inl s ↦ false≢true (sym h.0 ∙ subst (λ x. pointwise nat_eq k.items x ≡ true) s (key_own k.items))
+    elim (among_cases k e.0 (keys_of es) m) [
+      | inl s ↦ false≢true (sym h.0 ∙ subst (λ x. pointwise nat_eq k x ≡ true) s (key_own k))
       | inr n ↦ no_such es k h.1 n
     ]
 
-pub distinct_keys : (es : List (Vec ℕ Global × Bunch)) → IsDistinct (λ (a b : Vec ℕ Global). pointwise nat_eq a.items b.items) (keys_of es) → EachOnce (keys_of (bunches_of es))
+pub distinct_keys : (es : List (List ℕ × Bunch)) → IsDistinct (pointwise nat_eq) (keys_of es) → EachOnce (keys_of es)
 distinct_keys [] h = tt
 distinct_keys (e ∷ es) h = (
-  no_such es e.0 (IsDistinct-head (λ (a b : Vec ℕ Global). pointwise nat_eq a.items b.items) e.0 (keys_of es) h),
-  distinct_keys es (IsDistinct-tail (λ (a b : Vec ℕ Global). pointwise nat_eq a.items b.items) e.0 (keys_of es) h),
+  no_such es e.0 (IsDistinct-head (pointwise nat_eq) e.0 (keys_of es) h),
+  distinct_keys es (IsDistinct-tail (pointwise nat_eq) e.0 (keys_of es) h),
 )
 
-module _ (key : List ℕ) (es after : List (Vec ℕ Global × Bunch)) (gone : lookup (λ (v : Vec ℕ Global). pointwise nat_eq key v.items) after ≡ None) (others : KeepsOthers (λ (a b : Vec ℕ Global). pointwise nat_eq a.items b.items) (λ (v : Vec ℕ Global). pointwise nat_eq key v.items) es after) where
+module _ (key : List ℕ) (es after : List (List ℕ × Bunch)) (gone : lookup (pointwise nat_eq key) after ≡ None) (others : KeepsOthers (pointwise nat_eq) (pointwise nat_eq key) es after) where
   -- what is found after a bucket was taken away
-  cleared_at : (k : List ℕ) → lookup (pointwise nat_eq k) (bunches_of after) ≡ cond (pointwise nat_eq key k) None (lookup (pointwise nat_eq k) (bunches_of es))
+  cleared_at : (k : List ℕ) → lookup (pointwise nat_eq k) after ≡ cond (pointwise nat_eq key k) None (lookup (pointwise nat_eq k) es)
   unfolding KeepsOthers
   cleared_at k = by (pointwise nat_eq key k) refl
     where
-      by : (b : Bool) → pointwise nat_eq key k ≡ b → lookup (pointwise nat_eq k) (bunches_of after) ≡ cond b None (lookup (pointwise nat_eq k) (bunches_of es))
-      by true e = found_shown k after ∙ subst (λ q. lookup (λ (v : Vec ℕ Global). pointwise nat_eq q v.items) after ≡ None) (key_exact key k e) gone
+      by : (b : Bool) → pointwise nat_eq key k ≡ b → lookup (pointwise nat_eq k) after ≡ cond b None (lookup (pointwise nat_eq k) es)
+      by true e = subst (λ q. lookup (pointwise nat_eq q) after ≡ None) (key_exact key k e) gone
       by false e =
-          found_shown k after
-          ∙ others (λ (v : Vec ℕ Global). pointwise nat_eq k v.items)
-          (λ x y h. ap (λ z. pointwise nat_eq z y.items) (key_exact k x.items h))
-          (λ v h. subst (λ z. pointwise nat_eq k z ≡ false) (key_exact key v.items h) (turned (pointwise nat_eq) key_exact key_own key k e))
-          ∙ sym (found_shown k es)
+          others (pointwise nat_eq k)
+          (λ x y h. ap (λ z. pointwise nat_eq z y) (key_exact k x h))
+          (λ v h. subst (λ z. pointwise nat_eq k z ≡ false) (key_exact key v h) (turned (pointwise nat_eq) key_exact key_own key k e))
 
-  module _ (idle : (flows_under (bunches_of es) key ≡ []) × (promised_under (bunches_of es) key ≡ 0)) where
-    pub cleared_under : (k : List ℕ) → flows_under (bunches_of after) k ≡ flows_under (bunches_of es) k
+  module _ (idle : (flows_under es key ≡ []) × (promised_under es key ≡ 0)) where
+    pub cleared_under : (k : List ℕ) → flows_under after k ≡ flows_under es k
     cleared_under k = ap (λ o. option_map_or (λ (b : Bunch). b.flows) o []) (cleared_at k) ∙ by (pointwise nat_eq key k) refl
       where
-        by : (b : Bool) → pointwise nat_eq key k ≡ b → option_map_or (λ (x : Bunch). x.flows) (cond b None (lookup (pointwise nat_eq k) (bunches_of es))) [] ≡ flows_under (bunches_of es) k
-        by true e = subst (λ q. [] ≡ flows_under (bunches_of es) q) (key_exact key k e) (sym idle.0)
+        by : (b : Bool) → pointwise nat_eq key k ≡ b → option_map_or (λ (x : Bunch). x.flows) (cond b None (lookup (pointwise nat_eq k) es)) [] ≡ flows_under es k
+        by true e = subst (λ q. [] ≡ flows_under es q) (key_exact key k e) (sym idle.0)
         by false e = refl
 
-    pub cleared_promised : (k : List ℕ) → promised_under (bunches_of after) k ≡ promised_under (bunches_of es) k
+    pub cleared_promised : (k : List ℕ) → promised_under after k ≡ promised_under es k
     cleared_promised k = ap (λ o. option_map_or (λ (b : Bunch). b.promised) o 0) (cleared_at k) ∙ by (pointwise nat_eq key k) refl
       where
-        by : (b : Bool) → pointwise nat_eq key k ≡ b → option_map_or (λ (x : Bunch). x.promised) (cond b None (lookup (pointwise nat_eq k) (bunches_of es))) 0 ≡ promised_under (bunches_of es) k
-        by true e = subst (λ q. 0 ≡ promised_under (bunches_of es) q) (key_exact key k e) (sym idle.1)
+        by : (b : Bool) → pointwise nat_eq key k ≡ b → option_map_or (λ (x : Bunch). x.promised) (cond b None (lookup (pointwise nat_eq k) es)) 0 ≡ promised_under es k
+        by true e = subst (λ q. 0 ≡ promised_under es q) (key_exact key k e) (sym idle.1)
         by false e = refl
 
-    pub cleared_law : AreBunches (bunches_of es) → IsDistinct (λ (a b : Vec ℕ Global). pointwise nat_eq a.items b.items) (keys_of after) → AreBunches (bunches_of after)
+    pub cleared_law : AreBunches es → IsDistinct (pointwise nat_eq) (keys_of after) → AreBunches after
     cleared_law law distinct = record {
       keys = distinct_keys after distinct;
       once = λ k. subst (λ (l : List Flow). EachOnce l) (sym (cleared_under k)) (law.once k);

@@ -8,6 +8,7 @@ pub mod TableLaws
 pub mod NumberLaws
 pub mod SpaceLaws
 pub mod MaskLaws
+pub mod LineLaws
 pub mod LookLaws
 pub mod EachLaws
 pub mod ClearLaws

@@ -1,7 +1,5 @@
 -- Flows by the values that they want.
-use Rattle.std.specs.Prelude.{◌≡◌, ◌⊎◌, ℕ, Option, Some, None, List, [], ◌∷◌, ◌++◌, map, nat_eq}
-use Rattle.std.specs.Prelude.{Vec}
-use Rattle.std.specs.declared.alloc.Global.{Global}
+use Rattle.std.specs.Prelude.{◌≡◌, ◌⊎◌, ℕ, Option, Some, None, List, [], ◌∷◌, ◌++◌, nat_eq}
 use Rattle.std.specs.Cmp.Lexicographic.{pointwise}
 use Rattle.std.specs.Map.{lookup, keys_of}
 use Rattle.std.specs.Option.{option_map_or}
@@ -14,10 +12,6 @@ use Rattle.tuple_space.specs.Ranked.{IsRanked}
 pub record Bunch : Type 0 where
   pub flows : List Flow
   pub promised : ℕ
-
--- the bunches of a map, by the numbers in its keys
-abbrev pub bunches_of : List (Vec ℕ Global × Bunch) → List (List ℕ × Bunch)
-bunches_of es = map {B = List ℕ × Bunch} (λ e. (e.0.items, e.1)) es
 
 -- no flow beats one that stands before it
 abbrev pub IsFalling : List Flow → Type 0

@@ -6,3 +6,5 @@ pub mod Turns
 pub mod Sieving
 pub mod Space
 pub mod Same
+pub mod Digests
+pub mod Lines

@@ -10,6 +10,7 @@ ghost use Rattle.tuple_space.specs.Masks.{cube_bits, cube_mask};
 ghost use Rattle.tuple_space.specs.Sieving.{bit_of, IsLet, IsLetWhole};
 ghost use Rattle.tuple_space.specs.Space.{mask_number};
 
+use crate::line::Line;
 use crate::masks::Masks;
 use crate::number::note_in;
 use crate::sieve::Sieve;
@@ -23,31 +24,35 @@ use std::marker::Model;
 /// The flows of one mask with the same values, the best first, with room for as many more as were promised.
 #[derive(Drop)]
 pub struct Bucket {
-    flows: Vec<Flow>,
+    flows: Line,
     promised: usize,
 }
 
 impl Model for Bucket {
-    ghost use Rattle.std.specs.Prelude.{◌+◌, ◌≤◌, vec_len};
-    ghost use Rattle.std.specs.Vec.{vec_capacity};
+    ghost use Rattle.std.specs.Prelude.{◌≤◌};
     ghost use Rattle.tuple_space.specs.Bunches.{Bunch};
 
     ghost Value = { Bunch };
 
-    ghost view = { λ b. record { flows = b.flows.items; promised = b.promised } };
+    ghost view = { λ b. record { flows = b.flows.flows; promised = b.promised } };
 
-    ghost invariant = { λ b. vec_len b.flows + b.promised ≤ vec_capacity b.flows };
+    ghost invariant = { λ b. b.promised ≤ b.flows.room };
 }
 
 // Where the flow belongs among those that fall: before the first that it beats.
-fn place_of(flows: &[Flow], flow: &Flow) -> usize
-    ensures within { result ≤ length flows.now }
-    ensures before { (g : Flow) → Among g (take result flows.now) → ¬ Beats flow.now g }
-    ensures behind { IsFalling flows.now → (g : Flow) → Among g (drop result flows.now) → ¬ Beats g flow.now }
+fn place_of(flows: &Line, flow: &Flow) -> usize
+    ensures within { result ≤ length flows.now.flows }
+    ensures before { (g : Flow) → Among g (take result flows.now.flows) → ¬ Beats flow.now g }
+    ensures behind { IsFalling flows.now.flows → (g : Flow) → Among g (drop result flows.now.flows) → ¬ Beats g flow.now }
 {
-    for (i, held) in flows.iter().enumerate() {
-        if beats(flow, held) {
-            return i;
+    for i in 0..flows.len() {
+        match flows.get(i) {
+            Some(held) => {
+                if beats(flow, held) {
+                    return i;
+                }
+            }
+            None => unreachable!(),
         }
     }
     flows.len()
@@ -60,7 +65,7 @@ impl Bucket {
         ensures promised { result.promised ≡ 0 }
     {
         Bucket {
-            flows: Vec::new(alloc),
+            flows: Line::new(alloc),
             promised: 0,
         }
     }
@@ -83,7 +88,7 @@ impl Bucket {
     pub fn is_idle(&self) -> bool
         ensures { IsTrue result ↔ ((self.now.flows ≡ []) × (self.now.promised ≡ 0)) }
     {
-        self.flows.is_empty() && self.promised == 0
+        self.flows.len() == 0 && self.promised == 0
     }
 
     /// Marks the masks of the flows of the table in its sieve.
@@ -91,8 +96,11 @@ impl Bucket {
         ensures kept { (xs : List ℕ) (b : ℕ) → IsLet sieve.old xs b → IsLet sieve.new xs b }
         ensures noted { (f : Flow) → Among f self.now.flows → f.table ≡ table → IsLetWhole sieve.new (cube_bits f.cube) (bit_of (mask_number masks.now (cube_mask f.cube))) }
     {
-        for flow in &self.flows {
-            note_in(sieve, masks, table, flow);
+        for i in 0..self.flows.len() {
+            match self.flows.get(i) {
+                Some(flow) => note_in(sieve, masks, table, flow),
+                None => unreachable!(),
+            }
         }
     }
 
@@ -119,12 +127,9 @@ impl Bucket {
         ensures falls { IsFalling self.old.flows → IsFalling self.new.flows }
         ensures promised { self.new.promised + 1 ≡ self.old.promised }
     {
-        let place = place_of(self.flows.as_slice(), &flow);
+        let place = place_of(&self.flows, &flow);
         self.promised -= 1;
-        match self.flows.insert(place, flow) {
-            Ok(()) => {}
-            Err(_) => unreachable!(),
-        }
+        self.flows.insert(place, flow);
     }
 
     /// Takes the flow out, if it is there. No memory is taken, and no room is lost.
@@ -135,6 +140,6 @@ impl Bucket {
         ensures promised { self.new.promised ≡ self.old.promised }
     {
         exact_flow();
-        self.flows.retain(|held| held != flow);
+        self.flows.take_out(flow);
     }
 }

@@ -5,13 +5,14 @@ ghost use Rattle.std.specs.Map.{lookup};
 ghost use Rattle.std.specs.Option.{option_copied};
 ghost use Rattle.ovn_base.specs.lists.Among.{Among};
 ghost use Rattle.flow_table.specs.declared.flow.Flow.{Flow};
-ghost use Rattle.tuple_space.specs.Bunches.{flows_in, flows_under, promised_under, AreBunches, bunches_of};
+ghost use Rattle.tuple_space.specs.Bunches.{flows_in, flows_under, promised_under, AreBunches};
 ghost use Rattle.tuple_space.specs.Masks.{cube_bits, cube_mask};
 ghost use Rattle.tuple_space.specs.Sieving.{bit_of, IsLetWhole};
 ghost use Rattle.tuple_space.specs.Space.{mask_number};
 
 use crate::bucket::Bucket;
 use crate::masks::Masks;
+use crate::place::{Numbers, Place};
 use crate::sieve::Sieve;
 use flow_table::flow::Flow;
 use indexmap::IndexMap;
@@ -22,23 +23,23 @@ use std::marker::Model;
 /// Flows by key: each key has a bucket with the flows that belong there.
 #[derive(Drop)]
 pub struct Buckets {
-    places: IndexMap<Vec<u64>, Bucket>,
+    places: IndexMap<Place, Bucket>,
 }
 
 impl Model for Buckets {
     ghost use Rattle.std.specs.Prelude.{ℕ, List};
-    ghost use Rattle.tuple_space.specs.Bunches.{Bunch, AreBunches, bunches_of};
+    ghost use Rattle.tuple_space.specs.Bunches.{Bunch, AreBunches};
 
     ghost Value = { List (List ℕ × Bunch) };
 
-    ghost view = { λ s. bunches_of s.places.entries };
+    ghost view = { λ s. s.places.entries };
 
-    ghost invariant = { λ s. AreBunches (bunches_of s.places.entries) };
+    ghost invariant = { λ s. AreBunches s.places.entries };
 }
 
 // The flow at the index, bucket by bucket.
-fn flow_in(places: &IndexMap<Vec<u64>, Bucket>, index: usize) -> Option<&Flow>
-    ensures { option_copied result ≡ slice_get (flows_in (bunches_of places.now.entries)) index }
+fn flow_in(places: &IndexMap<Place, Bucket>, index: usize) -> Option<&Flow>
+    ensures { option_copied result ≡ slice_get (flows_in places.now.entries) index }
 {
     let mut left = index;
     for i in 0..places.len() {
@@ -76,7 +77,7 @@ impl Buckets {
     pub fn first(&self, key: &[u64]) -> Option<&Flow>
         ensures { option_copied result ≡ slice_get (flows_under self.now key.now) 0 }
     {
-        match self.places.get(key) {
+        match self.places.get(Numbers { numbers: key }) {
             Some(bucket) => bucket.get(0),
             None => None,
         }
@@ -98,7 +99,7 @@ impl Buckets {
     pub fn len_of(&self, table: u8) -> usize {
         let mut many: usize = 0;
         for (key, bucket) in self.places.iter() {
-            if key.first() == Some(&u64::from(table)) {
+            if key.first() == Some(u64::from(table)) {
                 many = many.saturating_add(bucket.len());
             }
         }
@@ -124,7 +125,7 @@ impl Buckets {
         ensures held { (k : List ℕ) (f : Flow) → Among f (flows_under self.new k) ↔ (((k ≡ key.now) × (f ≡ flow)) ⊎ Among f (flows_under self.old k)) }
         ensures promised { (k : List ℕ) → promised_under self.old k ≡ promised_under self.new k + cond (pointwise nat_eq key.now k) 1 0 }
     {
-        match self.places.get_mut(key) {
+        match self.places.get_mut(Numbers { numbers: key }) {
             Some(bucket) => bucket.put(flow),
             None => unreachable!(),
         }
@@ -136,7 +137,7 @@ impl Buckets {
         ensures kept { (k : List ℕ) (f : Flow) → Among f (flows_under self.new k) ↔ (Among f (flows_under self.old k) × ¬ ((k ≡ key.now) × (f ≡ flow.now))) }
         ensures promised { (k : List ℕ) → promised_under self.new k ≡ promised_under self.old k }
     {
-        match self.places.get_mut(key) {
+        match self.places.get_mut(Numbers { numbers: key }) {
             Some(bucket) => bucket.take_out(flow),
             None => unreachable!(),
         }
@@ -146,7 +147,7 @@ impl Buckets {
     pub fn has(&self, key: &[u64]) -> bool
         ensures { result ≡ is_some (lookup (pointwise nat_eq key.now) self.now) }
     {
-        self.places.contains_key(key)
+        self.places.contains_key(Numbers { numbers: key })
     }
 
     // Makes room for one flow more at a key that has a bucket.
@@ -156,7 +157,7 @@ impl Buckets {
         ensures under { (k : List ℕ) → flows_under self.new k ≡ flows_under self.old k }
         ensures promised { OnOk result ((k : List ℕ) → promised_under self.new k ≡ promised_under self.old k + cond (pointwise nat_eq key.now k) 1 0) }
     {
-        match self.places.get_mut(key) {
+        match self.places.get_mut(Numbers { numbers: key }) {
             Some(bucket) => bucket.promise(),
             None => unreachable!(),
         }
@@ -172,7 +173,7 @@ impl Buckets {
         let alloc = *self.places.allocator();
         let mut bucket = Bucket::new(alloc);
         bucket.promise()?;
-        let place = Vec::from_slice(alloc, key)?;
+        let place = Place::new(alloc, key)?;
         match self.places.insert(place, bucket) {
             Ok(_) => Ok(()),
             Err(_) => Err(NoMemory),
@@ -196,7 +197,7 @@ impl Buckets {
     fn is_idle(&self, key: &[u64]) -> bool
         ensures { IsTrue result → (flows_under self.now key.now ≡ []) × (promised_under self.now key.now ≡ 0) }
     {
-        match self.places.get(key) {
+        match self.places.get(Numbers { numbers: key }) {
             Some(bucket) => bucket.is_idle(),
             None => false,
         }
@@ -208,7 +209,7 @@ impl Buckets {
         ensures under { (k : List ℕ) → flows_under self.new k ≡ flows_under self.old k }
         ensures promised { (k : List ℕ) → promised_under self.new k ≡ promised_under self.old k }
     {
-        self.places.swap_remove(key);
+        self.places.swap_remove(Numbers { numbers: key });
     }
 
     // Takes the bucket of the key away, if it is idle.

@@ -4,10 +4,12 @@
 mod bucket;
 mod buckets;
 mod fields;
+mod line;
 mod marks;
 mod mask;
 mod masks;
 mod number;
+mod place;
 mod sieve;
 mod sieves;
 pub mod space;

@@ -6,4 +6,4 @@ use Rattle.tuple_space.proofs.bucket.place_of.Given as goal
 
 -- the flow beats none of those so far
 abbrev pub invariant-loop-i : goal.invariant-loop-i
-invariant-loop-i l = (g : Flow) → Among g (take l.i l.flows) → ¬ Beats l.flow g
+invariant-loop-i l = (g : Flow) → Among g (take l.i l.flows.flows) → ¬ Beats l.flow g

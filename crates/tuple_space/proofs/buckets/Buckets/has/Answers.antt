@@ -1,8 +1,7 @@
-use Rattle.std.proofs.Common.{is_some, nat_eq, sym, ap, ◌∙◌}
+use Rattle.std.proofs.Common.{is_some, nat_eq, ap, ◌∙◌}
 use Rattle.std.specs.Cmp.Lexicographic.{pointwise}
 use Rattle.std.specs.Map.{lookup}
-use Rattle.tuple_space.proofs.BunchLaws.{found_shown}
 use Rattle.tuple_space.proofs.buckets.Buckets.has.Goals as goal
 
 pub returns : goal.returns
-returns c = c.contains_key.ensures ∙ ap (λ o. is_some o) (sym (found_shown c.args.key.now c.self.inside.places.entries)) ∙ ap (λ v. is_some (lookup (pointwise nat_eq c.args.key.now) v)) c.self.view_is
+returns c = c.contains_key.ensures ∙ ap (λ v. is_some (lookup (pointwise nat_eq c.args.key.now) v)) c.self.view_is
