@@ -13,6 +13,7 @@ use Rattle.std.specs.Map.{keys_of}
 use Rattle.std.proofs.lemmas.Bool.{cond-true, cond-false}
 use Rattle.std.proofs.lemmas.Cmp.{nat_list_cmp_total, tied_itself}
 use Rattle.std.proofs.lemmas.List.Sorted.{searchable_from_sorted}
+use Rattle.std.proofs.lemmas.Option.{get_or_from_slice_get, slice_get-get_or}
 use Rattle.ovn_base.specs.declared.name.Name.{Name}
 use Rattle.ovn_base.specs.names.ByName.{at, put, IsByName}
 use Rattle.ovn_base.proofs.ByNameLaws.{at_head, at_tail, put_there, put_other, one_or_two, own_name, other_name, same_name}
@@ -94,6 +95,12 @@ module _ {X : Type 0} where
   within_left P [] (suc i) all = tt
   within_left P (e ∷ es) zero all = (all 0 e (omega arith) (omega arith), within_left P es zero (λ k d a b. all (suc k) d (omega arith) (omega (arith, b))))
   within_left P (e ∷ es) (suc i) all = within_left P es i (λ k d a b. all (suc k) d (omega (arith, a)) (omega (arith, b)))
+
+  -- an entry that was read and has the name is at its place
+  pub place_read : (es : List (Name × X)) → IsByName es → (k : Name) (i : ℕ) (e : Name × X) → i < length es → e ≡ slice_index_or es i e → e.0 ≡ k → IsPlaceAt es k i
+  place_read es sorted k i e lt read same =
+      let here : HoldsAt (λ e. e.0 ≡ k) es i = λ d. ap (λ (x : Name × X). x.0) (get_or_from_slice_get es i e d (slice_get-get_or es i e lt ∙ ap (λ (x : Name × X). Some x) (sym read))) ∙ same in
+      record { in_range = lt; below = before_place es sorted k i lt here; here = here }
 
   module _ (es : List (Name × X)) (sorted : IsByName es) (k : Name) where
     -- it ends at the place of the name, or at the gap for it

@@ -30,6 +30,14 @@ impl Homes {
         self.ports.get(name)
     }
 
+    /// The same as `port`, where the place `near` is tried before a search. If the port is found, `near` becomes the place behind it,
+    /// so that ports that follow each other by name take one search.
+    pub fn port_near(&self, name: &Name, near: &mut usize) -> Option<&Name>
+        ensures { option_copied result ≡ at self.now.ports name.now }
+    {
+        self.ports.get_near(name, near)
+    }
+
     /// The chassis where the gateway router of that name is at home; `None` where it is at home nowhere.
     pub fn router(&self, name: &Name) -> Option<&Name>
         ensures { option_copied result ≡ at self.now.routers name.now }

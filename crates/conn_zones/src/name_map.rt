@@ -59,6 +59,30 @@ impl<V> NameMap<V> {
         }
     }
 
+    /// The same as `get`, where the place `near` is tried before a search. If the name is found, `near` becomes the place behind it.
+    pub(crate) fn get_near(&self, name: &Name, near: &mut usize) -> Option<&V>
+        ensures { option_copied result ≡ at self.now name.now }
+    {
+        match self.search_near(name, *near) {
+            Ok(index) => {
+                *near = index + 1;
+                Some(&self.entries[index].1)
+            }
+            Err(_) => None,
+        }
+    }
+
+    // The same as `search`, where the place `near` is tried first.
+    fn search_near(&self, name: &Name, near: usize) -> Result<usize, usize>
+        ensures found { IfOk result (IsPlaceAt self.now name.now) }
+        ensures absent { IfErr result (IsGapAt self.now name.now) }
+    {
+        if near < self.entries.len() && self.entries[near].0 == *name {
+            return Ok(near);
+        }
+        self.search(name)
+    }
+
     // Where the name is, or where it would go.
     fn search(&self, name: &Name) -> Result<usize, usize>
         ensures found { IfOk result (IsPlaceAt self.now name.now) }
