@@ -95,22 +95,22 @@ impl Maps<'_> {
         }
     }
 
-    // The chassis to which the port is bound.
-    fn place_bound(&self, port: &Name) -> Place
+    // The chassis to which the port is bound, looked for near the one that was found last.
+    fn place_bound(&self, port: &Name, near: &mut usize) -> Place
         ensures { home_at result ≡ home_if on (at (basis_of self.now).bindings port.now) }
     {
-        match self.homes.port(port) {
+        match self.homes.port_near(port, near) {
             Some(home) => Place::On(*home),
             None => Place::Nowhere,
         }
     }
 
-    // The home of the port.
-    fn place_of(&self, port: &SwitchPort) -> Place
+    // The home of the port. That of a virtual one is looked for near the one that was found last.
+    fn place_of(&self, port: &SwitchPort, near: &mut usize) -> Place
         ensures { home_at result ≡ home_of (config_of (basis_of self.now)) port.now }
     {
         match port.kind {
-            PortKind::Virtual => self.place_bound(&port.name),
+            PortKind::Virtual => self.place_bound(&port.name, near),
             PortKind::Router => self.place_behind(port),
         }
     }
@@ -143,11 +143,11 @@ impl Maps<'_> {
         }
     }
 
-    // What the groups ask of the port with that key.
-    fn placed_port(&self, name: &Name, key: u16, port: &SwitchPort) -> Placed
+    // What the groups ask of the port with that key, whose home is looked for near the one that was found last.
+    fn placed_port(&self, name: &Name, key: u16, port: &SwitchPort, near: &mut usize) -> Placed
         ensures { result ≡ placed_port (basis_of self.now) (name.now, key) port.now }
     {
-        self.placed_at(name, key, port, &self.place_of(port))
+        self.placed_at(name, key, port, &self.place_of(port, near))
     }
 
     // What the groups ask of each of the ports, in one pass.
@@ -155,9 +155,10 @@ impl Maps<'_> {
         ensures { IfOk result (λ placed. placed ≡ placed_among (basis_of self.now) ports.now) }
     {
         let mut placed = List::new(alloc);
+        let mut near = 0;
         'ports: for (name, key) in ports {
             if let Some(port) = self.records.switch_port(name) {
-                placed.push(self.placed_port(name, *key, port))?;
+                placed.push(self.placed_port(name, *key, port, &mut near))?;
             }
         }
         Ok(placed)
@@ -336,7 +337,7 @@ impl Maps<'_> {
         match port.kind {
             PortKind::Virtual => Ok(()),
             PortKind::Router => {
-                self.push_homed(alloc, dp, key, self.place_of(port), flows)?;
+                self.push_homed(alloc, dp, key, self.place_of(port, &mut 0), flows)?;
                 self.push_way(alloc, dp, key, self.way_of(port), flows)
             }
         }
