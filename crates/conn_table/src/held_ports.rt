@@ -1,5 +1,5 @@
-//! What is learnt about held ports: for a block of ports of a reply tuple, a floor below which none is free. Blocks of two sizes are
-//! kept, each size in a map of its own.
+//! What is learnt about held ports: for a block of ports of a reply tuple, a floor below which none that may be picked is free. Blocks of
+//! two sizes are kept, each size in a map of its own.
 ghost use Rattle.std.specs.Prelude.{◌≡◌, ◌<◌};
 ghost use Rattle.conn_table.specs.HeldPorts.{block_of, floor_of, Forgets, AreForgotten, IsWithout};
 ghost use Rattle.conn_table.specs.Picks.{with_port};
@@ -35,7 +35,7 @@ fn block_of(size: u32, tuple: &Tuple) -> Tuple
     with_port((port - port % size) as u16, tuple)
 }
 
-// No port of the block below this number is free.
+// The number below which, as far as is known, no port of the block that may be picked is free.
 pub(crate) fn floor(floors: &BTreeMap<Tuple, u32>, block: &Tuple) -> u32
     ensures { result ≡ floor_of floors.now.entries block.now }
 {

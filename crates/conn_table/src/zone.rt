@@ -160,19 +160,19 @@ impl Zone {
     }
 
     // The least port of the block that is free, or the block's end. Ports below it that are known to be held aren't asked for.
-    fn least_in(&mut self, block: &Tuple) -> Result<u32, NoMemory>
+    fn least_in(&mut self, block: &Tuple) -> u32
         requires { IsBlock BLOCK_PORTS block.now }
-        ensures floor { IfOk result (IsFloor BLOCK_PORTS self.old block.now) }
-        ensures free { IfOk result (λ n. n < block.now.dst_port + BLOCK_PORTS → is_free_port self.old block.now n ≡ true) }
+        ensures floor { IsFloor BLOCK_PORTS self.old block.now result }
+        ensures free { result < block.now.dst_port + BLOCK_PORTS → is_free_port self.old block.now result ≡ true }
         ensures unchanged { self.new ≡ self.old }
     {
         let known = self.floor(block);
         let port = self.free_from(block, known);
-        if port == known {
-            return Ok(port);
+        if known < port {
+            // Without memory nothing is learnt.
+            let _ = self.learn(block, port);
         }
-        self.learn(block, port)?;
-        Ok(port)
+        port
     }
 
     // No port that may be picked is free below this number.
@@ -196,43 +196,44 @@ impl Zone {
 
     // The least port that is free and may be picked, or the number of all ports. None is free below `start`, so nothing is asked of the
     // blocks before its own.
-    fn least_from(&mut self, start: u32, back: &Tuple) -> Result<u32, NoMemory>
+    fn least_from(&mut self, start: u32, back: &Tuple) -> u32
         requires low { FIRST_PORT ≤ start }
         requires high { start ≤ ALL_PORTS }
         requires held { NoneFreeBelow self.old back.now start }
-        ensures low { IfOk result (λ n. FIRST_PORT ≤ n) }
-        ensures high { IfOk result (λ n. n ≤ ALL_PORTS) }
-        ensures held { IfOk result (λ n. NoneFreeBelow self.old back.now n) }
-        ensures free { IfOk result (λ n. n < ALL_PORTS → is_free_port self.old back.now n ≡ true) }
+        ensures low { FIRST_PORT ≤ result }
+        ensures high { result ≤ ALL_PORTS }
+        ensures held { NoneFreeBelow self.old back.now result }
+        ensures free { result < ALL_PORTS → is_free_port self.old back.now result ≡ true }
         ensures unchanged { self.new ≡ self.old }
     {
         'each: for number in start / BLOCK_PORTS..BLOCKS {
             let first = number * BLOCK_PORTS;
-            let port = self.least_in(&with_port(first as u16, back))?;
+            let port = self.least_in(&with_port(first as u16, back));
             if port < first + BLOCK_PORTS {
-                return Ok(port);
+                return port;
             }
         }
-        Ok(ALL_PORTS)
+        ALL_PORTS
     }
 
-    /// The least port that is free and may be picked, if there is one: answers to it would be no other connection's. What is
-    /// learnt about held ports is kept, so that few of them are asked for again.
-    pub fn least_port(&mut self, back: &Tuple) -> Result<Option<u16>, NoMemory>
+    /// The least port that is free and may be picked, if there is one: answers to it would be no other connection's. The list stays as it is;
+    /// what the search learns of held ports is kept beside it where there is memory, so that a later one needn't ask for them.
+    pub fn least_port(&mut self, back: &Tuple) -> Option<u16>
         requires { has_ports back.now.protocol ≡ true }
-        ensures some { IfOk result (λ found. IfSome found (λ n. (has_free_port self.old back.now ≡ true) × (may_pick self.old back.now n ≡ true) × (is_least_port self.old back.now n ≡ true))) }
-        ensures none { IfOk result (λ found. IfNone found (has_free_port self.old back.now ≡ false)) }
+        ensures some { IfSome result (λ n. (has_free_port self.old back.now ≡ true) × (may_pick self.old back.now n ≡ true) × (is_least_port self.old back.now n ≡ true)) }
+        ensures none { IfNone result (has_free_port self.old back.now ≡ false) }
         ensures unchanged { self.new ≡ self.old }
     {
         let start = self.start(back);
-        let port = self.least_from(start, back)?;
+        let port = self.least_from(start, back);
         if start / BLOCK_PORTS < port / BLOCK_PORTS {
-            self.learn_start(back, port)?;
+            // Without memory nothing is learnt.
+            let _ = self.learn_start(back, port);
         }
         if port == ALL_PORTS {
-            return Ok(None);
+            return None;
         }
-        Ok(Some(port as u16))
+        Some(port as u16)
     }
 
     // Whether there are as many entries as there can be.

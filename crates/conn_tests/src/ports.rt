@@ -76,3 +76,20 @@ fn many_ports_are_held(rt: HostRuntime) -> Result<(), Fail> {
     assert_eq!(rt; list.pick(&back), Some(1801));
     Ok(())
 }
+
+#[test]
+fn all_ports_are_held(rt: HostRuntime) -> Result<(), Fail> {
+    let mut list = Tracker::new(rt.alloc()).ok().ok_or("there is memory")?;
+    let mut all = true;
+    for port in 1024..=65_534 {
+        all &= hold(&mut list, port, 30);
+    }
+    assert!(rt; all);
+    let back = answer(80);
+    assert_eq!(rt; list.pick(&back), Some(65_535));
+    assert!(rt; hold(&mut list, 65_535, 0));
+    assert_eq!(rt; list.pick(&back), None);
+    list.expire(60);
+    assert_eq!(rt; list.pick(&back), Some(65_535));
+    Ok(())
+}

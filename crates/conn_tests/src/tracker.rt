@@ -118,7 +118,7 @@ impl Tracker {
         if matches!(back.protocol, Protocol::Other(_)) {
             return None;
         }
-        self.list.least_port(back).ok()?
+        self.list.least_port(back)
     }
 
     // Ends the connections that weren't used for long.

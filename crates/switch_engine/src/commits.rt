@@ -139,19 +139,19 @@ fn has_ports(tuple: &Tuple) -> bool
 }
 
 // From where a connection comes whose answers have the tuple, if the port is kept.
-fn source_in(zone: &mut Zone, back: &Tuple) -> Result<Source, NoMemory>
-    ensures source { IfOk result (λ source. IsSource back.now source zone.old) }
+fn source_in(zone: &mut Zone, back: &Tuple) -> Source
+    ensures source { IsSource back.now result zone.old }
     ensures unchanged { zone.new ≡ zone.old }
 {
     if zone.is_free(back) {
-        return Ok(Source::Kept);
+        return Source::Kept;
     }
     if !has_ports(back) {
-        return Ok(Source::NoneFree);
+        return Source::NoneFree;
     }
-    match zone.least_port(back)? {
-        Some(port) => Ok(Source::Port(port)),
-        None => Ok(Source::NoneFree),
+    match zone.least_port(back) {
+        Some(port) => Source::Port(port),
+        None => Source::NoneFree,
     }
 }
 
@@ -211,14 +211,14 @@ fn backend_in(zones: &ZoneMap, number: u16, tuple: &Tuple, backends: &[Backend])
     }
 }
 
-fn source_at(zones: &mut ZoneMap, number: u16, back: &Tuple) -> Result<Source, NoMemory>
-    ensures source { IfOk result (λ source. IsSourceIn back.now source (zone_at zones.old.entries number)) }
+fn source_at(zones: &mut ZoneMap, number: u16, back: &Tuple) -> Source
+    ensures source { IsSourceIn back.now result (zone_at zones.old.entries number) }
     ensures unchanged { zones.new.entries ≡ zones.old.entries }
     ensures room { spare zones.new ≡ spare zones.old }
 {
     match zones.get_mut(&number) {
         Some(zone) => source_in(zone, back),
-        None => Ok(Source::NoneFree),
+        None => Source::NoneFree,
     }
 }
 
@@ -402,8 +402,7 @@ pub(crate) fn snat(
         return Ok(Turn::Next);
     };
     let kept = Tuple { src: ip, ..from }.reversed();
-    let source = source_at(zones, number, &kept)?;
-    match source {
+    match source_at(zones, number, &kept) {
         Source::Kept => {
             let turn = begin_from(zones, number, from, kept, now, copy, effects)?;
             Ok(turn)

@@ -20,7 +20,7 @@ returns-in_ok-turn-in-Kept-clause-does c =
     rw (← same)
     (keep_does c.args.now c.in-Some.from fresh c.args.ip c.reversed-kept.result (reversed c.reversed-kept.result) c.reversed-kept.ensures
     (subst (λ (zs : ZoneLists). IsSourceIn c.reversed-kept.result Kept (zone_at zs c.args.number)) (sym same)
-    (subst (λ s. IsSourceIn c.reversed-kept.result s (zone_at c.args.zones.now.entries c.args.number)) c.in-Kept.is c.in_ok-source.ensures.source)) refl c.in_ok-turn-in-Kept.ensures.does)
+    (subst (λ s. IsSourceIn c.reversed-kept.result s (zone_at c.args.zones.now.entries c.args.number)) c.in-Kept.is c.source_at.ensures.source)) refl c.in_ok-turn-in-Kept.ensures.does)
 
 pub returns-in_ok-turn-in-Port-clause-does : goal.returns-in_ok-turn-in-Port-clause-does
 returns-in_ok-turn-in-Port-clause-does c =
@@ -30,7 +30,7 @@ returns-in_ok-turn-in-Port-clause-does c =
     rw (← same)
     (port_does c.args.now c.in-Some.from fresh c.args.ip c.reversed-kept.result c.with_port-back.result (reversed c.with_port-back.result) c.in-Port.port c.reversed-kept.ensures
     (subst (λ (zs : ZoneLists). IsSourceIn c.reversed-kept.result (Port c.in-Port.port) (zone_at zs c.args.number)) (sym same)
-    (subst (λ s. IsSourceIn c.reversed-kept.result s (zone_at c.args.zones.now.entries c.args.number)) c.in-Port.is c.in_ok-source.ensures.source)) c.with_port-back.ensures refl c.in_ok-push-in-Port.ensures.ok c.in_ok-turn-in-Port.ensures.does)
+    (subst (λ s. IsSourceIn c.reversed-kept.result s (zone_at c.args.zones.now.entries c.args.number)) c.in-Port.is c.source_at.ensures.source)) c.with_port-back.ensures refl c.in_ok-push-in-Port.ensures.ok c.in_ok-turn-in-Port.ensures.does)
 
 pub returns-in_ok-drop_copy-in-NoneFree-clause-does : goal.returns-in_ok-drop_copy-in-NoneFree-clause-does
 returns-in_ok-drop_copy-in-NoneFree-clause-does c =
@@ -40,4 +40,4 @@ returns-in_ok-drop_copy-in-NoneFree-clause-does c =
     rw (← same)
     (stuck_does c.args.now c.in-Some.from fresh c.args.ip c.reversed-kept.result c.reversed-kept.ensures
     (subst (λ (zs : ZoneLists). IsSourceIn c.reversed-kept.result NoneFree (zone_at zs c.args.number)) (sym same)
-    (subst (λ s. IsSourceIn c.reversed-kept.result s (zone_at c.args.zones.now.entries c.args.number)) c.in-NoneFree.is c.in_ok-source.ensures.source)) c.in_ok-drop_copy-in-NoneFree.ensures.effects)
+    (subst (λ s. IsSourceIn c.reversed-kept.result s (zone_at c.args.zones.now.entries c.args.number)) c.in-NoneFree.is c.source_at.ensures.source)) c.in_ok-drop_copy-in-NoneFree.ensures.effects)
