@@ -19,7 +19,7 @@ use Rattle.chassis_sim.specs.declared.out.SimFault.TheVariants.{Memory}
 use Rattle.chassis_sim.specs.declared.out.SimOut.{SimOut}
 use Rattle.chassis_sim.specs.declared.underlay.WaitingFrame.{WaitingFrame}
 use Rattle.chassis_sim.specs.Frames.{Brings}
-use Rattle.chassis_sim.specs.Holding.{IsWalkBy, Passes}
+use Rattle.chassis_sim.specs.Holding.{IsWalkBy, PassesChassis}
 use Rattle.chassis_sim.specs.Passing.{IsTold, IsInjected, IsArrived, arrived, KeepsOut, HasOtherFrames, AnswersInject, AnswersArrive}
 use Rattle.chassis_sim.specs.Passing.IsInjected.{through as through_port, nowhere}
 use Rattle.chassis_sim.specs.Passing.IsArrived.{through as through_tunnel, gone}
@@ -37,12 +37,12 @@ walked by flows entry now packet before after old new none nothing gained =
 -- the packet went through the flows that are held, or met none
 pub injected : (by : Choosing) (state : SimState) (zones : List (Name × ZoneLists)) (port : Name) (now : ℕ) (packet : Packet) (chassis : Name) (run : RunOut) (before after : SimOut) (new : SimState)
     → at_name state.bindings port ≡ Some chassis
-    → Passes by chassis (at_name state.chassis chassis) (Vif port) now packet state.zones zones run
+    → PassesChassis by chassis (at_name state.chassis chassis) (Vif port) now packet state.zones zones run
     → IsTold (record state { zones = zones }) chassis (Port port) run.walk run.effects before after new
     → IsInjected by state port now packet before after new
 injected by state zones port now packet chassis run before after new bound passed told = from (at_name state.chassis chassis) refl passed
   where
-    from : (found : Option (List Flow)) → at_name state.chassis chassis ≡ found → Passes by chassis found (Vif port) now packet state.zones zones run → IsInjected by state port now packet before after new
+    from : (found : Option (List Flow)) → at_name state.chassis chassis ≡ found → PassesChassis by chassis found (Vif port) now packet state.zones zones run → IsInjected by state port now packet before after new
     from (Some flows) is passed =
         through_port chassis flows passed.0 passed.1 run.walk run.effects bound is passed.2 passed.4
         (subst (λ z. IsTold (record state { zones = z }) chassis (Port port) run.walk run.effects before after new) passed.3 told)
@@ -56,13 +56,13 @@ injected by state zones port now packet chassis run before after new bound passe
 pub arrives_from : (by : Choosing) (state : SimState) (zones : List (Name × ZoneLists)) (n : ℕ) (keep : Bool) (now : ℕ) (frame : WaitingFrame) (entry : Entry) (packet : Packet) (run : RunOut) (before after : SimOut) (new : SimState)
     → numbered state.waiting n ≡ Some frame
     → Brings frame.bytes entry packet
-    → Passes by frame.to (at_name state.chassis frame.to) entry now packet state.zones zones run
+    → PassesChassis by frame.to (at_name state.chassis frame.to) entry now packet state.zones zones run
     → IsTold (record (arrived state n keep) { zones = zones }) frame.to (Frame n) run.walk run.effects before after new
     → IsArrived by state n keep now before after new
 arrives_from by state zones n keep now frame (Vif port) packet run before after new waits brings passed told = absurd brings
 arrives_from by state zones n keep now frame (Tunnel vni in_key out_key) packet run before after new waits brings passed told = from (at_name state.chassis frame.to) refl passed
   where
-    from : (found : Option (List Flow)) → at_name state.chassis frame.to ≡ found → Passes by frame.to found (Tunnel vni in_key out_key) now packet state.zones zones run → IsArrived by state n keep now before after new
+    from : (found : Option (List Flow)) → at_name state.chassis frame.to ≡ found → PassesChassis by frame.to found (Tunnel vni in_key out_key) now packet state.zones zones run → IsArrived by state n keep now before after new
     from (Some flows) is passed =
         through_tunnel frame flows passed.0 passed.1 vni in_key out_key packet run.walk run.effects waits is passed.2 brings.0 passed.4
         (subst (λ z. IsTold (record (arrived state n keep) { zones = z }) frame.to (Frame n) run.walk run.effects before after new) passed.3 told)

@@ -59,15 +59,15 @@ abbrev pub with_lists : List (Name × ZoneLists) → Name → ZoneLists → List
 with_lists zones chassis lists = set_value (same_name chassis) zones lists
 
 -- what came of the packet on the chassis at the time, by its flows and from zones to zones
-abbrev pub Passes : Choosing → Name → Option (List Flow) → Entry → ℕ → Packet → List (Name × ZoneLists) → List (Name × ZoneLists) → RunOut → Type 0
-Passes by chassis None entry now packet before after run = (run.walk ≡ []) × (run.effects ≡ lost_at entry) × (after ≡ before)
-Passes by chassis (Some flows) entry now packet before after run =
+abbrev pub PassesChassis : Choosing → Name → Option (List Flow) → Entry → ℕ → Packet → List (Name × ZoneLists) → List (Name × ZoneLists) → RunOut → Type 0
+PassesChassis by chassis None entry now packet before after run = (run.walk ≡ []) × (run.effects ≡ lost_at entry) × (after ≡ before)
+PassesChassis by chassis (Some flows) entry now packet before after run =
     (lists : ZoneLists) × (left : ZoneLists) × (at_name before chassis ≡ Some lists) × (after ≡ with_lists before chassis left) × IsWalkBy by flows entry now packet lists run.walk run.effects left
 
 -- the packet passes with the choices of the program, which are legal; its frames can be sent, and what had room for a zone still has it
 pub record IsPassage (chassis : Name) (flows : Option (List Flow)) (entry : Entry) (now : ℕ) (packet : Packet) (old new : List (Name × HeldZones)) (run : RunOut) : Type 0 where
-  pub any : Passes any_legal chassis flows entry now packet (zones_held old) (zones_held new) run
-  pub own : Passes of_program chassis flows entry now packet (zones_held old) (zones_held new) run
+  pub any : PassesChassis any_legal chassis flows entry now packet (zones_held old) (zones_held new) run
+  pub own : PassesChassis of_program chassis flows entry now packet (zones_held old) (zones_held new) run
   pub can : AllByRecursion CanBeSent run.effects
   pub room : KeepsRoom old new
 

@@ -2,7 +2,7 @@
 use Rattle.std.proofs.Common.{◌≡◌, ◌≢◌, ℕ, ◌+◌, ◌*◌, ◌/◌, ◌%◌, ◌<◌, ◌≤◌, true, false, List, [], ◌∷◌, ◌++◌, length, slice_get, Some, Result, Ok, Err, refl, sym, ap, subst, ◌∙◌, arith, inl, inr}
 use Rattle.std.proofs.lemmas.Bool.{cases_lt}
 use Rattle.std.specs.List.{list_any, filter}
-use Rattle.geneve_frames.specs.Layout.{BaseHeader, TunnelOption, HasHeader, IsLaidOut}
+use Rattle.geneve_frames.specs.Layout.{BaseHeader, TunnelOption, HasHeader, IsFrameLaidOut}
 use Rattle.geneve_frames.specs.Meaning.{Spells, CarriesKeys, HasBase, HasOptions, Shows, place, IsClear, IsFirst, is_ovn, is_unknown_critical}
 use Rattle.geneve_frames.specs.Answers.{IsReadAs, GivesParts}
 use Rattle.geneve_frames.specs.declared.reading.View.{View}
@@ -72,12 +72,12 @@ pub clear_4 : (frame : List ℕ) (base : BaseHeader) (rest : List ℕ) → 8 ≤
 clear_4 frame base rest long begins version control protocol = clear_more frame 3 Protocol refl (clear_3 frame base rest long begins version control) (no_base frame base rest (λ b. b.protocol ≢ 0x6558) begins (λ other. other protocol))
 
 -- options of which something holds, where it doesn't
-no_options : (frame : List ℕ) (base : BaseHeader) (options : List TunnelOption) (inner : List ℕ) (P : List TunnelOption → Type 0) → IsLaidOut frame base options inner → ¬ (P options) → ¬ (HasOptions frame P)
+no_options : (frame : List ℕ) (base : BaseHeader) (options : List TunnelOption) (inner : List ℕ) (P : List TunnelOption → Type 0) → IsFrameLaidOut frame base options inner → ¬ (P options) → ¬ (HasOptions frame P)
 no_options frame base options inner P laid not_options has = not_options (subst P (one_layout frame has.0 base has.1 options has.2 inner has.3 laid).1 has.4)
 
 -- what comes before the options of a frame is right
 pub record IsSound (frame : List ℕ) (base : BaseHeader) (options : List TunnelOption) (inner : List ℕ) : Type 0 where
-  pub laid_out : IsLaidOut frame base options inner
+  pub laid_out : IsFrameLaidOut frame base options inner
   pub version : base.version ≡ 0
   pub control : base.control ≡ 0
   pub protocol : base.protocol ≡ 0x6558

@@ -2,7 +2,7 @@
 use Rattle.std.proofs.Common.{◌≡◌, ℕ, ◌+◌, ◌*◌, ◌/◌, ◌%◌, ◌<◌, List, [], ◌∷◌, ◌++◌, length, take, drop, refl, sym, ap, ◌∙◌, arith, append_assoc}
 use Rattle.std.proofs.lemmas.List.{take_at, drop_at, append-nil}
 use Rattle.std.specs.List.{flat_map, AllByRecursion}
-use Rattle.geneve_frames.specs.Layout.{BaseHeader, HasHeader, TunnelOption, IsTunnelOption, option_bytes, IsLaidOut}
+use Rattle.geneve_frames.specs.Layout.{BaseHeader, HasHeader, TunnelOption, IsTunnelOption, option_bytes, IsFrameLaidOut}
 
 -- fronts of one length are one
 pub same_fronts : (a b x y : List ℕ) → length a ≡ length b → a ++ x ≡ b ++ y → (a ≡ b) × (x ≡ y)
@@ -89,7 +89,7 @@ one_options os ps x y io ip len e =
     let none : m.0 ≡ [] = no_options m.0 m.2 in
     (sym (m.3 ∙ ap (λ (more : List TunnelOption). os ++ more) none ∙ append-nil os), f.1)
 
-pub one_layout : (frame : List ℕ) (b c : BaseHeader) (os ps : List TunnelOption) (x y : List ℕ) → IsLaidOut frame b os x → IsLaidOut frame c ps y → (b ≡ c) × (os ≡ ps) × (x ≡ y)
+pub one_layout : (frame : List ℕ) (b c : BaseHeader) (os ps : List TunnelOption) (x y : List ℕ) → IsFrameLaidOut frame b os x → IsFrameLaidOut frame c ps y → (b ≡ c) × (os ≡ ps) × (x ≡ y)
 one_layout frame b c os ps x y lb lc =
     let base = one_base frame b c (joined os ++ x) (joined ps ++ y) lb.begins lc.begins in
     let rest = one_options os ps x y lb.each lc.each (lb.fills ∙ ap (λ (h : BaseHeader). 4 * h.words) base.0 ∙ sym lc.fills) base.1 in

@@ -59,7 +59,7 @@ pub record HasHeader (frame : List ℕ) (base : BaseHeader) (rest : List ℕ) : 
   pub whole : frame ≡ base_bytes base ++ rest
 
 -- the frame is this base header, these options, which are as long as the header says, and the inner frame
-pub record IsLaidOut (frame : List ℕ) (base : BaseHeader) (options : List TunnelOption) (inner : List ℕ) : Type 0 where
+pub record IsFrameLaidOut (frame : List ℕ) (base : BaseHeader) (options : List TunnelOption) (inner : List ℕ) : Type 0 where
   pub begins : HasHeader frame base (flat_map option_bytes options ++ inner)
   pub each : AllByRecursion IsTunnelOption options
   pub fills : length (flat_map option_bytes options) ≡ 4 * base.words

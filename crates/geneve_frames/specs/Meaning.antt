@@ -2,7 +2,7 @@
 use Rattle.std.specs.Prelude.{◌≡◌, ◌≢◌, ℕ, ◌+◌, ◌*◌, ◌^◌, ◌<◌, ◌≤◌, ◌==◌, ◌&&◌, nat_le, Bool, true, false, not, List, [], ◌∷◌, ◌++◌, length, filter, ⊤}
 use Rattle.std.specs.List.{list_any}
 use Rattle.std.specs.Int.{bytes_high_first}
-use Rattle.geneve_frames.specs.Layout.{BaseHeader, TunnelOption, HasHeader, IsLaidOut}
+use Rattle.geneve_frames.specs.Layout.{BaseHeader, TunnelOption, HasHeader, IsFrameLaidOut}
 use Rattle.geneve_frames.specs.declared.fault.GeneveFault.{GeneveFault}
 use Rattle.geneve_frames.specs.declared.fault.GeneveFault.TheVariants.{Short, Version, Control, Protocol, OptionsCut, UnknownCritical, NoOvnOption, TwoOvnOptions}
 
@@ -27,7 +27,7 @@ pub record CarriesKeys (content : List ℕ) (in_key out_key : ℕ) : Type 0 wher
 pub record Spells (frame : List ℕ) (vni in_key out_key : ℕ) (inner : List ℕ) : Type 0 where
   pub base : BaseHeader
   pub options : List TunnelOption
-  pub laid_out : IsLaidOut frame base options inner
+  pub laid_out : IsFrameLaidOut frame base options inner
   pub version : base.version ≡ 0
   pub control : base.control ≡ 0
   pub protocol : base.protocol ≡ 0x6558
@@ -47,7 +47,7 @@ HasBase frame P = (base : BaseHeader) × (rest : List ℕ) × HasHeader frame ba
 
 -- the frame has whole options of which this holds
 abbrev pub HasOptions : List ℕ → (List TunnelOption → Type 0) → Type 0
-HasOptions frame P = (base : BaseHeader) × (options : List TunnelOption) × (inner : List ℕ) × IsLaidOut frame base options inner × P options
+HasOptions frame P = (base : BaseHeader) × (options : List TunnelOption) × (inner : List ℕ) × IsFrameLaidOut frame base options inner × P options
 
 -- what each fault says of the bytes
 abbrev pub Shows : GeneveFault → List ℕ → Type 0

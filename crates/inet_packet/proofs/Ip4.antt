@@ -5,7 +5,7 @@ use Rattle.inet_packet.specs.declared.frame.Front.{Front}
 use Rattle.inet_packet.specs.declared.packet.Ip4Packet.{Ip4Packet}
 use Rattle.inet_packet.specs.declared.packet.Part.{Part}
 use Rattle.inet_packet.specs.Frame.{ip4_header, part_bytes}
-use Rattle.inet_packet.specs.Reading.{IsIp4Bytes, IsFrontWithin, front_bytes, header_len, total_len, packet_of}
+use Rattle.inet_packet.specs.Reading.{IsIp4Bytes, IsFrontWithin, front_bytes, header_len, total_len, ip4_packet_of}
 use Rattle.inet_packet.specs.Sums.{words, ones_sum}
 use Rattle.inet_packet.specs.Whole.{AreBytes, IsPart, IsPartWithin, IsWholeIp4}
 
@@ -34,7 +34,7 @@ total_is bytes f options part tail v =
     omega (arith, a, b, v.front.total)
 
 pub view_parts : (bytes : List ℕ) (f : Front) (options : List ℕ) (part : Part) (tail : List ℕ) → IsIp4Bytes bytes → IsView bytes f options part tail
-    → bytes ≡ (ip4_header (packet_of f options part) ++ part_bytes part) ++ tail
+    → bytes ≡ (ip4_header (ip4_packet_of f options part) ++ part_bytes part) ++ tail
 unfolding ip4_header
 view_parts bytes f options part tail h v =
     v.parts
@@ -42,9 +42,9 @@ view_parts bytes f options part tail h v =
     ∙ ap (λ (l : List ℕ). ((64 + (5 + length options / 4)) % 256) ∷ drop 1 (front_bytes f ++ l)) (sym (append_assoc options (part_bytes part) tail))
 
 pub view_whole : (bytes : List ℕ) (f : Front) (options : List ℕ) (part : Part) (tail : List ℕ) → IsIp4Bytes bytes → IsView bytes f options part tail
-    → IsWholeIp4 (packet_of f options part) tail
+    → IsWholeIp4 (ip4_packet_of f options part) tail
 view_whole bytes f options part tail h v =
-    let i = packet_of f options part in
+    let i = ip4_packet_of f options part in
     let parts = view_parts bytes f options part tail h v in
     let parts' : bytes ≡ ip4_header i ++ (part_bytes part ++ tail) = parts ∙ append_assoc (ip4_header i) (part_bytes part) tail in
     let e : get_or bytes 0 0 ≡ f.first = ap (λ (l : List ℕ). get_or l 0 0) v.parts in

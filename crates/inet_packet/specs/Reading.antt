@@ -50,8 +50,8 @@ pub record IsFrontWithin (f : Front) : Type 0 where
   pub dst : f.dst.0 < 2 ^ 32
 
 -- an IPv4 packet of what is read of it
-abbrev pub packet_of : Front → List ℕ → Part → Ip4Packet
-packet_of f options part = record { tos = f.tos; total = f.total; ident = f.ident; frag = f.frag; ttl = f.ttl; proto = f.proto; sum = f.sum; src = f.src; dst = f.dst; options = options; part = part }
+abbrev pub ip4_packet_of : Front → List ℕ → Part → Ip4Packet
+ip4_packet_of f options part = record { tos = f.tos; total = f.total; ident = f.ident; frag = f.frag; ttl = f.ttl; proto = f.proto; sum = f.sum; src = f.src; dst = f.dst; options = options; part = part }
 
 -- the bytes behind a type are this body and this rest
 pub record IsBodyOf (ether_type : ℕ) (bytes : List ℕ) (body : Body) (tail : List ℕ) : Type 0 where

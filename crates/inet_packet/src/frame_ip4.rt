@@ -1,7 +1,7 @@
 //! The IPv4 packet behind the type of a frame, read where it lies.
 ghost use Rattle.std.specs.Prelude.{◌≡◌, ◌↔◌, ◌+◌, ◌≤◌, ◌-◌, ◌++◌, ℕ, length, IsTrue};
 ghost use Rattle.inet_packet.specs.Frame.{ip4_header, part_bytes};
-ghost use Rattle.inet_packet.specs.Reading.{IsIp4Bytes, header_len, packet_of};
+ghost use Rattle.inet_packet.specs.Reading.{IsIp4Bytes, header_len, ip4_packet_of};
 ghost use Rattle.inet_packet.specs.Whole.{AreBytes, IsPart, IsPartWithin, IsFragment, IsWholeIp4};
 
 use crate::frame::{Front, take_front, take_u8, take_u16};
@@ -134,8 +134,8 @@ fn take_part(frag: u16, proto: u8, len: usize, bytes: &[u8]) -> (Part, &[u8])
 /// The header's first 20 bytes, its options, the transport header, and what follows.
 pub(crate) fn view_ip4(bytes: &[u8]) -> (Front, &[u8], Part, &[u8])
     requires { IsIp4Bytes bytes.now }
-    ensures parts { let i = packet_of result.0 result.1.now result.2 in bytes.now ≡ (ip4_header i ++ part_bytes result.2) ++ result.3.now }
-    ensures whole { IsWholeIp4 (packet_of result.0 result.1.now result.2) result.3.now }
+    ensures parts { let i = ip4_packet_of result.0 result.1.now result.2 in bytes.now ≡ (ip4_header i ++ part_bytes result.2) ++ result.3.now }
+    ensures whole { IsWholeIp4 (ip4_packet_of result.0 result.1.now result.2) result.3.now }
 {
     let (front, rest) = take_front(bytes);
     let header = usize::from(front.first % 16) * 4;

@@ -19,7 +19,7 @@ use Rattle.match_language.specs.Grammar.IsJoined.{last_term, before_others}
 use Rattle.match_language.specs.Spelling.{bit_text}
 use Rattle.match_language.specs.FirstFault.{Wanted, fault_by}
 use Rattle.match_language.specs.FirstFault.Wanted.{wants_term, wants_operator}
-use Rattle.match_language.specs.Reading.{Read, ◌>>=◌, unexpected, comparison, leaf_by, leaf, is_operator, more, joined, after_first, expression, closed_by, group, negation, deep_by, deep, flat_by, flat, term}
+use Rattle.match_language.specs.Reading.{Read, ◌>>=◌, unexpected, comparison, leaf_by, leaf, is_operator, more, joined_terms, after_first, expression, closed_by, group, negation, deep_by, deep, flat_by, flat, term}
 use Rattle.match_language.proofs.Steps.{bind_ok, done, failed, ok_is, never, chosen}
 use Rattle.match_language.proofs.ParseLaws.{operator, operator_is, term_found, expr_found}
 use Rattle.match_language.proofs.Only.{Stops, term_leaf, term_only, term_shorter, expr_only}
@@ -256,14 +256,14 @@ more_stops way n is_and (suc m) xs i x e =
     ]
 
 first_stops : (way : Direction) (n : ℕ) (y : Expr) (c : Token) (j : Input) (x : Expr × Input) → token j ≡ c → after_first (term way n) y c j ≡ Ok x → Stops (token x.1)
-unfolding joined
+unfolding joined_terms
 first_stops way n y t.And j x at e =
-    let a = bind_ok (joined (term way n) true y j) (λ x. Ok (ex.All x.0, x.1)) x e in
+    let a = bind_ok (joined_terms (term way n) true y j) (λ x. Ok (ex.All x.0, x.1)) x e in
     let b = more_stops way n true (left j) (y ∷ []) j a.0 a.1 in
     let same = ap (λ (z : Expr × Input). token z.1) (ok_is (ex.All a.0.0, a.0.1) x a.2) in
     subst Stops same (record { no_and = b.0; no_or = b.1 })
 first_stops way n y t.Or j x at e =
-    let a = bind_ok (joined (term way n) false y j) (λ x. Ok (ex.Any x.0, x.1)) x e in
+    let a = bind_ok (joined_terms (term way n) false y j) (λ x. Ok (ex.Any x.0, x.1)) x e in
     let b = more_stops way n false (left j) (y ∷ []) j a.0 a.1 in
     let same = ap (λ (z : Expr × Input). token z.1) (ok_is (ex.Any a.0.0, a.0.1) x a.2) in
     subst Stops same (record { no_and = b.1; no_or = b.0 })
@@ -281,13 +281,13 @@ module _ (way : Direction) (n : ℕ) (fails_term : TermFails way n) where
   unfolding expression
   expression_at k = refl
 
-  joined_at : (is_and : Bool) (x : Expr) (k : Input) → joined (term way n) is_and x k ≡ terms_from way n is_and (x ∷ []) k
-  unfolding joined
+  joined_at : (is_and : Bool) (x : Expr) (k : Input) → joined_terms (term way n) is_and x k ≡ terms_from way n is_and (x ∷ []) k
+  unfolding joined_terms
   joined_at is_and x k = refl
 
   -- an operator behind the first term
   first_fails : (ts : List Token) (opens : Opens ts) (i : Input) (g : MatchFault) (x : Expr × Input) → IsTerm way n x.0 i x.1 → (c : Token) → token x.1 ≡ c → after_first (term way n) x.0 c x.1 ≡ Err g → Fails (expression (term way n)) (SomeExpr way n) ts i g
-  first_fails ts opens i g x found t.And at e = elim (bind_err (joined (term way n) true x.0 x.1) (λ y. Ok (ex.All y.0, y.1)) g e) [
+  first_fails ts opens i g x found t.And at e = elim (bind_err (joined_terms (term way n) true x.0 x.1) (λ y. Ok (ex.All y.0, y.1)) g e) [
     | inl h ↦
         fails_behind {H = SomeExpr way n} (terms_from way n true (x.0 ∷ [])) (expression (term way n)) ts i x.1 g (term_moves way n x.0 i x.1 found ts opens)
         (λ us ended. more_fails way n fails_term true (left x.1) (x.0 ∷ []) us x.1 g (omega arith) at (sym (joined_at true x.0 x.1) ∙ h))
@@ -299,7 +299,7 @@ module _ (way : Direction) (n : ℕ) (fails_term : TermFails way n) where
         (λ k m l stands others. (ex.All (x.0 ∷ others.0), all_of way n x.0 others.0 k m l stands others.1 others.2))
     | inr h ↦ absurd (err_never (ex.All h.0.0, h.0.1) g h.1.1)
   ]
-  first_fails ts opens i g x found t.Or at e = elim (bind_err (joined (term way n) false x.0 x.1) (λ y. Ok (ex.Any y.0, y.1)) g e) [
+  first_fails ts opens i g x found t.Or at e = elim (bind_err (joined_terms (term way n) false x.0 x.1) (λ y. Ok (ex.Any y.0, y.1)) g e) [
     | inl h ↦
         fails_behind {H = SomeExpr way n} (terms_from way n false (x.0 ∷ [])) (expression (term way n)) ts i x.1 g (term_moves way n x.0 i x.1 found ts opens)
         (λ us ended. more_fails way n fails_term false (left x.1) (x.0 ∷ []) us x.1 g (omega arith) at (sym (joined_at false x.0 x.1) ∙ h))

@@ -12,7 +12,7 @@ use Rattle.match_language.specs.Grammar.{IsTerm, IsExpr, IsJoined, SpellsExpr}
 use Rattle.match_language.specs.Grammar.IsTerm.{constant, predicate, compared, negated, grouped}
 use Rattle.match_language.specs.Grammar.IsExpr.{alone, all_of, any_of}
 use Rattle.match_language.specs.Grammar.IsJoined.{last_term, before_others}
-use Rattle.match_language.specs.Reading.{Read, leaf_by, leaf, is_operator, more, joined, after_first, expression, group, negation, deep_by, deep, flat_by, flat, term, ended_by, whole}
+use Rattle.match_language.specs.Reading.{Read, leaf_by, leaf, is_operator, more, joined_terms, after_first, expression, group, negation, deep_by, deep, flat_by, flat, term, ended_by, whole}
 use Rattle.match_language.proofs.ParseLaws.{operator}
 use Rattle.match_language.proofs.Shorter.{is_end, next_shorter, next_no_longer}
 use Rattle.match_language.proofs.OnlyValues.{comparison_only, values_no_longer}
@@ -88,7 +88,7 @@ mutual
       omega (arith, a, b, c)
 
 mutual
-  unfolding term deep negation group expression joined more
+  unfolding term deep negation group expression joined_terms more
 
   pub term_only : (way : Direction) (n : ℕ) (x : Expr) (i j : Input) → IsTerm way n x i j → term way n i ≡ Ok (x, j)
   term_only _ _ _ _ _ (constant way n b i at) = term_leaf way n i (t.Bit b) at (λ m. refl) refl

@@ -15,7 +15,7 @@ use Rattle.match_language.specs.Grammar.IsExpr.{alone, all_of, any_of}
 use Rattle.match_language.specs.Grammar.IsJoined.{last_term, before_others}
 use Rattle.match_language.specs.declared.fault.ParseFault.{ParseFault}
 use Rattle.match_language.specs.Faults.{GivesExpr}
-use Rattle.match_language.specs.Reading.{Read, unexpected, comparison, leaf_by, leaf, is_operator, more, joined, after_first, expression, closed_by, group, negation, deep_by, deep, flat_by, flat, term, ended_by, ended, whole}
+use Rattle.match_language.specs.Reading.{Read, unexpected, comparison, leaf_by, leaf, is_operator, more, joined_terms, after_first, expression, closed_by, group, negation, deep_by, deep, flat_by, flat, term, ended_by, ended, whole}
 use Rattle.match_language.proofs.Steps.{bind_ok, done, ok_is, never, chosen, chosen_ok}
 use Rattle.match_language.proofs.ParseValues.{comparison_found}
 
@@ -63,20 +63,20 @@ more_found way n finds is_and (suc m) xs i x e =
           ]
     ]
 
-joined_found : (way : Direction) (n : ℕ) → Finds way n → (is_and : Bool) (first : Expr) (i : Input) (x : List Expr × Input) → joined (term way n) is_and first i ≡ Ok x
+joined_found : (way : Direction) (n : ℕ) → Finds way n → (is_and : Bool) (first : Expr) (i : Input) (x : List Expr × Input) → joined_terms (term way n) is_and first i ≡ Ok x
     → (ys : List Expr) × (x.0 ≡ first ∷ ys) × IsJoined way n (operator is_and) ys (next i) x.1
-unfolding joined
+unfolding joined_terms
 joined_found way n finds is_and first i x e = more_found way n finds is_and (left i) (first ∷ []) i x e
 
 after_found : (way : Direction) (n : ℕ) → Finds way n → (first : Expr) (i j : Input) (k : Token) (x : Expr × Input) → IsTerm way n first i j → token j ≡ k → after_first (term way n) first k j ≡ Ok x → IsExpr way n x.0 i x.1
 after_found way n finds first i j t.And x h at e =
-    let a = bind_ok (joined (term way n) true first j) (λ y. Ok (ex.All y.0, y.1)) x e in
+    let a = bind_ok (joined_terms (term way n) true first j) (λ y. Ok (ex.All y.0, y.1)) x e in
     let others = joined_found way n finds true first j a.0 a.1 in
     let made = all_of way n first others.0 i j a.0.1 h at others.2 in
     let whole_list : IsExpr way n (ex.All a.0.0) i a.0.1 = subst (λ (ys : List Expr). IsExpr way n (ex.All ys) i a.0.1) (sym others.1) made in
     subst (λ (y : Expr × Input). IsExpr way n y.0 i y.1) (ok_is (ex.All a.0.0, a.0.1) x a.2) whole_list
 after_found way n finds first i j t.Or x h at e =
-    let a = bind_ok (joined (term way n) false first j) (λ y. Ok (ex.Any y.0, y.1)) x e in
+    let a = bind_ok (joined_terms (term way n) false first j) (λ y. Ok (ex.Any y.0, y.1)) x e in
     let others = joined_found way n finds false first j a.0 a.1 in
     let made = any_of way n first others.0 i j a.0.1 h at others.2 in
     let whole_list : IsExpr way n (ex.Any a.0.0) i a.0.1 = subst (λ (ys : List Expr). IsExpr way n (ex.Any ys) i a.0.1) (sym others.1) made in

@@ -144,12 +144,12 @@ more term is_and (suc n) xs i =
     (if is_operator is_and (token x.1) then more term is_and n (xs ++ x.0 ∷ []) x.1
     else (if is_operator (not is_and) (token x.1) then Err (fault.MixedAndOr x.1.place) else Ok (xs ++ x.0 ∷ [], x.1)))
 
-unfoldable pub joined : (Input → Read Expr) → Bool → Expr → Input → Read (List Expr)
-joined term is_and first i = more term is_and (left i) (first ∷ []) i
+unfoldable pub joined_terms : (Input → Read Expr) → Bool → Expr → Input → Read (List Expr)
+joined_terms term is_and first i = more term is_and (left i) (first ∷ []) i
 
 abbrev pub after_first : (Input → Read Expr) → Expr → Token → Input → Read Expr
-after_first term first t.And i = joined term true first i >>= λ x. Ok (e.All x.0, x.1)
-after_first term first t.Or i = joined term false first i >>= λ x. Ok (e.Any x.0, x.1)
+after_first term first t.And i = joined_terms term true first i >>= λ x. Ok (e.All x.0, x.1)
+after_first term first t.Or i = joined_terms term false first i >>= λ x. Ok (e.Any x.0, x.1)
 after_first term first _ i = Ok (first, i)
 
 -- a term, or terms that one operator joins

@@ -57,7 +57,7 @@ fn is_operator(is_and: bool, token: Token) -> bool
 
 // The terms that an operator joins, of which the first was read.
 #[cycle(reader)]
-#[tactic(auto, unfolding(crate::specs::Reading::joined, crate::specs::Reading::more))]
+#[tactic(auto, unfolding(crate::specs::Reading::joined_terms, crate::specs::Reading::more))]
 fn joined(
     alloc: Global,
     cursor: &mut Cursor<'_>,
@@ -66,7 +66,7 @@ fn joined(
     is_and: bool,
     first: Expr,
 ) -> Result<List<Expr>, ParseFault>
-    ensures { ReadsAs (spec.joined (spec.term way levels) is_and first cursor.old) result cursor.new }
+    ensures { ReadsAs (spec.joined_terms (spec.term way levels) is_and first cursor.old) result cursor.new }
 {
     let mut terms = List::new(alloc);
     terms.push(first)?;

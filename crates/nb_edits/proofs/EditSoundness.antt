@@ -14,10 +14,10 @@ use Rattle.nb_edits.proofs.MarkLaws.{accepted_listed}
 use Rattle.nb_edits.proofs.MarkOrder.{accepted_in_order}
 use Rattle.nb_edits.proofs.OwnerLaws.{among_owns, owns_among}
 use Rattle.nb_edits.proofs.RecordLaws.{accepted_from}
-use Rattle.nb_edits.specs.EditLeaves.{IsSound}
+use Rattle.nb_edits.specs.EditLeaves.{LeavesSoundRecords}
 use Rattle.nb_edits.specs.OpFaults.{ops_fault, fault_of}
 
-pub edit_sound : (net : Network) (ops : List Op) (n : ℕ) → IsValid net → AllByRecursion IsOpInGrammar ops → fault_of net ops n ≡ None → IsSound net ops n
+pub edit_sound : (net : Network) (ops : List Op) (n : ℕ) → IsValid net → AllByRecursion IsOpInGrammar ops → fault_of net ops n ≡ None → LeavesSoundRecords net ops n
 unfolding fault_of
 edit_sound net ops n v g none =
     let parts = no_first (ops_fault net ops n) (first_broken (accepted net ops n) ops) none in

@@ -40,7 +40,7 @@ use Rattle.nb_records.specs.declared.switch.Switch.{Switch}
 use Rattle.nb_records.specs.declared.switch.SwitchPort.{SwitchPort}
 use Rattle.nb_rules.specs.First.{fault_if}
 use Rattle.nb_rules.specs.FirstBroken.{first_broken}
-use Rattle.nb_rules.specs.Valid.{IsValid, AreNamed, AreApart, AreAtTheirNames}
+use Rattle.nb_rules.specs.Valid.{IsValid, AllAtTheirNames, AreApart, AreAtTheirNames}
 use Rattle.nb_rules.specs.declared.fault.SchemaFault.{SchemaFault}
 use Rattle.tunnel_keys.specs.Owners.{birth_in}
 use Rattle.tunnel_keys.specs.declared.owner.KeyOwner.{KeyOwner}
@@ -424,7 +424,7 @@ module _ (net : Network) (h : IsFit net) where
       (from_kept row.LoadBalancer (λ r. r.name) (λ r. Fits (row.LoadBalancer r)) net.load_balancers (λ r f. f) (h.each kind.LoadBalancer)))
       (from_kept row.StaticMac (λ r. r.name) (λ r. Fits (row.StaticMac r)) net.static_macs (λ r f. f) (h.each kind.StaticMac))
 
-  all_named : AreNamed net
+  all_named : AllAtTheirNames net
   all_named = record {
     switches = names_kept row.Switch (λ r. r.name) (λ r. Fits (row.Switch r)) net.switches (h.each kind.Switch);
     routers = names_kept row.Router (λ r. r.name) (λ r. Fits (row.Router r)) net.routers (h.each kind.Router);

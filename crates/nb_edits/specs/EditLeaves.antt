@@ -65,7 +65,7 @@ EachMarksListed net [] n = Unit {0}
 EachMarksListed net (o ∷ ops) n = MarksListed net o × EachMarksListed (operated net o n) ops n
 
 -- what an edit without a fault leaves
-pub record IsSound (net : Network) (ops : List Op) (n : ℕ) : Type 0 where
+pub record LeavesSoundRecords (net : Network) (ops : List Op) (n : ℕ) : Type 0 where
   pub valid : IsValid (accepted net ops n)
   pub records : AreRecordsFrom net (accepted net ops n) n
   pub owners : AreBorn net (accepted net ops n) n

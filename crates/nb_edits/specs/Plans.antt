@@ -16,12 +16,12 @@ Refuses failed.Memory fault = Unit {0}
 Refuses (failed.Schema f) fault = fault ≡ Some f
 
 -- the plan stands for the records after: with the datapaths and ports that come and go by it
-pub record StandsFor (net next : Network) (plan : EditPlan) : Type 0 where
+pub record IsPlanBetween (net next : Network) (plan : EditPlan) : Type 0 where
   pub after : plan.after ≡ next
   pub added : plan.added ≡ owners_only_in next net
   pub removed : plan.removed ≡ owners_only_in net next
 
 -- an edit is planned where it has no fault, and else its first fault is told
 abbrev pub Plans : Result EditPlan EditFault → Network → List Op → ℕ → Type 0
-Plans (Ok plan) net ops n = (fault_of net ops n ≡ None) × StandsFor net (accepted net ops n) plan
+Plans (Ok plan) net ops n = (fault_of net ops n ≡ None) × IsPlanBetween net (accepted net ops n) plan
 Plans (Err e) net ops n = Refuses e (fault_of net ops n)

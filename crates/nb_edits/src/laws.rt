@@ -11,13 +11,13 @@ ghost use Rattle.nb_rules.specs.Valid.{IsValid};
 ghost use Rattle.net_model.specs.Owners.{owners_only_in};
 ghost use Rattle.tunnel_keys.specs.Edits.{IsKeyEdit};
 ghost use Rattle.tunnel_keys.specs.Keys.{Keys};
-ghost use Rattle.nb_edits.specs.EditLeaves.{AreBorn, AreKeysOf, IsSound};
+ghost use Rattle.nb_edits.specs.EditLeaves.{AreBorn, AreKeysOf, LeavesSoundRecords};
 ghost use Rattle.nb_edits.specs.OpFaults.{fault_of};
 
 /// An edit of valid records with operations in their grammar, in which there is no fault, leaves valid records; each of them, and each
 /// owner of keys, is of this event or was there before, but for values that were set; and marks stay ones of listed backends.
 pub fn edit_is_sound()
-    ensures { (net : Network) (ops : List Op) (n : ℕ) → IsValid net → AllByRecursion IsOpInGrammar ops → fault_of net ops n ≡ None → IsSound net ops n }
+    ensures { (net : Network) (ops : List Op) (n : ℕ) → IsValid net → AllByRecursion IsOpInGrammar ops → fault_of net ops n ≡ None → LeavesSoundRecords net ops n }
 {}
 
 /// The owners by which valid records differ are an edit that fits the keys of the records before: each stands once, those that go

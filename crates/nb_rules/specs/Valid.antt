@@ -22,7 +22,7 @@ use Rattle.nb_rules.specs.FirstBroken.{first_broken}
 abbrev pub AreAtTheirNames : {X : Type 0} → (X → Name) → List (Name × X) → Type 0
 AreAtTheirNames name entries = AllByRecursion (λ e. name e.1 ≡ e.0) entries
 
-pub record AreNamed (net : Network) : Type 0 where
+pub record AllAtTheirNames (net : Network) : Type 0 where
   pub switches : AreAtTheirNames (λ (r : Switch). r.name) net.switches
   pub routers : AreAtTheirNames (λ (r : Router). r.name) net.routers
   pub router_ports : AreAtTheirNames (λ (r : RouterPort). r.name) net.router_ports
@@ -42,7 +42,7 @@ AreApart entries others = AllByRecursion (λ e. at others e.0 ≡ None) entries
 -- The records are in order, each at its own name, once in its namespace, and in its grammar; no clause is broken.
 pub record IsValid (net : Network) : Type 0 where
   pub in_order : AreInOrder net
-  pub named : AreNamed net
+  pub named : AllAtTheirNames net
   pub datapaths : AreApart net.switches net.routers
   pub ports : AreApart net.switch_ports net.router_ports
   pub in_grammar : AllByRecursion IsInGrammar (records_of net)

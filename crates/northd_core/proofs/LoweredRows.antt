@@ -18,7 +18,7 @@ use Rattle.net_model.specs.Sights.{entries_in, names_in}
 use Rattle.logical_flows.specs.declared.flow.LFlow.{LFlow}
 use Rattle.logical_flows.specs.declared.unit.UnitId.{UnitId}
 use Rattle.stage_rows.specs.Rows.{on_some}
-use Rattle.stage_rows.specs.Units.{datapath_of, rows_of, units_of, IsPair}
+use Rattle.stage_rows.specs.Units.{datapath_of, rows_of, units_of, IsPairedRow}
 use Rattle.flow_lowering.specs.LoweredFlows.{lowered_flows}
 use Rattle.row_laws.proofs.units.RowUnits.{in_some, some_in}
 use Rattle.row_laws.specs.CanLower.{CanLowerLaw, NarrowLaw, NamedPortsLaw}
@@ -62,7 +62,7 @@ module _ (l : Lowering) where
 
   module _ (can : CanCompile l) where
     -- a row of a unit is a pair with the unit's datapath
-    pub is_pair : (u : UnitId) (row : LFlow) (d : Name) → Among row (rows_of l.net u) → datapath_of l.net u ≡ Some d → IsPair l.net row d
+    pub is_pair : (u : UnitId) (row : LFlow) (d : Name) → Among row (rows_of l.net u) → datapath_of l.net u ≡ Some d → IsPairedRow l.net row d
     is_pair u row d m on = record { origin = u; there = (with_rows l.net can.valid u row m).there; among = m; on = on }
 
     -- what has flows is a unit of the network

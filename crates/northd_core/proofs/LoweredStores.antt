@@ -15,7 +15,7 @@ use Rattle.stage_rows.specs.Units.{units_of}
 use Rattle.northd_core.specs.Held.{HaveSame, unit_order}
 use Rattle.northd_core.specs.Listing.{HaveJoined, with_each}
 use Rattle.northd_core.specs.Lowering.{Lowering, CanCompile, HaveLowered, IsLoweredIn, IsLoweredPlan, LeavesLowered, StayLowered, lowered_of, same_lowered}
-use Rattle.northd_core.specs.Plans.{AreListed}
+use Rattle.northd_core.specs.Plans.{ListsEach}
 use Rattle.northd_core.proofs.LoweredRows.{lowered_in, no_flows, of_lowered, with_flows}
 use Rattle.northd_core.proofs.NorthPlans.{after_kept, none_held}
 use Rattle.northd_core.proofs.Stores as stores
@@ -51,7 +51,7 @@ module _ (exact : (f g : Flow) → (same_lowered f g ≡ true) ↔ (f ≡ g)) wh
 
   -- the flows that are listed
   pub flows_listed : (l : Lowering) → CanCompile l → (origins : List (UnitId × List Flow)) (listed : List Flow) → HaveSame (flows_of unit_order origins) (lowered_of l)
-      → IsDistinct same_lowered listed → ((f : Flow) → (is_member same_lowered listed f ≡ true) ↔ IsHeld same_lowered (flows_of unit_order origins) f) → AreListed (IsLoweredIn l) listed
+      → IsDistinct same_lowered listed → ((f : Flow) → (is_member same_lowered listed f ≡ true) ↔ IsHeld same_lowered (flows_of unit_order origins) f) → ListsEach (IsLoweredIn l) listed
   flows_listed l can origins listed have = stores.listed same_lowered exact (lowered_of l) (flows_of unit_order origins) (IsLoweredIn l) listed have (some_lowered l can)
 
   -- ---- plans

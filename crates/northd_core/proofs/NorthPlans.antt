@@ -18,7 +18,7 @@ use Rattle.logical_flows.specs.declared.unit.UnitId.TheVariants as unit
 use Rattle.stage_rows.specs.Units.{rows_of, pairs_of_unit, units_of, IsLogicalFlow}
 use Rattle.northd_core.specs.Held.{North, HaveSame, StandsFor, same_flow, same_pair, unit_order}
 use Rattle.northd_core.specs.Listing.{HaveJoined, with_each}
-use Rattle.northd_core.specs.Plans.{Planned, IsReady, IsNorthPlan, IsLeft, IsPairOf, AreListed}
+use Rattle.northd_core.specs.Plans.{Planned, IsPlannedOn, IsNorthPlan, IsLeft, IsPairOf, ListsEach}
 use Rattle.northd_core.proofs.RowUnits.{with_rows, paired_row, pair_of, of_pair, flow_of, of_flow}
 use Rattle.northd_core.proofs.Stores as stores
 
@@ -127,7 +127,7 @@ module _ (before after : Network) (valid : IsValid before) (next_valid : IsValid
         → rows ≡ with_each (rows_of after) units → pairs ≡ with_each (pairs_of_unit after) units
         → AreSame same_flow rows plan.flows.changes → AreSame same_pair pairs plan.pairs.changes
         → IsKept same_flow unit_order old.flows.origins new.flows.origins → IsKept same_pair unit_order old.pairs.origins new.pairs.origins
-        → IsReady new plan → StandsFor before old → IsNorthPlan before after new plan
+        → IsPlannedOn new plan → StandsFor before old → IsNorthPlan before after new plan
     is_plan old new plan rows pairs rows_are pairs_are alike alike_too kept kept_too ready stands =
         let leads = stores.leads same_flow exact_flow exact_unit (rows_of before) (rows_of after) units (stores.covering (rows_of before) (rows_of after) units with_rows_there) old.flows.origins new.flows.origins rows plan.flows.changes rows_are alike kept stands.rows in
         let leads_too = stores.leads same_pair exact_pair exact_unit (pairs_of_unit before) (pairs_of_unit after) units (stores.covering (pairs_of_unit before) (pairs_of_unit after) units with_pairs_there) old.pairs.origins new.pairs.origins pairs plan.pairs.changes pairs_are alike_too kept_too stands.pairs in
@@ -146,9 +146,9 @@ module _ (before after : Network) (valid : IsValid before) (next_valid : IsValid
 
 module _ (net : Network) (valid : IsValid net) where
   pub flows_listed : ((f g : LFlow) → (same_flow f g ≡ true) ↔ (f ≡ g)) → (origins : List (UnitId × List LFlow)) (keys : List LFlow) → HaveSame (flows_of unit_order origins) (rows_of net)
-      → IsDistinct same_flow keys → ((f : LFlow) → (is_member same_flow keys f ≡ true) ↔ IsHeld same_flow (flows_of unit_order origins) f) → AreListed (IsLogicalFlow net) keys
+      → IsDistinct same_flow keys → ((f : LFlow) → (is_member same_flow keys f ≡ true) ↔ IsHeld same_flow (flows_of unit_order origins) f) → ListsEach (IsLogicalFlow net) keys
   flows_listed exact origins keys have = stores.listed same_flow exact (rows_of net) (flows_of unit_order origins) (IsLogicalFlow net) keys have (λ f. (λ s. flow_of net valid s.0 f s.1, λ h. of_flow net valid f h))
 
   pub pairs_listed : ((p q : LFlow × Name) → (same_pair p q ≡ true) ↔ (p ≡ q)) → (origins : List (UnitId × List (LFlow × Name))) (keys : List (LFlow × Name)) → HaveSame (flows_of unit_order origins) (pairs_of_unit net)
-      → IsDistinct same_pair keys → ((p : LFlow × Name) → (is_member same_pair keys p ≡ true) ↔ IsHeld same_pair (flows_of unit_order origins) p) → AreListed (IsPairOf net) keys
+      → IsDistinct same_pair keys → ((p : LFlow × Name) → (is_member same_pair keys p ≡ true) ↔ IsHeld same_pair (flows_of unit_order origins) p) → ListsEach (IsPairOf net) keys
   pairs_listed exact origins keys have = stores.listed same_pair exact (pairs_of_unit net) (flows_of unit_order origins) (IsPairOf net) keys have (λ p. (λ s. pair_of net valid s.0 p s.1, λ h. of_pair net valid p h))

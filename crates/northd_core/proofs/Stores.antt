@@ -18,7 +18,7 @@ use Rattle.flow_refs.proofs.ForCallers.{held_among, comes_among, goes_among, onc
 use Rattle.logical_flows.specs.declared.unit.UnitId.{UnitId}
 use Rattle.northd_core.specs.Held.{HaveSame, unit_order}
 use Rattle.northd_core.specs.Listing.{with_each}
-use Rattle.northd_core.specs.Plans.{IsChange, AreListed}
+use Rattle.northd_core.specs.Plans.{IsChange, ListsEach}
 
 -- ---- units with what they have
 
@@ -99,7 +99,7 @@ module _ {F : Type 0} (same : F → F → Bool) (exact : (f g : F) → (same f g
 
   -- a list of what is held, each once
   pub listed : (has held : UnitId → List F) (Is : F → Type 0) (keys : List F) → HaveSame held has → ((f : F) → IsSome has f ↔ Is f)
-      → IsDistinct same keys → ((f : F) → (is_member same keys f ≡ true) ↔ IsHeld same held f) → AreListed Is keys
+      → IsDistinct same keys → ((f : F) → (is_member same keys f ≡ true) ↔ IsHeld same held f) → ListsEach Is keys
   listed has held Is keys have is once members = record {
     those = λ f. (
       λ m. (is f).0 ((held_some has held have f).0 ((members f).0 (among_member same own f keys m))),

@@ -9,7 +9,7 @@ use Rattle.flow_refs.specs.Store.{Prepared, IsPreparedFor}
 use Rattle.nb_records.specs.Network.{Network}
 use Rattle.logical_flows.specs.declared.flow.LFlow.{LFlow}
 use Rattle.logical_flows.specs.declared.unit.UnitId.{UnitId}
-use Rattle.stage_rows.specs.Units.{rows_of, pairs_of_unit, IsPair, IsLogicalFlow}
+use Rattle.stage_rows.specs.Units.{rows_of, pairs_of_unit, IsPairedRow, IsLogicalFlow}
 use Rattle.northd_core.specs.Held.{North, HaveSame, StandsFor, same_flow, same_pair, unit_order}
 
 -- what the units shall have: their rows, and those with their datapaths
@@ -18,7 +18,7 @@ pub record Planned : Type 0 where
   pub pairs : Prepared (LFlow × Name) UnitId
 
 -- it was prepared for what is held
-pub record IsReady (north : North) (plan : Planned) : Type 0 where
+pub record IsPlannedOn (north : North) (plan : Planned) : Type 0 where
   pub flows : IsPreparedFor same_flow unit_order north.flows plan.flows
   pub pairs : IsPreparedFor same_pair unit_order north.pairs plan.pairs
 
@@ -31,11 +31,11 @@ pub record IsChange {X : Type 0} (Before After : X → Type 0) (delta : Delta X)
 
 -- a pair of the network
 abbrev pub IsPairOf : Network → LFlow × Name → Type 0
-IsPairOf net p = IsPair net p.0 p.1
+IsPairOf net p = IsPairedRow net p.0 p.1
 
 -- the plan leads from what is held to what the next network has, and tells the pairs and the flows that come and go
 pub record IsNorthPlan (before after : Network) (north : North) (plan : Planned) : Type 0 where
-  pub ready : IsReady north plan
+  pub ready : IsPlannedOn north plan
   pub rows : HaveSame (flows_after unit_order north.flows.origins plan.flows.changes) (rows_of after)
   pub rows_paired : HaveSame (flows_after unit_order north.pairs.origins plan.pairs.changes) (pairs_of_unit after)
   pub flows : IsChange (IsLogicalFlow before) (IsLogicalFlow after) plan.flows.delta
@@ -45,12 +45,12 @@ pub record IsNorthPlan (before after : Network) (north : North) (plan : Planned)
 -- in the same order.
 pub record IsLeft (old new : North) : Type 0 where
   pub stands : (net : Network) → StandsFor net old → StandsFor net new
-  pub ready : (plan : Planned) → IsReady old plan → IsReady new plan
+  pub ready : (plan : Planned) → IsPlannedOn old plan → IsPlannedOn new plan
   pub planned : (before after : Network) (plan : Planned) → IsNorthPlan before after old plan → IsNorthPlan before after new plan
   pub flows_shown : new.flows.counts ≡ old.flows.counts
   pub pairs_shown : new.pairs.counts ≡ old.pairs.counts
 
 -- those, each once
-pub record AreListed {X : Type 0} (Is : X → Type 0) (list : List X) : Type 0 where
+pub record ListsEach {X : Type 0} (Is : X → Type 0) (list : List X) : Type 0 where
   pub those : (x : X) → Among x list ↔ Is x
   pub once : EachOnce list

@@ -8,7 +8,7 @@ ghost use Rattle.tunnel_keys.specs.Keys.{Keys};
 ghost use Rattle.northd_core.specs.Held.{unit_order};
 ghost use Rattle.northd_core.specs.Listing.{HasCountedOn};
 ghost use Rattle.northd_core.specs.Lowering.{CanCompile, HaveLowered, IsLoweredIn, IsLoweredPlan, LeavesLowered, Lowering, StayLowered, same_lowered};
-ghost use Rattle.northd_core.specs.Plans.{AreListed};
+ghost use Rattle.northd_core.specs.Plans.{ListsEach};
 
 use crate::exact::exact_units;
 use crate::lowering::list_lowered;
@@ -144,7 +144,7 @@ impl LoweredFlows {
     /// The held flow at the index, counted from 0; `None` past the last.
     pub fn flow(&self, index: usize) -> Option<&Flow>
         ensures flow { option_copied result ≡ slice_get (keys_of self.now.counts) index }
-        ensures each { (l : Lowering) → CanCompile l → HaveLowered l self.now → AreListed (IsLoweredIn l) (keys_of self.now.counts) }
+        ensures each { (l : Lowering) → CanCompile l → HaveLowered l self.now → ListsEach (IsLoweredIn l) (keys_of self.now.counts) }
     {
         exact_flow();
         self.flows.flow(index)

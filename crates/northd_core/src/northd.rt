@@ -6,7 +6,7 @@ ghost use Rattle.nb_records.specs.Network.{Network, empty_network};
 ghost use Rattle.nb_rules.specs.Valid.{IsValid};
 ghost use Rattle.northd_core.specs.Held.{StandsFor};
 ghost use Rattle.northd_core.specs.Listing.{HasCountedOn};
-ghost use Rattle.northd_core.specs.Plans.{IsLeft, IsNorthPlan, IsReady, AreListed, IsPairOf};
+ghost use Rattle.northd_core.specs.Plans.{IsLeft, IsNorthPlan, IsPlannedOn, ListsEach, IsPairOf};
 ghost use Rattle.stage_rows.specs.Units.{IsLogicalFlow};
 
 use crate::exact::{exact_pairs, exact_units};
@@ -129,7 +129,7 @@ impl Northd {
 
     /// The rows of the plan, which was prepared for what is held. Answers the flows that come and that go. It takes no memory.
     pub fn apply(&mut self, plan: NorthPlan) -> Delta<LFlow>
-        requires { IsReady self.old plan }
+        requires { IsPlannedOn self.old plan }
         ensures leads { (before after : Network) → IsNorthPlan before after self.old plan → StandsFor after self.new }
         ensures shown { result ≡ plan.flows.delta }
     {
@@ -141,7 +141,7 @@ impl Northd {
     /// The held flow at the index, counted from 0; `None` past the last.
     pub fn flow(&self, index: usize) -> Option<&LFlow>
         ensures flow { option_copied result ≡ slice_get (keys_of self.now.flows.counts) index }
-        ensures each { (net : Network) → IsValid net → StandsFor net self.now → AreListed (IsLogicalFlow net) (keys_of self.now.flows.counts) }
+        ensures each { (net : Network) → IsValid net → StandsFor net self.now → ListsEach (IsLogicalFlow net) (keys_of self.now.flows.counts) }
     {
         exact_flow();
         self.flows.flow(index)
@@ -150,7 +150,7 @@ impl Northd {
     /// The held pair at the index, counted from 0; `None` past the last.
     pub fn pair(&self, index: usize) -> Option<(&LFlow, &Name)>
         ensures pair { option_map (λ p. (p.0.now, p.1.now)) result ≡ slice_get (keys_of self.now.pairs.counts) index }
-        ensures each { (net : Network) → IsValid net → StandsFor net self.now → AreListed (IsPairOf net) (keys_of self.now.pairs.counts) }
+        ensures each { (net : Network) → IsValid net → StandsFor net self.now → ListsEach (IsPairOf net) (keys_of self.now.pairs.counts) }
     {
         exact_pairs();
         let (flow, datapath) = self.pairs.flow(index)?;

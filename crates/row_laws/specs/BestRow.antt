@@ -8,7 +8,7 @@ use Rattle.flow_table.specs.declared.flow.Flow.{Flow}
 use Rattle.match_cubes.specs.declared.sets.Sets.{Sets}
 use Rattle.nb_records.specs.Network.{Network}
 use Rattle.logical_flows.specs.declared.flow.LFlow.{LFlow}
-use Rattle.stage_rows.specs.Units.{IsPair}
+use Rattle.stage_rows.specs.Units.{IsPairedRow}
 use Rattle.tunnel_keys.specs.Keys.{Keys}
 use Rattle.flow_lowering.specs.LoweredFlows.{lowered_flows, lowered_ops}
 use Rattle.net_model.specs.Sights.{Sight, Roster}
@@ -22,7 +22,7 @@ use Rattle.row_laws.specs.Rows.{IsRowIn, RowHolds, IsBestRow}
 pub record IsLoweredRow (net : Network) (keys : Keys) (sets : Sets) (flow : Flow) : Type 0 where
   pub row : LFlow
   pub datapath : Name
-  pub pair : IsPair net row datapath
+  pub pair : IsPairedRow net row datapath
   pub among : Among flow (lowered_flows keys sets row datapath)
 
 -- of the flows, those of the table are exactly the lowered rows of the network that are of the table

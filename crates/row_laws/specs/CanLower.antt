@@ -11,7 +11,7 @@ use Rattle.match_cubes.specs.Width.{width_of}
 use Rattle.nb_records.specs.Network.{Network}
 use Rattle.nb_rules.specs.Valid.{IsValid}
 use Rattle.logical_flows.specs.declared.flow.LFlow.{LFlow}
-use Rattle.stage_rows.specs.Units.{IsPair}
+use Rattle.stage_rows.specs.Units.{IsPairedRow}
 use Rattle.tunnel_keys.specs.Edits.{IsLive}
 use Rattle.tunnel_keys.specs.Keys.{Keys, IsKeys}
 use Rattle.tunnel_keys.specs.declared.owner.KeyOwner.{KeyOwner}
@@ -24,12 +24,12 @@ use Rattle.row_laws.specs.Numbers.{AreSameMembers}
 -- fields
 pub record CanLower (net : Network) (keys : Keys) : Type 0 where
   pub hold : IsKeys keys
-  pub live : (row : LFlow) (datapath : Name) → IsPair net row datapath → IsSome (at keys.datapaths datapath)
-  pub suited : (row : LFlow) (datapath : Name) → IsPair net row datapath → are_suited row.matching true ≡ true
+  pub live : (row : LFlow) (datapath : Name) → IsPairedRow net row datapath → IsSome (at keys.datapaths datapath)
+  pub suited : (row : LFlow) (datapath : Name) → IsPairedRow net row datapath → are_suited row.matching true ≡ true
 
 -- The values of the matches of all rows stand with their fields.
 abbrev pub SuitedLaw : Type 0
-SuitedLaw = (net : Network) → IsValid net → (row : LFlow) (datapath : Name) → IsPair net row datapath → are_suited row.matching true ≡ true
+SuitedLaw = (net : Network) → IsValid net → (row : LFlow) (datapath : Name) → IsPairedRow net row datapath → are_suited row.matching true ≡ true
 
 -- Where who has a key by the records has a live one, all rows can be lowered.
 abbrev pub CanLowerLaw : Type 0
@@ -38,11 +38,11 @@ CanLowerLaw = (net : Network) (keys : Keys) → IsValid net → IsKeys keys → 
 -- No match of a row is wider than a match may be, where names of sets and groups stand for what they do in the records.
 abbrev pub NarrowLaw : Type 0
 NarrowLaw =
-    (net : Network) → IsValid net → (row : LFlow) (datapath : Name) → IsPair net row datapath
+    (net : Network) → IsValid net → (row : LFlow) (datapath : Name) → IsPairedRow net row datapath
     → (members : Members) → AreSameMembers (roster_of net).members members → width_of members row.matching ≤ MAX_WIDTH
 
 -- Where who has a key by the records has a live one, each port that an action of a row names has one.
 abbrev pub NamedPortsLaw : Type 0
 NamedPortsLaw =
     (net : Network) (keys : Keys) → IsValid net → ((owner : KeyOwner) → Among owner (owners_of net) → IsLive keys owner)
-    → (row : LFlow) (datapath : Name) → IsPair net row datapath → AllByRecursion (NamesLivePort keys) row.actions
+    → (row : LFlow) (datapath : Name) → IsPairedRow net row datapath → AllByRecursion (NamesLivePort keys) row.actions

@@ -29,7 +29,7 @@ IsPortKey keys datapath port n = (k : PortKey) × (at keys.ports port ≡ Some k
 
 -- The number stands for the port, or where there is none, as where a packet goes to a group, for no port: it is the live key of a name on
 -- the datapath exactly where the name is now the port's.
-pub record StandsFor (keys : Keys) (who : Roster) (datapath : Name) (port : Option Identity) (n : ℕ) : Type 0 where
+pub record NumberStandsFor (keys : Keys) (who : Roster) (datapath : Name) (port : Option Identity) (n : ℕ) : Type 0 where
   pub named : (q : Name) → IsPortKey keys datapath q n → is_live_one port (who.live q) ≡ true
   pub numbered : (q : Name) → is_live_one port (who.live q) ≡ true → IsPortKey keys datapath q n
 
@@ -42,8 +42,8 @@ pub record AreSameMembers (these those : Members) : Type 0 where
 -- to which it goes; and the sets are those of the network.
 pub record HasNumbers (keys : Keys) (sets : Sets) (who : Roster) (datapath : Name) (regs : Regs) (sight : Sight) : Type 0 where
   pub on : IsDatapathKey keys datapath regs.dp
-  pub came : StandsFor keys who datapath (Some sight.in_port) regs.in_port
-  pub goes : StandsFor keys who datapath sight.out_port regs.out_port
+  pub came : NumberStandsFor keys who datapath (Some sight.in_port) regs.in_port
+  pub goes : NumberStandsFor keys who datapath sight.out_port regs.out_port
   pub members : AreSameMembers who.members (members_of sets)
   pub within : HasRegistersInRange regs
   pub whole : IsWhole sight.packet
@@ -51,8 +51,8 @@ pub record HasNumbers (keys : Keys) (sets : Sets) (who : Roster) (datapath : Nam
 -- The same of a packet that need not be whole: no number is wider than its field.
 pub record HasNumbersInRange (keys : Keys) (sets : Sets) (who : Roster) (datapath : Name) (regs : Regs) (sight : Sight) : Type 0 where
   pub on : IsDatapathKey keys datapath regs.dp
-  pub came : StandsFor keys who datapath (Some sight.in_port) regs.in_port
-  pub goes : StandsFor keys who datapath sight.out_port regs.out_port
+  pub came : NumberStandsFor keys who datapath (Some sight.in_port) regs.in_port
+  pub goes : NumberStandsFor keys who datapath sight.out_port regs.out_port
   pub members : AreSameMembers who.members (members_of sets)
   pub within : HasRegistersInRange regs
   pub fields : HasFieldsInRange sight.packet
@@ -61,9 +61,9 @@ pub record HasNumbersInRange (keys : Keys) (sets : Sets) (who : Roster) (datapat
 abbrev pub PortStandsLaw : Type 0
 PortStandsLaw =
     (net : Network) (keys : Keys) → IsValid net → IsKeys keys → (i : SwitchPort) → at net.switch_ports i.name ≡ Some i
-    → (n : ℕ) → IsPortKey keys i.switch i.name n → StandsFor keys (roster_of net) i.switch (Some (port_identity i)) n
+    → (n : ℕ) → IsPortKey keys i.switch i.name n → NumberStandsFor keys (roster_of net) i.switch (Some (port_identity i)) n
 
 -- What is no key of ports, as 0 and the keys of groups, stands for none.
 abbrev pub NoneStandsLaw : Type 0
 NoneStandsLaw =
-    (net : Network) (keys : Keys) → IsKeys keys → (datapath : Name) (n : ℕ) → (n ≡ 0) ⊎ (MAX_PORT_KEY < n) → StandsFor keys (roster_of net) datapath None n
+    (net : Network) (keys : Keys) → IsKeys keys → (datapath : Name) (n : ℕ) → (n ≡ 0) ⊎ (MAX_PORT_KEY < n) → NumberStandsFor keys (roster_of net) datapath None n

@@ -65,10 +65,10 @@ abbrev pub with_change : Passage → Seen → Option (Entry → Entry) → Trail
 with_change g s (Some f) t = with_entry g s f t
 with_change g s None t = t
 
-abbrev pub translated : Seen → Packet → Packet
-translated (forward e) p = translated_onward e p
-translated (reply e) p = translated_back e p
-translated _ p = p
+abbrev pub translated_as_seen : Seen → Packet → Packet
+translated_as_seen (forward e) p = translated_onward e p
+translated_as_seen (reply e) p = translated_back e p
+translated_as_seen _ p = p
 
 -- only a packet that is new begins a connection
 abbrev pub begun : Seen → Trail → Packet → (Tuple → Point) → Point
@@ -84,7 +84,7 @@ carried_out g s f t p [] = goes (with_change g s f t) p
 carried_out g s f t p (a.Block ∷ more) = carried_out g s (and_then_change (blocked_as true) f) t p more
 carried_out g s f t p (a.Unblock ∷ more) = carried_out g s (and_then_change (blocked_as false) f) t p more
 carried_out g s f t p (a.Touch ∷ more) = carried_out g s (and_then_change (touched g.now) f) t p more
-carried_out g s f t p (a.Translate ∷ more) = carried_out g s f t (translated s p) more
+carried_out g s f t p (a.Translate ∷ more) = carried_out g s f t (translated_as_seen s p) more
 carried_out g s f t p (a.Commit zone ∷ more) =
     then (begun s t p (λ tuple. commit_or_drop (desk_of g) tuple (reversed tuple) t p)) (λ u q. carried_out g s f u q more)
 carried_out g s f t p (a.Balance zone vip backends ∷ more) =

@@ -7,13 +7,13 @@ use Rattle.nb_records.specs.Network.{Network}
 use Rattle.logical_flows.specs.Stages.{stage_table}
 use Rattle.logical_flows.specs.declared.flow.LFlow.{LFlow}
 use Rattle.logical_flows.specs.declared.flow.RegIs.{RegIs}
-use Rattle.stage_rows.specs.Units.{IsPair}
+use Rattle.stage_rows.specs.Units.{IsPairedRow}
 use Rattle.flow_lowering.specs.Registers.{reg_number}
 use Rattle.net_model.specs.Sights.{Sight, Roster, holds_at}
 
 -- the row is one of the network's on the datapath, and its stage has the table
 pub record IsRowIn (net : Network) (table : ℕ) (datapath : Name) (row : LFlow) : Type 0 where
-  pub pair : IsPair net row datapath
+  pub pair : IsPairedRow net row datapath
   pub in_table : stage_table row.stage ≡ table
 
 -- the first row comes before the second: its priority is greater, or equal with a greater rank

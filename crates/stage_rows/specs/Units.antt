@@ -224,7 +224,7 @@ units_of net =
 -- ---- pairs
 
 -- the row is one of a unit of the network, on the unit's datapath
-pub record IsPair (net : Network) (flow : LFlow) (datapath : Name) : Type 0 where
+pub record IsPairedRow (net : Network) (flow : LFlow) (datapath : Name) : Type 0 where
   pub origin : UnitId
   pub there : Among origin (units_of net)
   pub among : Among flow (rows_of net origin)
@@ -240,4 +240,4 @@ pairs_of net = flat_map (pairs_of_unit net) (units_of net)
 -- the logical flows: the rows of all units, each on the datapaths with which it is a pair
 pub record IsLogicalFlow (net : Network) (flow : LFlow) : Type 0 where
   pub datapath : Name
-  pub pair : IsPair net flow datapath
+  pub pair : IsPairedRow net flow datapath

@@ -26,8 +26,8 @@ use Rattle.switch_engine.specs.declared.effect.Effect.{Effect}
 use Rattle.switch_engine.specs.declared.effect.Effect.TheVariants.{PickBackend, PickPort}
 use Rattle.switch_engine.specs.Actions.{drop_at}
 use Rattle.switch_engine.specs.Acts.{Doing, Act, goes_next, drops}
-use Rattle.switch_engine.specs.Advance.{having, Does}
-use Rattle.switch_engine.specs.Beginning.{new_tuple, backend_of, refusal, list_after, refusal_in, zones_after}
+use Rattle.switch_engine.specs.Advance.{having, ActionDoes}
+use Rattle.switch_engine.specs.Beginning.{new_tuple, backend_of, commit_refusal, list_after, refusal_in, zones_after}
 use Rattle.switch_engine.specs.Commits.{commit_cause, Newcomer, newcomer_seen, newcomer_in, newcomer, begins_as, begins, added, adds, balances_over, picks_port}
 use Rattle.switch_engine.specs.Zones.{ZoneLists, zone_at, with_zone, over_list}
 use Rattle.switch_engine.proofs.Doings.{does_quietly, does_drop}
@@ -85,23 +85,23 @@ same_list (e ∷ zones) z list h = by (nat_eq z e.0) (same_list zones z list) h
     by true ih g = ap (λ (l : ConnectionList). (e.0, l) ∷ zones) (sym (same_Some _ _ g))
     by false ih g = ap (λ zs. e ∷ zs) (ih g)
 
-refused_none : (z : ℕ) (p : Packet) (copy : Carried) (zones : ZoneLists) (list : ConnectionList) (rest : List Choice) (r : Result ConnectionList CommitFault) → refusal r ≡ None
+refused_none : (z : ℕ) (p : Packet) (copy : Carried) (zones : ZoneLists) (list : ConnectionList) (rest : List Choice) (r : Result ConnectionList CommitFault) → commit_refusal r ≡ None
     → added z p (having copy zones [] rest) r ≡ goes_next (having (record copy { packet = p }) (with_zone zones z (list_after list r)) [] rest)
 refused_none z p copy zones list rest (Ok longer) h = refl
 refused_none z p copy zones list rest (Err why) h = absurd (none-some (commit_cause why) (sym h))
 
-refused_some : (z : ℕ) (p : Packet) (d : Doing) (cause : Cause) (r : Result ConnectionList CommitFault) → refusal r ≡ Some cause → added z p d r ≡ drops cause d
+refused_some : (z : ℕ) (p : Packet) (d : Doing) (cause : Cause) (r : Result ConnectionList CommitFault) → commit_refusal r ≡ Some cause → added z p d r ≡ drops cause d
 refused_some z p d cause (Ok longer) h = absurd (none-some cause h)
 refused_some z p d cause (Err why) h = ap (λ c. drops c d) (same_Some _ _ h)
 
-refused_list : (list : ConnectionList) (cause : Cause) (r : Result ConnectionList CommitFault) → refusal r ≡ Some cause → list_after list r ≡ list
+refused_list : (list : ConnectionList) (cause : Cause) (r : Result ConnectionList CommitFault) → commit_refusal r ≡ Some cause → list_after list r ≡ list
 refused_list list cause (Ok longer) h = absurd (none-some cause h)
 refused_list list cause (Err why) h = refl
 
 module _ (now z : ℕ) (zones : ZoneLists) (copy : Carried) (n : Newcomer) (is : newcomer z zones copy.packet ≡ Some n) (from back : Tuple) (tuple : n.tuple ≡ from) (p : Packet) where
   -- what comes of it, said of the newcomer's list
-  of_list : (o : Option Cause) → refusal_in now from back (zone_at zones z) ≡ o → refusal (committed n.list n.tuple back now) ≡ o
-  of_list o h = ap (λ t. refusal (committed n.list t back now)) tuple ∙ ap (refusal_in now from back) (sym (newcomer_at z zones copy.packet n is).list) ∙ h
+  of_list : (o : Option Cause) → refusal_in now from back (zone_at zones z) ≡ o → commit_refusal (committed n.list n.tuple back now) ≡ o
+  of_list o h = ap (λ t. commit_refusal (committed n.list t back now)) tuple ∙ ap (refusal_in now from back) (sym (newcomer_at z zones copy.packet n is).list) ∙ h
 
   of_zones : (after : ZoneLists) → after ≡ zones_after now z from back zones → after ≡ with_zone zones z (list_after n.list (committed n.list n.tuple back now))
   of_zones after h =
@@ -113,7 +113,7 @@ module _ (now z : ℕ) (zones : ZoneLists) (copy : Carried) (n : Newcomer) (is :
 
   -- the connection is there
   pub does_add : {after : ZoneLists} {effects all : List Effect} → refusal_in now from back (zone_at zones z) ≡ None → after ≡ zones_after now z from back zones → all ≡ effects
-      → Does (adds now n back p) Next copy (record copy { packet = p }) zones after effects all []
+      → ActionDoes (adds now n back p) Next copy (record copy { packet = p }) zones after effects all []
   does_add {after} h left same = does_quietly same (λ rest.
       in_zone (having copy zones [] rest)
       ∙ refused_none z p copy zones n.list rest (committed n.list n.tuple back now) (of_list None h)
@@ -121,17 +121,17 @@ module _ (now z : ℕ) (zones : ZoneLists) (copy : Carried) (n : Newcomer) (is :
 
   -- it isn't added
   pub does_refuse : {after : ZoneLists} {effects all : List Effect} (cause : Cause) → refusal_in now from back (zone_at zones z) ≡ Some cause → after ≡ zones_after now z from back zones → all ≡ effects ++ drop_at copy.table cause copy.regs ∷ []
-      → Does (adds now n back p) Ends copy copy zones after effects all []
+      → ActionDoes (adds now n back p) Ends copy copy zones after effects all []
   does_refuse {after} {effects} {all} cause h left told =
       let stay : after ≡ zones =
       of_zones after left ∙ ap (with_zone zones z) (refused_list n.list cause (committed n.list n.tuple back now) (of_list (Some cause) h)) ∙ same_list zones z n.list (newcomer_at z zones copy.packet n is).list in
-      subst (λ zs. Does (adds now n back p) Ends copy copy zones zs effects all []) (sym stay)
+      subst (λ zs. ActionDoes (adds now n back p) Ends copy copy zones zs effects all []) (sym stay)
       (does_drop cause told (λ rest. in_zone (having copy zones [] rest) ∙ refused_some z p (having copy zones [] rest) cause (committed n.list n.tuple back now) (of_list (Some cause) h)))
 
 -- ---- what begins
 
 pub does_begin : {z : ℕ} {begin : Newcomer → Doing → Act} {t : Turn} {copy next : Carried} {zones after : ZoneLists} {effects all : List Effect} {copies : List Carried} (n : Newcomer) → newcomer z zones copy.packet ≡ Some n
-    → Does (begin n) t copy next zones after effects all copies → Does (begins z begin) t copy next zones after effects all copies
+    → ActionDoes (begin n) t copy next zones after effects all copies → ActionDoes (begins z begin) t copy next zones after effects all copies
 does_begin {begin = begin} {copy = copy} {zones = zones} n is d = record { told = d.told; all_effects = d.all_effects; sent = d.sent; does = λ rest. ap (λ o. begins_as o begin (having copy zones d.told rest)) is ∙ d.does rest }
 
 -- ---- a backend
@@ -148,8 +148,8 @@ picked_first t legal b at = ap (λ o. is_backend_at o b) at ∙ same_backend b
 
 pub does_balance : {copy next : Carried} {zones after : ZoneLists} {effects more all : List Effect} {t : Turn} (now : ℕ) (vip : Backend) (n : Newcomer) (legal : List Backend) (b : Backend) → backend_of n.tuple legal ≡ Some b
     → more ≡ effects ++ PickBackend copy.regs.dp vip b ∷ []
-    → Does (adds now n (reversed (towards b n.tuple)) (with_tuple (towards b n.tuple) copy.packet)) t copy next zones after more all []
-    → Does (balances_over now vip legal n) t copy next zones after effects all []
+    → ActionDoes (adds now n (reversed (towards b n.tuple)) (with_tuple (towards b n.tuple) copy.packet)) t copy next zones after more all []
+    → ActionDoes (balances_over now vip legal n) t copy next zones after effects all []
 does_balance now vip n [] b at told d = absurd (none-some b at)
 does_balance {copy} {next} {zones} {after} {effects} {more} {all} {t} now vip n (c ∷ cs) b at told d = record {
   told = PickBackend copy.regs.dp vip b ∷ d.told;
@@ -170,8 +170,8 @@ no_backend t (b ∷ bs) h = absurd (none-some _ (sym h ∙ slice_get-get_or (b �
 
 pub does_hide : {copy next : Carried} {zones after : ZoneLists} {effects more all : List Effect} {t : Turn} (now : ℕ) (n : Newcomer) (back : Tuple) (port : ℕ) → may_pick n.list back port ≡ true → is_least_port n.list back port ≡ true
     → more ≡ effects ++ PickPort copy.regs.dp port ∷ []
-    → Does (adds now n (with_port port back) (with_tuple (reversed (with_port port back)) copy.packet)) t copy next zones after more all []
-    → Does (picks_port now true back n) t copy next zones after effects all []
+    → ActionDoes (adds now n (with_port port back) (with_tuple (reversed (with_port port back)) copy.packet)) t copy next zones after more all []
+    → ActionDoes (picks_port now true back n) t copy next zones after effects all []
 does_hide {copy} {next} {zones} {after} {effects} {more} {all} {t} now n back port may least told d = record {
   told = PickPort copy.regs.dp port ∷ d.told;
   all_effects = d.all_effects ∙ ap (λ es. es ++ d.told) told ∙ append_assoc effects (PickPort copy.regs.dp port ∷ []) d.told;

@@ -19,7 +19,7 @@ use Rattle.switch_engine.specs.declared.effect.Effect.TheVariants as effect
 use Rattle.switch_engine.specs.declared.effect.Entry.{Entry}
 use Rattle.switch_engine.specs.Actions.{drop_at, frame_to, gone_on, patched, patched_regs}
 use Rattle.switch_engine.specs.Acts.{Doing, Act, turns, goes_next, drops}
-use Rattle.switch_engine.specs.Advance.{having, Does, DoesAll, Brings, Extends, IsCarriedInRange}
+use Rattle.switch_engine.specs.Advance.{having, ActionDoes, DoesAll, Brings, Extends, IsCarriedInRange}
 use Rattle.switch_engine.specs.Framed.{CanBeSent}
 use Rattle.switch_engine.specs.Outcome.{FlowOutcome, act, outcome, ended, after_turn, with_act, patches, pick_in, picks_in}
 use Rattle.switch_engine.specs.Commits.{Newcomer, begins}
@@ -30,16 +30,16 @@ use Rattle.switch_engine.proofs.Lists.{all_append}
 
 -- it has no effect, and the next one follows
 pub does_quietly : {what : Doing → Act} {copy next : Carried} {zones after : ZoneLists} {effects all : List Effect} → all ≡ effects
-    → ((rest : List Choice) → what (having copy zones [] rest) ≡ goes_next (having next after [] rest)) → Does what Next copy next zones after effects all []
+    → ((rest : List Choice) → what (having copy zones [] rest) ≡ goes_next (having next after [] rest)) → ActionDoes what Next copy next zones after effects all []
 does_quietly {effects = effects} same h = record { told = []; all_effects = same ∙ sym (append-nil effects); sent = tt; does = h }
 
 -- the copy is dropped
 pub does_drop : {what : Doing → Act} {copy : Carried} {zones : ZoneLists} {effects all : List Effect} (cause : Cause) → all ≡ effects ++ drop_at copy.table cause copy.regs ∷ []
-    → ((rest : List Choice) → what (having copy zones [] rest) ≡ drops cause (having copy zones [] rest)) → Does what Ends copy copy zones zones effects all []
+    → ((rest : List Choice) → what (having copy zones [] rest) ≡ drops cause (having copy zones [] rest)) → ActionDoes what Ends copy copy zones zones effects all []
 does_drop {copy = copy} cause is h = record { told = drop_at copy.table cause copy.regs ∷ []; all_effects = is; sent = (tt, tt); does = h }
 
 -- no copy is made
-pub does_all : {what : Doing → Act} {t : Turn} {copy next : Carried} {zones after : ZoneLists} {effects all : List Effect} {made : List Carried} → AllByRecursion IsCarriedInRange (next ∷ made) → Does what t copy next zones after effects all [] → DoesAll what t copy next zones after effects all made made
+pub does_all : {what : Doing → Act} {t : Turn} {copy next : Carried} {zones after : ZoneLists} {effects all : List Effect} {made : List Carried} → AllByRecursion IsCarriedInRange (next ∷ made) → ActionDoes what t copy next zones after effects all [] → DoesAll what t copy next zones after effects all made made
 does_all {made = made} r d = record { copies = []; all_copies = sym (append-nil made); in_range = r; does = d }
 
 -- ---- all actions of a flow
@@ -171,33 +171,33 @@ module _ {entry : Entry} {now : ℕ} {all_ops : List FlowOp} {first : Carried} {
 
 -- another way to say it, for this copy and these zones
 pub does_same : {what other : Doing → Act} {t : Turn} {copy next : Carried} {zones after : ZoneLists} {effects all : List Effect} {copies : List Carried} → ((d : Doing) → d.copy ≡ copy → d.zones ≡ zones → other d ≡ what d)
-    → Does what t copy next zones after effects all copies → Does other t copy next zones after effects all copies
+    → ActionDoes what t copy next zones after effects all copies → ActionDoes other t copy next zones after effects all copies
 does_same {copy = copy} {zones = zones} same d = record { told = d.told; all_effects = d.all_effects; sent = d.sent; does = λ rest. same (having copy zones d.told rest) refl refl ∙ d.does rest }
 
 -- by the operation
-pub of_op : (entry : Entry) (now : ℕ) {o p : FlowOp} {t : Turn} {copy next : Carried} {zones after : ZoneLists} {effects all : List Effect} {copies : List Carried} → o ≡ p → Does (act entry now p) t copy next zones after effects all copies
-    → Does (act entry now o) t copy next zones after effects all copies
+pub of_op : (entry : Entry) (now : ℕ) {o p : FlowOp} {t : Turn} {copy next : Carried} {zones after : ZoneLists} {effects all : List Effect} {copies : List Carried} → o ≡ p → ActionDoes (act entry now p) t copy next zones after effects all copies
+    → ActionDoes (act entry now o) t copy next zones after effects all copies
 of_op entry now is d = does_same (λ x c z. ap (λ q. act entry now q x) is) d
 
-pub by_op : (entry : Entry) (now : ℕ) {o p : FlowOp} {t : Turn} {copy next : Carried} {zones after : ZoneLists} {effects all : List Effect} {made : List Carried} → o ≡ p → AllByRecursion IsCarriedInRange (next ∷ made) → Does (act entry now p) t copy next zones after effects all []
+pub by_op : (entry : Entry) (now : ℕ) {o p : FlowOp} {t : Turn} {copy next : Carried} {zones after : ZoneLists} {effects all : List Effect} {made : List Carried} → o ≡ p → AllByRecursion IsCarriedInRange (next ∷ made) → ActionDoes (act entry now p) t copy next zones after effects all []
     → DoesAll (act entry now o) t copy next zones after effects all made made
 by_op entry now is r d = does_all r (of_op entry now is d)
 
 -- a connection begins in the zone of the register
-pub by_zone : {begin : Newcomer → Doing → Act} {t : Turn} {copy next : Carried} {zones after : ZoneLists} {effects all : List Effect} (zone : ZoneOf) (k : ℕ) → k ≡ zone_number zone copy.regs → Does (begins k begin) t copy next zones after effects all []
-    → Does (λ d. begins (zone_number zone d.copy.regs) begin d) t copy next zones after effects all []
+pub by_zone : {begin : Newcomer → Doing → Act} {t : Turn} {copy next : Carried} {zones after : ZoneLists} {effects all : List Effect} (zone : ZoneOf) (k : ℕ) → k ≡ zone_number zone copy.regs → ActionDoes (begins k begin) t copy next zones after effects all []
+    → ActionDoes (λ d. begins (zone_number zone d.copy.regs) begin d) t copy next zones after effects all []
 by_zone {begin} zone k is d = does_same (λ x c z. ap (λ (y : Carried). begins (zone_number zone y.regs) begin x) c ∙ ap (λ n. begins n begin x) (sym is)) d
 
-pub does_go : (entry : Entry) (now table : ℕ) (copy : Carried) (zones : ZoneLists) (effects : List Effect) → Does (act entry now (op.Go table)) Leaves copy (gone_on table copy) zones zones effects effects []
+pub does_go : (entry : Entry) (now table : ℕ) (copy : Carried) (zones : ZoneLists) (effects : List Effect) → ActionDoes (act entry now (op.Go table)) Leaves copy (gone_on table copy) zones zones effects effects []
 does_go entry now table copy zones effects = record { told = []; all_effects = sym (append-nil effects); sent = tt; does = λ rest. refl }
 
-pub does_frame : (entry : Entry) (now : ℕ) {copy : Carried} {zones : ZoneLists} {effects all : List Effect} (chassis : Name) → IsCarriedInRange copy → all ≡ effects ++ frame_to chassis copy ∷ [] → Does (act entry now (op.Frame chassis)) Next copy copy zones zones effects all []
+pub does_frame : (entry : Entry) (now : ℕ) {copy : Carried} {zones : ZoneLists} {effects all : List Effect} (chassis : Name) → IsCarriedInRange copy → all ≡ effects ++ frame_to chassis copy ∷ [] → ActionDoes (act entry now (op.Frame chassis)) Next copy copy zones zones effects all []
 does_frame entry now {copy} chassis r is = record { told = frame_to chassis copy ∷ []; all_effects = is; sent = ((r.regs.dp_within, r.regs.in_port_within, r.whole), tt); does = λ rest. refl }
 
-pub does_output : (entry : Entry) (now : ℕ) {copy : Carried} {zones : ZoneLists} {effects all : List Effect} (port : Name) → all ≡ effects ++ effect.Out port copy.packet ∷ [] → Does (act entry now (op.Output port)) Next copy copy zones zones effects all []
+pub does_output : (entry : Entry) (now : ℕ) {copy : Carried} {zones : ZoneLists} {effects all : List Effect} (port : Name) → all ≡ effects ++ effect.Out port copy.packet ∷ [] → ActionDoes (act entry now (op.Output port)) Next copy copy zones zones effects all []
 does_output entry now {copy} port is = record { told = effect.Out port copy.packet ∷ []; all_effects = is; sent = (tt, tt); does = λ rest. refl }
 
 pub does_patch : (entry : Entry) (now : ℕ) {t : Turn} {copy next : Carried} {zones after : ZoneLists} {effects all : List Effect} (dp in_port z_dnat z_snat : ℕ) (regs : Regs) → regs ≡ patched_regs dp in_port z_dnat z_snat copy.regs
-    → Does (patches regs) t copy next zones after effects all [] → Does (act entry now (op.Patch dp in_port z_dnat z_snat)) t copy next zones after effects all []
+    → ActionDoes (patches regs) t copy next zones after effects all [] → ActionDoes (act entry now (op.Patch dp in_port z_dnat z_snat)) t copy next zones after effects all []
 does_patch entry now dp in_port z_dnat z_snat regs is d =
     does_same (λ x c z. ap (λ (y : Carried). patches (patched_regs dp in_port z_dnat z_snat y.regs) x) c ∙ ap (λ r. patches r x) (sym is)) d

@@ -31,7 +31,7 @@ pub record IsCarriedInRange (copy : Carried) : Type 0 where
   pub passes : copy.passes ≤ MAX_HOPS
 
 -- an action makes this of a copy and the zones, with effects that come after those before and can be sent, these copies, and the program's choices
-pub record Does (what : Doing → Act) (turn : Turn) (copy next : Carried) (zones after : ZoneLists) (effects all : List Effect) (copies : List Carried) : Type 0 where
+pub record ActionDoes (what : Doing → Act) (turn : Turn) (copy next : Carried) (zones after : ZoneLists) (effects all : List Effect) (copies : List Carried) : Type 0 where
   pub told : List Effect
   pub all_effects : all ≡ effects ++ told
   pub sent : AllByRecursion CanBeSent told
@@ -42,7 +42,7 @@ pub record DoesAll (what : Doing → Act) (turn : Turn) (copy next : Carried) (z
   pub copies : List Carried
   pub all_copies : all_made ≡ made ++ copies
   pub in_range : AllByRecursion IsCarriedInRange (next ∷ all_made)
-  pub does : Does what turn copy next zones after effects all copies
+  pub does : ActionDoes what turn copy next zones after effects all copies
 
 -- actions bring this on, with the program's choices: effects that can be sent, and copies in range
 pub record Brings (entry : Entry) (now : ℕ) (ops : List FlowOp) (copy : Carried) (itself : Option Carried) (zones after : ZoneLists) (effects all : List Effect) (made all_made : List Carried) : Type 0 where

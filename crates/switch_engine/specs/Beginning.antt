@@ -30,9 +30,9 @@ pub record IsNewAt (z : ℕ) (zones : ZoneLists) (t : Tuple) : Type 0 where
   pub is_new : state_of (seen_tuple list (Some t)) ≡ New
 
 -- why a connection isn't added, if it isn't, and the list afterwards
-abbrev pub refusal : Result ConnectionList CommitFault → Option Cause
-refusal (Ok list) = None
-refusal (Err why) = Some (commit_cause why)
+abbrev pub commit_refusal : Result ConnectionList CommitFault → Option Cause
+commit_refusal (Ok list) = None
+commit_refusal (Err why) = Some (commit_cause why)
 
 abbrev pub list_after : ConnectionList → Result ConnectionList CommitFault → ConnectionList
 list_after list (Ok longer) = longer
@@ -41,7 +41,7 @@ list_after list (Err why) = list
 -- so it is in a zone
 abbrev pub refusal_in : ℕ → Tuple → Tuple → Option ConnectionList → Option Cause
 refusal_in now from back None = None
-refusal_in now from back (Some list) = refusal (committed list from back now)
+refusal_in now from back (Some list) = commit_refusal (committed list from back now)
 
 abbrev pub zones_after : ℕ → ℕ → Tuple → Tuple → ZoneLists → ZoneLists
 zones_after now z from back zones = over_zone (λ list. list_after list (committed list from back now)) z zones

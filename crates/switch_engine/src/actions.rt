@@ -3,7 +3,7 @@ ghost use Rattle.std.specs.Prelude.{◌≡◌, ◌++◌, [], ◌∷◌, true, co
 ghost use Rattle.std.specs.List.{AllByRecursion};
 ghost use Rattle.indexmap.specs.IndexMap.{spare};
 ghost use Rattle.switch_engine.specs.Actions.{drop_at, frame_to, copies_for, patched_regs};
-ghost use Rattle.switch_engine.specs.Advance.{Brings, Does, DoesAll, Extends, IsCarriedInRange};
+ghost use Rattle.switch_engine.specs.Advance.{Brings, ActionDoes, DoesAll, Extends, IsCarriedInRange};
 ghost use Rattle.switch_engine.specs.Outcome.{act, may_begin, changed_copy, changed_zones, patches};
 ghost use Rattle.switch_engine.specs.Proper.{CanPatch, IsEntry, Sets};
 ghost use Rattle.switch_engine.specs.Range.{IsInRange};
@@ -162,7 +162,7 @@ fn patched_regs(dp: u32, in_port: u16, z_dnat: u16, z_snat: u16, regs: &Regs) ->
 fn patch(regs: Regs, copy: &mut Carried, effects: &mut List<Effect>) -> Result<Turn, NoMemory>
     requires regs { IsInRange regs }
     requires in_range { IsCarriedInRange copy.old }
-    ensures does { (zones : ZoneLists) → IfOk result (λ turn. Does (patches regs) turn copy.old copy.new zones zones effects.old effects.new []) }
+    ensures does { (zones : ZoneLists) → IfOk result (λ turn. ActionDoes (patches regs) turn copy.old copy.new zones zones effects.old effects.new []) }
     ensures in_range { OnOk result (IsCarriedInRange copy.new) }
     ensures err { OnErr result (effects.new ≡ effects.old) }
 {
@@ -197,7 +197,7 @@ fn begin(
 ) -> Result<Turn, NoMemory>
     requires begins { may_begin op.now ≡ true }
     requires in_range { IsCarriedInRange copy.old }
-    ensures does { (entry : Entry) → IfOk result (λ turn. Does (act entry now op.now) turn copy.old copy.new zones.old.entries zones.new.entries effects.old effects.new []) }
+    ensures does { (entry : Entry) → IfOk result (λ turn. ActionDoes (act entry now op.now) turn copy.old copy.new zones.old.entries zones.new.entries effects.old effects.new []) }
     ensures in_range { OnOk result (IsCarriedInRange copy.new) }
     ensures room { spare zones.new ≡ spare zones.old }
     ensures err { OnErr result (Extends effects.old effects.new) }

@@ -7,8 +7,8 @@ ghost use Rattle.conn_table.specs.Connections.{committed, IsPair};
 ghost use Rattle.conn_table.specs.Picks.{towards, is_free_backend, backend_index};
 ghost use Rattle.conn_table.specs.Tracking.{with_option, seen, seen_tuple, state_of};
 ghost use Rattle.conn_table.specs.Tuples.{reversed, tuple_of, with_tuple, has_ports, CanBecome};
-ghost use Rattle.switch_engine.specs.Advance.{Does, Extends, IsCarriedInRange};
-ghost use Rattle.switch_engine.specs.Beginning.{tuple_if_new, new_tuple, IsNewAt, refusal, list_after, refusal_in, zones_after, backend_of, backend_in, IsSource, IsSourceIn};
+ghost use Rattle.switch_engine.specs.Advance.{ActionDoes, Extends, IsCarriedInRange};
+ghost use Rattle.switch_engine.specs.Beginning.{tuple_if_new, new_tuple, IsNewAt, commit_refusal, list_after, refusal_in, zones_after, backend_of, backend_in, IsSource, IsSourceIn};
 ghost use Rattle.switch_engine.specs.Commits.{Newcomer, newcomer, adds, begins, commits, translates_to, balances, hides_behind, is_balanced};
 ghost use Rattle.switch_engine.specs.Zones.{zone_at};
 
@@ -33,7 +33,7 @@ use ovn_base::memory::NoMemory;
 fn add_to(zone: &mut Zone, from: Tuple, back: Tuple, now: u64) -> Result<Option<Cause>, NoMemory>
     requires is_new { state_of (seen_tuple zone.old (Some from)) ≡ New }
     requires pair { IsPair from back }
-    ensures refused { IfOk result (λ refused. refused ≡ refusal (committed zone.old from back now)) }
+    ensures refused { IfOk result (λ refused. refused ≡ commit_refusal (committed zone.old from back now)) }
     ensures list { OnOk result (zone.new ≡ list_after zone.old (committed zone.old from back now)) }
 {
     match zone.commit(from, back, now) {
@@ -245,7 +245,7 @@ fn begin(
     requires pair { IsPair connection.now.from connection.now.back }
     requires to { IfSome connection.now.to (λ t. CanBecome t copy.old.packet) }
     requires in_range { IsCarriedInRange copy.old }
-    ensures does { (n : Newcomer) → newcomer number zones.old.entries copy.old.packet ≡ Some n → IfOk result (λ turn. Does (adds now n connection.now.back (with_option connection.now.to copy.old.packet)) turn copy.old copy.new zones.old.entries zones.new.entries effects.old effects.new []) }
+    ensures does { (n : Newcomer) → newcomer number zones.old.entries copy.old.packet ≡ Some n → IfOk result (λ turn. ActionDoes (adds now n connection.now.back (with_option connection.now.to copy.old.packet)) turn copy.old copy.new zones.old.entries zones.new.entries effects.old effects.new []) }
     ensures in_range { OnOk result (IsCarriedInRange copy.new) }
     ensures room { spare zones.new ≡ spare zones.old }
     ensures err { OnErr result (effects.new ≡ effects.old) }
@@ -269,7 +269,7 @@ pub(crate) fn commit(
     effects: &mut List<Effect>,
 ) -> Result<Turn, NoMemory>
     requires in_range { IsCarriedInRange copy.old }
-    ensures does { IfOk result (λ turn. Does (begins number (commits now)) turn copy.old copy.new zones.old.entries zones.new.entries effects.old effects.new []) }
+    ensures does { IfOk result (λ turn. ActionDoes (begins number (commits now)) turn copy.old copy.new zones.old.entries zones.new.entries effects.old effects.new []) }
     ensures in_range { OnOk result (IsCarriedInRange copy.new) }
     ensures room { spare zones.new ≡ spare zones.old }
     ensures err { OnErr result (Extends effects.old effects.new) }
@@ -296,7 +296,7 @@ pub(crate) fn dnat(
     effects: &mut List<Effect>,
 ) -> Result<Turn, NoMemory>
     requires in_range { IsCarriedInRange copy.old }
-    ensures does { IfOk result (λ turn. Does (begins number (translates_to now ip)) turn copy.old copy.new zones.old.entries zones.new.entries effects.old effects.new []) }
+    ensures does { IfOk result (λ turn. ActionDoes (begins number (translates_to now ip)) turn copy.old copy.new zones.old.entries zones.new.entries effects.old effects.new []) }
     ensures in_range { OnOk result (IsCarriedInRange copy.new) }
     ensures room { spare zones.new ≡ spare zones.old }
     ensures err { OnErr result (Extends effects.old effects.new) }
@@ -325,7 +325,7 @@ pub(crate) fn balance(
     effects: &mut List<Effect>,
 ) -> Result<Turn, NoMemory>
     requires in_range { IsCarriedInRange copy.old }
-    ensures does { IfOk result (λ turn. Does (begins number (balances now vip backends.now)) turn copy.old copy.new zones.old.entries zones.new.entries effects.old effects.new []) }
+    ensures does { IfOk result (λ turn. ActionDoes (begins number (balances now vip backends.now)) turn copy.old copy.new zones.old.entries zones.new.entries effects.old effects.new []) }
     ensures in_range { OnOk result (IsCarriedInRange copy.new) }
     ensures room { spare zones.new ≡ spare zones.old }
     ensures err { OnErr result (Extends effects.old effects.new) }
@@ -370,7 +370,7 @@ fn begin_from(
     requires of_packet { tuple_of copy.old.packet ≡ Some from }
     requires pair { IsPair from back }
     requires in_range { IsCarriedInRange copy.old }
-    ensures does { (n : Newcomer) → newcomer number zones.old.entries copy.old.packet ≡ Some n → IfOk result (λ turn. Does (adds now n back (with_tuple (reversed back) copy.old.packet)) turn copy.old copy.new zones.old.entries zones.new.entries effects.old effects.new []) }
+    ensures does { (n : Newcomer) → newcomer number zones.old.entries copy.old.packet ≡ Some n → IfOk result (λ turn. ActionDoes (adds now n back (with_tuple (reversed back) copy.old.packet)) turn copy.old copy.new zones.old.entries zones.new.entries effects.old effects.new []) }
     ensures in_range { OnOk result (IsCarriedInRange copy.new) }
     ensures room { spare zones.new ≡ spare zones.old }
     ensures err { OnErr result (effects.new ≡ effects.old) }
@@ -393,7 +393,7 @@ pub(crate) fn snat(
     effects: &mut List<Effect>,
 ) -> Result<Turn, NoMemory>
     requires in_range { IsCarriedInRange copy.old }
-    ensures does { IfOk result (λ turn. Does (begins number (hides_behind now ip)) turn copy.old copy.new zones.old.entries zones.new.entries effects.old effects.new []) }
+    ensures does { IfOk result (λ turn. ActionDoes (begins number (hides_behind now ip)) turn copy.old copy.new zones.old.entries zones.new.entries effects.old effects.new []) }
     ensures in_range { OnOk result (IsCarriedInRange copy.new) }
     ensures room { spare zones.new ≡ spare zones.old }
     ensures err { OnErr result (Extends effects.old effects.new) }

@@ -15,7 +15,7 @@ use Rattle.switch_engine.specs.declared.walk.Walk.{Walk}
 use Rattle.tuple_space.specs.declared.space.TupleSpace.{TupleSpace}
 use Rattle.tunnel_keys.specs.Keys.{Keys, settled}
 use Rattle.world_setup.specs.TurnEvents.{event_of_turn}
-use Rattle.world_setup.specs.Ground.{GroundView, changed, ground_of}
+use Rattle.world_setup.specs.Ground.{GroundView, ground_after, ground_of}
 use Rattle.world_core.specs.Inside.{seen_of}
 use Rattle.world_core.specs.Outcome.{IsAccepted}
 use Rattle.world_setup.specs.Setup.{IsTurnOfTables, SetupView}
@@ -134,7 +134,7 @@ module _ (w : Inside) (now : WorldView) (view : seen_of w ≡ now) (event : Turn
   before = seen_of w
 
   abbrev ground_then : GroundView
-  ground_then = changed turn.patch.change w.setup.ground
+  ground_then = ground_after turn.patch.change w.setup.ground
 
   sound_before : IsSound before
   sound_before = subst (λ v. IsSound v) (sym view) sound
@@ -162,9 +162,9 @@ module _ (w : Inside) (now : WorldView) (view : seen_of w ≡ now) (event : Turn
   as_many = length-map w.crossings.entries (λ e. (e.0, crossing_of e.1 (frame_under w.sim.state.waiting e.0)))
 
   -- what the ground is then, where frames wait, and where none does
-  module _ (kept applied : GroundView) (kept_is : kept ≡ w.setup.ground) (applied_is : applied ≡ changed turn.patch.change kept) where
+  module _ (kept applied : GroundView) (kept_is : kept ≡ w.setup.ground) (applied_is : applied ≡ ground_after turn.patch.change kept) where
     applied_then : applied ≡ ground_then
-    applied_then = applied_is ∙ ap (λ g. changed turn.patch.change g) kept_is
+    applied_then = applied_is ∙ ap (λ g. ground_after turn.patch.change g) kept_is
 
     pub ground_waits : ¬ (length w.crossings.entries ≡ 0) → applied ≡ record ground_then { keys = settled_where_none_waits before.state.waiting ground_then.keys }
     ground_waits some = applied_then ∙ ap (λ (keys : Keys). record ground_then { keys = keys }) (kept_on before.state.waiting ground_then.keys (λ none. some (sym as_many ∙ none)))

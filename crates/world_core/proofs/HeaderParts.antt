@@ -7,7 +7,7 @@ use Rattle.inet_packet.specs.declared.packet.Body.TheVariants.{Ip4}
 use Rattle.inet_packet.specs.declared.packet.Part.{Part}
 use Rattle.inet_packet.specs.declared.packet.Part.TheVariants.{Tcp, Udp, Icmp, OtherIp, Fragment}
 use Rattle.inet_packet.specs.Frame.{two, four, part_bytes}
-use Rattle.inet_packet.specs.Reading.{HasBody, IsFrontWithin, IsIp4Bytes, front_bytes, packet_of, total_len}
+use Rattle.inet_packet.specs.Reading.{HasBody, IsFrontWithin, IsIp4Bytes, front_bytes, ip4_packet_of, total_len}
 use Rattle.inet_packet.specs.Whole.{AreBytes, IsFragment, IsPart, IsPartWithin}
 use Rattle.inet_packet.proofs.DecodeLaws.{IsBytes}
 use Rattle.inet_packet.proofs.Ip4.{IsView, view_parts, view_whole}
@@ -309,7 +309,7 @@ with_part bytes h f l part =
       named = part.named;
     } in
     record {
-      body = Ip4 (packet_of f.front options part.part);
+      body = Ip4 (ip4_packet_of f.front options part.part);
       tail = part.rest;
       is_body = record {
         parts = ap (λ (l : List ℕ). 8 ∷ 0 ∷ l) (view_parts bytes f.front options part.part part.rest h view);

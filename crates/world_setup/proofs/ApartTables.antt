@@ -5,7 +5,7 @@ use Rattle.std.proofs.lemmas.Bool.{false≢true}
 use Rattle.flow_lowering.specs.LoweredFlows.{flow_on, lowered_cubes, lowered_ops}
 use Rattle.flow_table.specs.declared.flow.Flow.{Flow}
 use Rattle.northd_core.specs.Lowering.{IsLoweredIn, Lowering}
-use Rattle.northd_core.specs.Plans.{AreListed, IsChange}
+use Rattle.northd_core.specs.Plans.{ListsEach, IsChange}
 use Rattle.ovn_base.proofs.AmongLaws.{among_append, among_left, among_none, among_right, map_among}
 use Rattle.ovn_base.proofs.OnceLaws.{once_append}
 use Rattle.ovn_base.specs.declared.delta.Delta.{Delta}
@@ -19,7 +19,7 @@ use Rattle.physical_flows.specs.Stages.{Basis}
 use Rattle.physical_flows.specs.UnitFlows.{IsRowChange}
 use Rattle.physical_flows.specs.Units.{no_rows}
 use Rattle.sim_laws.proofs.journey_laws.Filling.{not_around}
-use Rattle.world_setup.specs.Setup.{IsFlowBy, joined}
+use Rattle.world_setup.specs.Setup.{IsFlowBy, both_deltas}
 
 -- ---- tables
 
@@ -37,7 +37,7 @@ abbrev lowering_by : Basis → Lowering
 lowering_by b = record { net = b.net; keys = b.keys }
 
 -- the lowered rows and those that come around the pipelines are all flows of the chassis
-pub flows_of_both : (b : Basis) → IsKeyed b.net b.keys → (listed : List Flow) → AreListed (IsLoweredIn (record { net = b.net; keys = b.keys })) listed → (delta : Delta Flow) → IsRowChange no_rows (around_rows b) delta
+pub flows_of_both : (b : Basis) → IsKeyed b.net b.keys → (listed : List Flow) → ListsEach (IsLoweredIn (record { net = b.net; keys = b.keys })) listed → (delta : Delta Flow) → IsRowChange no_rows (around_rows b) delta
     → AreExactly (IsFlowBy b) (listed ++ delta.added)
 flows_of_both b keys listed lists delta change = record {
   same = λ f. (
@@ -83,7 +83,7 @@ module _ (b a : Basis) (had : IsKeyed b.net b.keys) (have : IsKeyed a.net a.keys
   has_gone f (inl row) gone = among_left f every.removed own.removed ((lowered.go f).1 (row, λ stays. gone (inl stays)))
   has_gone f (inr row) gone = among_right f every.removed own.removed ((around.go f).1 ((around_set b had f).1 row, λ stays. gone (inr ((around_set a have f).0 stays))))
 
-  pub change_of_both : IsChange (IsFlowBy b) (IsFlowBy a) (joined every own)
+  pub change_of_both : IsChange (IsFlowBy b) (IsFlowBy a) (both_deltas every own)
   change_of_both = record {
     come = λ f. (λ m. comes f m, λ h. has_come f h.0 h.1);
     go = λ f. (λ m. goes f m, λ h. has_gone f h.0 h.1);

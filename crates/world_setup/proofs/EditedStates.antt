@@ -84,7 +84,7 @@ module _ (m : State) (zones : Zoned) (old : IsConsistent m zones) (ops : List Op
   abbrev leaves : Network
   leaves = next_net m ops
 
-  pub edit_sound_then : edits.IsSound before ops (event_count m + 1)
+  pub edit_sound_then : edits.LeavesSoundRecords before ops (event_count m + 1)
   edit_sound_then = edit_sound before ops (event_count m + 1) old.at_rest.valid grammar.each faultless
 
   pub edit_marks_then : edits.AreListed leaves
@@ -125,7 +125,7 @@ module _ (m : State) (zones : Zoned) (old : IsConsistent m zones) (room : event_
 
   -- ---- records
 
-  pub sound : edits.IsSound net ops (event_count m + 1)
+  pub sound : edits.LeavesSoundRecords net ops (event_count m + 1)
   sound = edit_sound_then m zones old ops grammar planned.built planned.faultless
 
   pub next_marks : edits.AreListed next

@@ -18,7 +18,7 @@ use Rattle.flow_refs.specs.Store.{Prepared}
 use Rattle.flow_table.specs.declared.flow.Flow.{Flow}
 use Rattle.physical_flows.specs.ChassisFlows.{AreExactly}
 use Rattle.northd_core.specs.Lowering.{IsLoweredIn}
-use Rattle.northd_core.specs.Plans.{AreListed}
+use Rattle.northd_core.specs.Plans.{ListsEach}
 use Rattle.physical_flows.specs.Around.{around_everywhere, around_rows}
 use Rattle.physical_flows.specs.RecordKeys.{HaveKeys}
 use Rattle.physical_flows.specs.Stages.{Basis}
@@ -217,7 +217,7 @@ module _ (b : Basis) (units : List FlowUnit) (everywhere : List (FlowUnit × Lis
   units_change = subst (λ us. ChangeOnly us no_rows (around_rows b)) (sym named) (around_units b)
 
 -- with the lowered rows, what comes around the pipelines are all flows of the chassis
-pub flows_joined : (b : Basis) → IsKeyed b.net b.keys → (listed : List Flow) → AreListed (IsLoweredIn (record { net = b.net; keys = b.keys })) listed → (planned delta : Delta Flow) → IsRowChange no_rows (around_rows b) planned → delta ≡ planned
+pub flows_joined : (b : Basis) → IsKeyed b.net b.keys → (listed : List Flow) → ListsEach (IsLoweredIn (record { net = b.net; keys = b.keys })) listed → (planned delta : Delta Flow) → IsRowChange no_rows (around_rows b) planned → delta ≡ planned
     → (all : List Flow) → all ≡ listed ++ delta.added → AreExactly (IsFlowBy b) all
 flows_joined b keys listed lists planned delta change same all are =
     subst (AreExactly (IsFlowBy b)) (sym (are ∙ ap (λ (d : Delta Flow). listed ++ d.added) same)) (flows_of_both b keys listed lists planned change)

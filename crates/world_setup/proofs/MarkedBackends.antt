@@ -20,7 +20,7 @@ use Rattle.nb_edits.proofs.HealthLaws.{health_fine}
 use Rattle.nb_edits.proofs.RecordLaws.{same_birth}
 use Rattle.nb_edits.specs.EditLeaves as edits
 use Rattle.nb_edits.specs.OpFaults.{fault_of}
-use Rattle.nb_edits.specs.Plans.{StandsFor}
+use Rattle.nb_edits.specs.Plans.{IsPlanBetween}
 use Rattle.nb_edits.specs.declared.plan.EditPlan.{EditPlan}
 use Rattle.nb_records.specs.Editing.{lists_backend}
 use Rattle.nb_records.specs.Network.{Network, birth_of, marked, record_at}
@@ -55,7 +55,7 @@ use Rattle.sim_laws.specs.journeys.UnderWay.{IsUnderWay}
 use Rattle.switch_engine.specs.declared.effect.NetEffect.{NetEffect}
 use Rattle.tuple_space.specs.declared.space.TupleSpace.{TupleSpace}
 use Rattle.world_setup.specs.Consistent.{IsConsistent}
-use Rattle.world_setup.specs.Ground.{GroundView, changed, ground_of, mark_change}
+use Rattle.world_setup.specs.Ground.{GroundView, ground_after, ground_of, mark_change}
 use Rattle.world_setup.specs.Refusing.{cause_of_mark, refusal}
 use Rattle.world_setup.specs.Turning.{AreMarkedAlone, IsPlannedMark, IsTurned, MayTurn, Tells}
 use Rattle.world_setup.proofs.BuiltTables.{keyed}
@@ -106,7 +106,7 @@ listed_where_allowed net balancer backend allowed =
     (no_cause (not (lists_backend backend (at net.load_balancers balancer))) (why.NoSuchBackend backend) (neither _ _ allowed).1)
 
 module _ (m : State) (zones : Zoned) (old : IsConsistent m zones) (balancer : Name) (backend : Backend) (online : Bool) (grammar : IsEventInGrammar (event_of.Health balancer backend online)) where
-  mark_sound : edits.IsSound m.config.net (mark_of balancer backend online) (event_count m + 1)
+  mark_sound : edits.LeavesSoundRecords m.config.net (mark_of balancer backend online) (event_count m + 1)
   mark_sound =
       edit_sound m.config.net (mark_of balancer backend online) (event_count m + 1) old.at_rest.valid (grammar, tt)
       (health_fine m.config.net balancer backend online (event_count m + 1) old.at_rest.valid)
@@ -233,7 +233,7 @@ module _ (g : GroundView) (n : ℕ) (balancer : Name) (backend : Backend) (onlin
   pub mark_refusal : refusal m (event_of.Health balancer backend online) ≡ cause_of_mark g.config.net balancer backend
   mark_refusal = ap (λ (net : Network). cause_of_mark net balancer backend) net_same
 
-  module _ (allowed : cause_of_mark g.config.net balancer backend ≡ None) (plan : EditPlan) (stands : StandsFor g.config.net (marked g.config.net balancer backend online) plan) where
+  module _ (allowed : cause_of_mark g.config.net balancer backend ≡ None) (plan : EditPlan) (stands : IsPlanBetween g.config.net (marked g.config.net balancer backend online) plan) where
     abbrev marks : List OfflineMark
     marks = (marked m.config.net balancer backend online).offline
 
@@ -245,7 +245,7 @@ module _ (g : GroundView) (n : ℕ) (balancer : Name) (backend : Backend) (onlin
     plan_is : plan.after ≡ with_marks m.config.net marks
     plan_is = stands.after ∙ ap (λ (net : Network). marked net balancer backend online) (sym net_same) ∙ marked_alone m.config.net balancer backend online
 
-    mark_ground : changed (mark_change plan) (ground_of m g.zones) ≡ record { config = record m.config { net = with_marks m.config.net marks }; keys = m.keys; zones = g.zones }
+    mark_ground : ground_after (mark_change plan) (ground_of m g.zones) ≡ record { config = record m.config { net = with_marks m.config.net marks }; keys = m.keys; zones = g.zones }
     mark_ground = λ i. record { config = record m.config { net = plan_is i; bindings = homes_bound m g.zones may.consistent i }; keys = m.keys; zones = g.zones }
 
     -- it is planned
@@ -259,8 +259,8 @@ module _ (g : GroundView) (n : ℕ) (balancer : Name) (backend : Backend) (onlin
     })
 
     pub mark_turns : (effects : List NetEffect) → effects ≡ [] → (change : SimChange TupleSpace) → change.bound ≡ [] → change.emptied ≡ [] → change.names ≡ []
-        → IsTurned m g.zones (event_of.Health balancer backend online) effects change (changed (mark_change plan) g)
+        → IsTurned m g.zones (event_of.Health balancer backend online) effects change (ground_after (mark_change plan) g)
     mark_turns effects none change bound emptied names =
-        subst (λ x. IsTurned m g.zones (event_of.Health balancer backend online) effects change (changed (mark_change plan) x)) may.ground
+        subst (λ x. IsTurned m g.zones (event_of.Health balancer backend online) effects change (ground_after (mark_change plan) x)) may.ground
         (subst (λ x. IsTurned m g.zones (event_of.Health balancer backend online) effects change x) (sym mark_ground)
         (marks_turned m g.zones may.consistent may.few marks come balancer backend online (marked_alone m.config.net balancer backend online) (mark_refusal ∙ allowed) effects none change bound emptied names))

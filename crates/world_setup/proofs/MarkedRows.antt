@@ -24,7 +24,7 @@ use Rattle.physical_flows.specs.Units.{ChangeOnly, patch_rows}
 use Rattle.physical_flows.specs.Switched.{IsKeyed}
 use Rattle.tunnel_keys.specs.Keys.{Keys}
 use Rattle.world_setup.proofs.BuiltTables.{can_compile}
-use Rattle.world_setup.specs.Ground.{GroundView, basis_in, changed, mark_change}
+use Rattle.world_setup.specs.Ground.{GroundView, basis_in, ground_after, mark_change}
 use Rattle.world_setup.specs.Setup.{AreTouched, lowering_in, rows_on}
 use Rattle.world_setup.specs.Turning.{IsPlannedMark}
 
@@ -109,7 +109,7 @@ module _ (g : GroundView) (plan : EditPlan) (planned : IsPlannedMark g plan) whe
   abbrev then' : GroundView
   then' = record { config = record g.config { net = with_marks g.config.net plan.after.offline }; keys = g.keys; zones = g.zones }
 
-  ground_is : changed (mark_change plan) g ≡ then'
+  ground_is : ground_after (mark_change plan) g ≡ then'
   ground_is = λ i. record { config = record g.config { net = planned.alone i; bindings = planned.homes i }; keys = g.keys; zones = g.zones }
 
   -- the rows can be lowered, before and after
@@ -123,7 +123,7 @@ module _ (g : GroundView) (plan : EditPlan) (planned : IsPlannedMark g plan) whe
   mark_keyed = record { valid = planned.valid; keyed = subst (λ net. HaveKeys net g.keys) (sym planned.alone) (still_have g.config.net g.keys planned.keyed.keyed plan.after.offline) }
 
   -- no unit of flows is touched
-  pub mark_touches_none : AreTouched g (changed (mark_change plan) g) []
+  pub mark_touches_none : AreTouched g (ground_after (mark_change plan) g) []
   mark_touches_none = record { once = tt; only = λ d among. subst (λ x. ChangeOnly [] (rows_on g d) (rows_on x d)) (sym ground_is) (around_stays (basis_in g d) plan.after.offline) }
 
   -- with the list of rows that was made, of records that are those

@@ -30,7 +30,7 @@ use Rattle.physical_flows.specs.declared.unit.FlowUnit.{FlowUnit}
 use Rattle.switch_engine.specs.declared.effect.NetEffect.{NetEffect}
 use Rattle.tunnel_keys.specs.Keys.{Keys}
 use Rattle.tuple_space.specs.declared.space.TupleSpace.{TupleSpace}
-use Rattle.world_setup.specs.Ground.{GroundView, changed, ground_of, IsChangeOf}
+use Rattle.world_setup.specs.Ground.{GroundView, ground_after, ground_of, IsChangeOf}
 use Rattle.world_setup.specs.Editing.{next_net}
 use Rattle.world_setup.specs.KeyLines.{key_effects, key_name}
 use Rattle.world_setup.specs.Refusing.{is_virtual_port, refusal}
@@ -51,7 +51,7 @@ use Rattle.event_lines.specs.declared.refusal.Refusal.TheVariants as why
 use Rattle.event_lines.specs.declared.refusal.StepFault.{StepFault}
 use Rattle.event_lines.specs.declared.refusal.StepFault.TheVariants.{Refused, Memory}
 use Rattle.nb_edits.specs.OpFaults.{fault_of}
-use Rattle.nb_edits.specs.Plans.{StandsFor}
+use Rattle.nb_edits.specs.Plans.{IsPlanBetween}
 use Rattle.nb_rules.specs.declared.fault.SchemaFault.{SchemaFault}
 use Rattle.std.proofs.lemmas.Option.{none-some}
 use Rattle.tunnel_keys.specs.Causes.{IsCause}
@@ -87,8 +87,8 @@ pub record IsReadied (g : GroundView) (change : GroundChange) (touched : List Fl
   pub fits : IsChangeOf g change
   pub once : EachOnce g.config.chassis
   pub tables : AreTables g
-  pub tables_then : AreTables (changed change g)
-  pub touched_alone : AreTouched g (changed change g) touched
+  pub tables_then : AreTables (ground_after change g)
+  pub touched_alone : AreTouched g (ground_after change g) touched
 
 -- the ground of these records, chassis, keys and zones
 abbrev pub ground_with : Network → List Name → Keys → Zoned → GroundView
@@ -96,17 +96,17 @@ ground_with net names keys zones = record { config = record { net = net; chassis
 
 -- the tables' part of a turn says nothing of what is bound and named
 pub tables_then : (h g : GroundView) → h ≡ g → (own change : GroundChange) → own ≡ change → (s t : SimChange TupleSpace) → t.added ≡ s.added → t.removed ≡ s.removed → t.tables ≡ s.tables
-    → IsTurnOfTables h (changed change h) s → IsTurnOfTables g (changed own g) t
+    → IsTurnOfTables h (ground_after change h) s → IsTurnOfTables g (ground_after own g) t
 tables_then h g same own change is s t added removed tables turn =
-    let all : IsTurnOfTables h (changed change h) t = record {
+    let all : IsTurnOfTables h (ground_after change h) t = record {
       removed = removed ∙ turn.removed;
       tables = ap (λ l. keys_of l) tables ∙ turn.tables;
-      deltas = λ c among. subst (λ l. HasDelta h (changed change h) l c) (sym tables) (turn.deltas c among);
+      deltas = λ c among. subst (λ l. HasDelta h (ground_after change h) l c) (sym tables) (turn.deltas c among);
       chassis = λ c among. subst (λ l. Among c h.config.chassis ⊎ Among c (keys_of l)) (sym added) (turn.chassis c among);
       stay = turn.stay;
       added = λ e among. turn.added e (subst (λ l. Among e l) added among);
     } in
-    subst (λ ch. IsTurnOfTables g (changed ch g) t) (sym is) (subst (λ x. IsTurnOfTables x (changed change x) t) same all)
+    subst (λ ch. IsTurnOfTables g (ground_after ch g) t) (sym is) (subst (λ x. IsTurnOfTables x (ground_after change x) t) same all)
 
 -- the homes that come, in the terms in which the setup has records and chassis
 module _ (g h : GroundView) (is : h ≡ g) (net other : Network) (same : other ≡ net) (names others : List Name) (equal : others ≡ names) where
@@ -134,10 +134,10 @@ module _ (m : State) (zones : Zoned) (old : IsConsistent m zones) (room : event_
   abbrev next : Network
   next = next_net m ops
 
-  edit_ground : changed (edit_change plan keys later) (ground_of m zones) ≡ record { config = record m.config { net = next }; keys = keys; zones = later }
+  edit_ground : ground_after (edit_change plan keys later) (ground_of m zones) ≡ record { config = record m.config { net = next }; keys = keys; zones = later }
   edit_ground = λ i. record { config = record m.config { net = planned.stands.after i; bindings = edit_homes m zones old room ops grammar plan keys planned later rezoned i }; keys = keys; zones = later }
 
-  pub edit_tables_then : AreTables (changed (edit_change plan keys later) (ground_of m zones))
+  pub edit_tables_then : AreTables (ground_after (edit_change plan keys later) (ground_of m zones))
   edit_tables_then = subst (λ g. AreTables g) (sym edit_ground) (record {
     keyed = keyed next keys (sound m zones old room ops grammar plan keys planned).valid (have m zones old room ops grammar plan keys planned);
     compiled = can_compile next keys (sound m zones old room ops grammar plan keys planned).valid (have m zones old room ops grammar plan keys planned);
@@ -171,7 +171,7 @@ module _ (m : State) (zones : Zoned) (old : IsConsistent m zones) (room : event_
 
   pub edit_is_turned : (effects : List NetEffect) → effects ≡ key_effects plan.added keys → (change : SimChange TupleSpace) → change.bound ≡ []
       → change.emptied ≡ zones_begun later.numbers (routers_coming zones.homes (homes_by zones.homes next m.config.chassis)) → change.names ≡ map (key_name keys) plan.added
-      → IsTurned m zones (event_of.Edit ops) effects change (changed (edit_change plan keys later) (ground_of m zones))
+      → IsTurned m zones (event_of.Edit ops) effects change (ground_after (edit_change plan keys later) (ground_of m zones))
   edit_is_turned effects named change bound emptied names =
       subst (λ g. IsTurned m zones (event_of.Edit ops) effects change g) (sym edit_ground) (edit_turned m zones old room ops grammar plan keys planned later rezoned effects named change bound emptied names)
 
@@ -188,10 +188,10 @@ module _ (g : GroundView) (n : ℕ) (ops : List Op) (m : State) (may : MayTurn g
   keys_same = ap (λ (x : GroundView). x.keys) may.ground
 
   -- the owners that come and go by the plan
-  come_same : (plan : EditPlan) → StandsFor g.config.net (accepted g.config.net ops n) plan → owners_only_in (next_net m ops) m.config.net ≡ plan.added
+  come_same : (plan : EditPlan) → IsPlanBetween g.config.net (accepted g.config.net ops n) plan → owners_only_in (next_net m ops) m.config.net ≡ plan.added
   come_same plan stands = (λ i. owners_only_in (sym edit_leaves i) (may.ground i).config.net) ∙ sym stands.added
 
-  go_same : (plan : EditPlan) → StandsFor g.config.net (accepted g.config.net ops n) plan → owners_only_in m.config.net (next_net m ops) ≡ plan.removed
+  go_same : (plan : EditPlan) → IsPlanBetween g.config.net (accepted g.config.net ops n) plan → owners_only_in m.config.net (next_net m ops) ≡ plan.removed
   go_same plan stands = (λ i. owners_only_in (may.ground i).config.net (sym edit_leaves i)) ∙ sym stands.removed
 
   pub edit_tells : (fault : StepFault) → is_built_edit ops ≡ true → Tells fault (option_map (λ f. why.Schema f) (fault_of g.config.net ops n)) → Tells fault (refusal m (event_of.Edit ops))
@@ -202,14 +202,14 @@ module _ (g : GroundView) (n : ℕ) (ops : List Op) (m : State) (may : MayTurn g
       by (Some f) is h = edit_faulty m ops f built (fault_same ∙ is) ∙ h
   edit_tells Memory built told = tt
 
-  pub keys_fit : (plan : EditPlan) → is_built_edit ops ≡ true → fault_of g.config.net ops n ≡ None → StandsFor g.config.net (accepted g.config.net ops n) plan → (keys : Keys) → keys ≡ g.keys → IsKeyEdit keys plan.added plan.removed
+  pub keys_fit : (plan : EditPlan) → is_built_edit ops ≡ true → fault_of g.config.net ops n ≡ None → IsPlanBetween g.config.net (accepted g.config.net ops n) plan → (keys : Keys) → keys ≡ g.keys → IsKeyEdit keys plan.added plan.removed
   keys_fit plan built none stands keys is =
       subst (λ k. IsKeyEdit k plan.added plan.removed) (keys_same ∙ sym is)
       (subst (λ owners. IsKeyEdit m.keys owners plan.removed) (come_same plan stands)
       (subst (λ owners. IsKeyEdit m.keys (owners_only_in (next_net m ops) m.config.net) owners) (go_same plan stands)
       (edit_fits m g.zones may.consistent ops may.in_grammar built (fault_same ∙ none))))
 
-  pub keys_tell : (plan : EditPlan) → is_built_edit ops ≡ true → fault_of g.config.net ops n ≡ None → StandsFor g.config.net (accepted g.config.net ops n) plan → (keys : Keys) → keys ≡ g.keys → (fault : StepFault) → LacksFor keys plan.added plan.removed fault
+  pub keys_tell : (plan : EditPlan) → is_built_edit ops ≡ true → fault_of g.config.net ops n ≡ None → IsPlanBetween g.config.net (accepted g.config.net ops n) plan → (keys : Keys) → keys ≡ g.keys → (fault : StepFault) → LacksFor keys plan.added plan.removed fault
       → Tells fault (refusal m (event_of.Edit ops))
   keys_tell plan built none stands keys is fault lacks = subst (λ f. Tells f (refusal m (event_of.Edit ops))) (sym lacks.fault_is) (by lacks.lack (edit_lack m g.zones may.consistent ops may.in_grammar built (fault_same ∙ none) lacks.lack cause))
     where
@@ -257,9 +257,9 @@ module _ (g : GroundView) (n : ℕ) (ops : List Op) (m : State) (may : MayTurn g
 
     pub edit_turns : (effects : List NetEffect) → effects ≡ key_effects plan.added keys → (change : SimChange TupleSpace) → change.bound ≡ []
         → change.emptied ≡ zones_begun later.numbers (routers_coming g.zones.homes (homes_by g.zones.homes plan.after g.config.chassis)) → change.names ≡ map (key_name keys) plan.added
-        → IsTurned m g.zones (event_of.Edit ops) effects change (changed (edit_change plan keys later) g)
+        → IsTurned m g.zones (event_of.Edit ops) effects change (ground_after (edit_change plan keys later) g)
     edit_turns effects named change bound emptied names =
-        subst (λ x. IsTurned m g.zones (event_of.Edit ops) effects change (changed (edit_change plan keys later) x)) may.ground
+        subst (λ x. IsTurned m g.zones (event_of.Edit ops) effects change (ground_after (edit_change plan keys later) x)) may.ground
         (edit_is_turned m g.zones may.consistent may.few ops may.in_grammar plan keys planned_here later rezoned_here effects named change bound
         (emptied ∙ ap (λ h. zones_begun later.numbers (routers_coming g.zones.homes h)) homes_same) names)
 
@@ -305,7 +305,7 @@ module _ (g : GroundView) (n : ℕ) (c : Name) (m : State) (may : MayTurn g n (e
       rezoned_then : IsRezoned g.zones (coming_home g.zones.homes (homes_by g.zones.homes m.config.net longer)) later
       rezoned_then = subst (λ h. IsRezoned g.zones (coming_home g.zones.homes h) later) homes_same_then rezoned
 
-      chassis_ground : changed (chassis_change names later) (ground_of m g.zones) ≡ record { config = record m.config { chassis = longer }; keys = m.keys; zones = later }
+      chassis_ground : ground_after (chassis_change names later) (ground_of m g.zones) ≡ record { config = record m.config { chassis = longer }; keys = m.keys; zones = later }
       chassis_ground = λ i. record { config = record m.config { chassis = names_same i; bindings = chassis_homes m g.zones may.consistent c later rezoned_then i }; keys = m.keys; zones = later }
 
       chassis_is_readied : (units : List FlowUnit) → EachOnce units → HasLeading units m.config.net → IsReadied (ground_of m g.zones) (chassis_change names later) units
@@ -332,9 +332,9 @@ module _ (g : GroundView) (n : ℕ) (c : Name) (m : State) (may : MayTurn g n (e
           (subst (λ (x : GroundView). (u : FlowUnit) → Among u units ↔ Among u (leading_units x.config.net x.config.net)) (sym may.ground) all)))
 
       pub chassis_turns : (effects : List NetEffect) → effects ≡ [] → (change : SimChange TupleSpace) → change.bound ≡ [] → change.names ≡ []
-          → change.emptied ≡ zones_begun later.numbers (routers_coming g.zones.homes (homes_by g.zones.homes g.config.net names)) → IsTurned m g.zones (event_of.AddChassis c) effects change (changed (chassis_change names later) g)
+          → change.emptied ≡ zones_begun later.numbers (routers_coming g.zones.homes (homes_by g.zones.homes g.config.net names)) → IsTurned m g.zones (event_of.AddChassis c) effects change (ground_after (chassis_change names later) g)
       chassis_turns effects none change bound called emptied =
-          subst (λ x. IsTurned m g.zones (event_of.AddChassis c) effects change (changed (chassis_change names later) x)) may.ground
+          subst (λ x. IsTurned m g.zones (event_of.AddChassis c) effects change (ground_after (chassis_change names later) x)) may.ground
           (subst (λ x. IsTurned m g.zones (event_of.AddChassis c) effects change x) (sym chassis_ground)
           (chassis_turned m g.zones may.consistent c later rezoned_then may.few allowed effects none change bound called
           (emptied ∙ ap (λ h. zones_begun later.numbers (routers_coming g.zones.homes h)) homes_same_then)))
@@ -379,7 +379,7 @@ module _ (g : GroundView) (n : ℕ) (p c : Name) (m : State) (may : MayTurn g n 
         false≢true (subst IsSome none ((rezoned.zoned.at_home c (Port p)).0 (ap (λ l. at l p) ports ∙ put_there m.config.bindings p c)))
 
     pub binding_turns : (z : ℕ) → number_on after.numbers c (Port p) ≡ Some z → (effects : List NetEffect) → effects ≡ [] → (change : SimChange TupleSpace) → change.bound ≡ (p, Some c) ∷ [] → change.names ≡ [] → change.emptied ≡ (c, z) ∷ []
-        → IsTurned m g.zones (event_of.Bind p c) effects change (changed (zone_change after) g)
+        → IsTurned m g.zones (event_of.Bind p c) effects change (ground_after (zone_change after) g)
     binding_turns z numbered effects none change bound called emptied =
-        subst (λ x. IsTurned m g.zones (event_of.Bind p c) effects change (changed (zone_change after) x)) may.ground
+        subst (λ x. IsTurned m g.zones (event_of.Bind p c) effects change (ground_after (zone_change after) x)) may.ground
         (binding_turned m g.zones may.consistent may.few effects none change p c allowed after rezoned z numbered bound called emptied)

@@ -36,7 +36,7 @@ use Rattle.tunnel_keys.specs.Keys.{settled}
 use Rattle.tuple_space.specs.Bunches.{flows_in}
 use Rattle.tuple_space.specs.declared.space.TupleSpace.{TupleSpace}
 use Rattle.world_setup.specs.Ground.{GroundView, basis_in}
-use Rattle.world_setup.specs.Setup.{ArePatches, ComesOver, HasCome, HasDelta, HasStore, IsFlowOn, IsLoweredOrDone, IsReadyOrDone, IsTurnOfTables, StandsForGround, every_delta, joined, lowering_in, rows_on, units_of}
+use Rattle.world_setup.specs.Setup.{ArePatches, ComesOver, HasCome, HasDelta, HasStore, IsFlowOn, IsLoweredOrDone, IsReadyOrDone, IsTurnOfTables, StandsForGround, every_delta, both_deltas, lowering_in, rows_on, units_of}
 use Rattle.world_setup.proofs.FlowStores.{found_so}
 use Rattle.sim_laws.proofs.turn_laws.KeepingTurns.{name_kept}
 use Rattle.world_setup.proofs.NamesInOrder.{name_cases, name_put}
@@ -153,10 +153,10 @@ module _ (before after : GroundView) (come : Option (Name × UnitStore)) (added 
 
 -- to every chassis the same, and then what its own patch says
 abbrev delta_in : Delta Flow → Prepared Flow FlowUnit → Delta Flow
-delta_in every p = joined every p.delta
+delta_in every p = both_deltas every p.delta
 
 abbrev pub deltas_told : Delta Flow → List (Name × Prepared Flow FlowUnit) → List (Name × Delta Flow)
-deltas_told every patches = map (λ p. (p.0, joined every p.1.delta)) patches
+deltas_told every patches = map (λ p. (p.0, both_deltas every p.1.delta)) patches
 
 pub names_same : (every : Delta Flow) (patches : List (Name × Prepared Flow FlowUnit)) → keys_of (deltas_told every patches) ≡ keys_of patches
 names_same every [] = refl
@@ -184,7 +184,7 @@ deltas_lead before after every turned stores patches are c m =
     let found = found_so (λ n p. Unit {0}) patches c (subst (λ l. Among c l) (sym are.chassis) m) (anything patches) in
     let patch : IsReadyOrDone before after c (Some found.0) way.store = subst (λ o. IsReadyOrDone before after c o way.store) found.1 way.stands in
     record {
-      delta = joined every found.0.delta;
+      delta = both_deltas every found.0.delta;
       is = seen_found (delta_in every) patches c found.0 found.1;
       change = change_of_both (basis_in before c) (basis_in after c) turned.had turned.have every found.0.delta turned.lowered patch.change;
     }

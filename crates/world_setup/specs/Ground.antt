@@ -27,8 +27,8 @@ abbrev pub ground_of : State → Zoned → GroundView
 ground_of m zones = record { config = m.config; keys = m.keys; zones = zones }
 
 -- the ground after a change: what isn't changed stays
-abbrev pub changed : GroundChange → GroundView → GroundView
-changed c g = record {
+abbrev pub ground_after : GroundChange → GroundView → GroundView
+ground_after c g = record {
   config = record { net = unwrap_or (option_map (λ plan. plan.after) c.records) g.config.net; chassis = unwrap_or c.chassis g.config.chassis; bindings = (unwrap_or c.zones g.zones).homes.ports };
   keys = unwrap_or c.keys g.keys;
   zones = unwrap_or c.zones g.zones;

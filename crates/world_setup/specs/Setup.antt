@@ -26,7 +26,7 @@ use Rattle.physical_flows.specs.declared.unit.FlowUnit.{FlowUnit}
 use Rattle.physical_flows.specs.declared.unit.FlowUnit.TheVariants as unit
 use Rattle.tuple_space.specs.Bunches.{flows_in}
 use Rattle.tuple_space.specs.declared.space.TupleSpace.{TupleSpace}
-use Rattle.world_setup.specs.Ground.{GroundView, basis_in, changed, IsChangeOf}
+use Rattle.world_setup.specs.Ground.{GroundView, basis_in, ground_after, IsChangeOf}
 use Rattle.world_setup.specs.declared.setup.SetupPatch.{SetupPatch}
 
 -- the ground, the flows that every chassis has of the network, those of each chassis around the pipelines, and for how many more chassis there is room
@@ -117,18 +117,18 @@ IsLoweredOrDone before after lowered None = lowering_in after ≡ lowering_in be
 -- the patch was prepared for this setup
 pub record IsSetupPatch (s : SetupView) (patch : SetupPatch) : Type 0 where
   pub change : IsChangeOf s.ground patch.change
-  pub lowered : IsLoweredOrDone s.ground (changed patch.change s.ground) s.lowered patch.lowered
-  pub patches : ArePatches s.ground (changed patch.change s.ground) s.stores patch.patches
+  pub lowered : IsLoweredOrDone s.ground (ground_after patch.change s.ground) s.lowered patch.lowered
+  pub patches : ArePatches s.ground (ground_after patch.change s.ground) s.stores patch.patches
   -- a chassis was there, or comes
-  pub chassis : (c : Name) → Among c (changed patch.change s.ground).config.chassis → Among c s.ground.config.chassis ⊎ HasCome (changed patch.change s.ground) patch.come c
-  pub new : (c : Name) (store : UnitStore) → patch.come ≡ Some (c, store) → HaveRows (rows_on (changed patch.change s.ground) c) (rows_held store)
+  pub chassis : (c : Name) → Among c (ground_after patch.change s.ground).config.chassis → Among c s.ground.config.chassis ⊎ HasCome (ground_after patch.change s.ground) patch.come c
+  pub new : (c : Name) (store : UnitStore) → patch.come ≡ Some (c, store) → HaveRows (rows_on (ground_after patch.change s.ground) c) (rows_held store)
   pub room : IsSome patch.come → 1 ≤ s.room
 
 -- ---- what the simulated chassis are told
 
 -- one delta and then the other
-abbrev pub joined : Delta Flow → Delta Flow → Delta Flow
-joined one other = record { added = one.added ++ other.added; removed = one.removed ++ other.removed }
+abbrev pub both_deltas : Delta Flow → Delta Flow → Delta Flow
+both_deltas one other = record { added = one.added ++ other.added; removed = one.removed ++ other.removed }
 
 -- what is planned for every chassis
 abbrev pub every_delta : Option (Prepared Flow UnitId) → Delta Flow

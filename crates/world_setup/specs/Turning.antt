@@ -25,7 +25,7 @@ use Rattle.nb_records.specs.Network.{Network}
 use Rattle.nb_records.specs.declared.change.Op.{Op}
 use Rattle.nb_rules.specs.Valid.{IsValid}
 use Rattle.nb_edits.specs.OpFaults.{fault_of}
-use Rattle.nb_edits.specs.Plans.{StandsFor}
+use Rattle.nb_edits.specs.Plans.{IsPlanBetween}
 use Rattle.nb_edits.specs.declared.plan.EditPlan.{EditPlan}
 use Rattle.event_lines.specs.declared.refusal.Refusal.TheVariants as why
 use Rattle.tunnel_keys.specs.Causes.{HasKeys, IsCause}
@@ -36,7 +36,7 @@ use Rattle.tunnel_keys.specs.declared.fault.KeyFault.TheVariants as key
 use Rattle.tunnel_keys.specs.declared.fault.KeyFault.TheVariants.{NoDatapathKey, NoPortKey}
 use Rattle.tunnel_keys.specs.declared.owner.KeyOwner.{KeyOwner}
 use Rattle.world_setup.specs.Built.{is_built_edit}
-use Rattle.world_setup.specs.Ground.{GroundView, changed, ground_of}
+use Rattle.world_setup.specs.Ground.{GroundView, ground_after, ground_of}
 use Rattle.world_setup.specs.Refusing.{refusal}
 use Rattle.world_setup.specs.Setup.{SetupView, IsSetupPatch, IsTurnOfTables}
 use Rattle.world_setup.specs.Step.{Does}
@@ -76,7 +76,7 @@ pub record IsTurned (m : State) (homes : Zoned) (event : Event) (effects : List 
 pub record IsPlannedEdit (g : GroundView) (n : ℕ) (ops : List Op) (plan : EditPlan) (keys : held.Keys) : Type 0 where
   pub built : is_built_edit ops ≡ true
   pub faultless : fault_of g.config.net ops n ≡ None
-  pub stands : StandsFor g.config.net (accepted g.config.net ops n) plan
+  pub stands : IsPlanBetween g.config.net (accepted g.config.net ops n) plan
   pub after : IsAfter g.keys plan.added plan.removed keys
   pub enough : HasKeys g.keys plan.added plan.removed
 
@@ -103,8 +103,8 @@ pub record IsBare (turn : Turn) : Type 0 where
 -- the turn was prepared for this setup, and does what the event asks for
 pub record IsTurn (before : GroundView) (s : SetupView) (n : ℕ) (event : Event) (turn : Turn) : Type 0 where
   pub patch : IsSetupPatch s turn.patch
-  pub tables : IsTurnOfTables before (changed turn.patch.change before) turn.sim
-  pub turned : (m : State) → MayTurn before n event m → IsTurned m before.zones event turn.effects turn.sim (changed turn.patch.change before)
+  pub tables : IsTurnOfTables before (ground_after turn.patch.change before) turn.sim
+  pub turned : (m : State) → MayTurn before n event m → IsTurned m before.zones event turn.effects turn.sim (ground_after turn.patch.change before)
 
 -- why no turn comes of it: the cause for which the event is refused, or want of memory
 abbrev pub Tells : StepFault → Option Refusal → Type 0

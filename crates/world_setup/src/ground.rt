@@ -5,7 +5,7 @@ ghost use Rattle.tunnel_keys.specs.Keys.{settled};
 ghost use Rattle.net_model.specs.Config.{is_chassis};
 ghost use Rattle.net_model.specs.State.{empty};
 ghost use Rattle.ovn_base.specs.names.ByName.{at};
-ghost use Rattle.world_setup.specs.Ground.{basis_in, changed, ground_of, IsChangeOf};
+ghost use Rattle.world_setup.specs.Ground.{basis_in, ground_after, ground_of, IsChangeOf};
 ghost use Rattle.world_setup.specs.Refusing.{is_virtual_port};
 ghost use Rattle.sim_laws.specs.journeys.First.{nobody_home};
 
@@ -101,7 +101,7 @@ impl Ground {
 
     /// What the flows of the chassis follow from after the change.
     pub(crate) fn maps<'a>(&'a self, change: &'a GroundChange, chassis: Name) -> Maps<'a>
-        ensures { basis_of result ≡ basis_in (changed change.now self.now) chassis }
+        ensures { basis_of result ≡ basis_in (ground_after change.now self.now) chassis }
     {
         let (homes, numbers) = match &change.zones {
             Some(zones) => (zones.homes(), zones.numbers()),
@@ -129,7 +129,7 @@ impl Ground {
     /// Puts a change into force. No memory is taken.
     pub(crate) fn apply(&mut self, change: GroundChange)
         requires { IsChangeOf self.old change }
-        ensures { self.new ≡ changed change self.old }
+        ensures { self.new ≡ ground_after change self.old }
     {
         let GroundChange {
             records,

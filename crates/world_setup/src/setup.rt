@@ -8,12 +8,12 @@ ghost use Rattle.edit_reader.specs.declared.event.Event.TheVariants as event_of;
 ghost use Rattle.event_lines.specs.declared.refusal.Refusal.TheVariants as why;
 ghost use Rattle.event_lines.specs.declared.refusal.StepFault.TheVariants as fault_why;
 ghost use Rattle.nb_edits.specs.OpFaults.{fault_of};
-ghost use Rattle.nb_edits.specs.Plans.{StandsFor};
+ghost use Rattle.nb_edits.specs.Plans.{IsPlanBetween};
 ghost use Rattle.nb_records.specs.Editing.{accepted};
 ghost use Rattle.nb_records.specs.Network.{marked};
 ghost use Rattle.nb_rules.specs.Valid.{IsValid};
 ghost use Rattle.northd_core.specs.Lowering.{CanCompile, HaveLowered, IsLoweredIn, IsLoweredPlan, Lowering};
-ghost use Rattle.northd_core.specs.Plans.{AreListed};
+ghost use Rattle.northd_core.specs.Plans.{ListsEach};
 ghost use Rattle.net_model.specs.State.{State, empty};
 ghost use Rattle.ovn_base.specs.declared.name.Name.{Name};
 ghost use Rattle.ovn_base.specs.lists.Among.{Among};
@@ -29,9 +29,9 @@ ghost use Rattle.tunnel_keys.specs.Causes.{HasKeys};
 ghost use Rattle.tunnel_keys.specs.Edits.{IsAfter, IsKeyEdit};
 ghost use Rattle.tuple_space.specs.Bunches.{flows_in};
 ghost use Rattle.world_setup.specs.TurnEvents.{event_of_turn};
-ghost use Rattle.world_setup.specs.Ground.{GroundView, changed, ground_of, IsChangeOf, mark_change};
+ghost use Rattle.world_setup.specs.Ground.{GroundView, ground_after, ground_of, IsChangeOf, mark_change};
 ghost use Rattle.world_setup.specs.Refusing.{is_virtual_port};
-ghost use Rattle.world_setup.specs.Setup.{AreTouched, ComesOver, IsFlowBy, IsLoweredOrDone, IsSetupPatch, IsTurnOfTables, every_delta, joined, lowering_in, units_of};
+ghost use Rattle.world_setup.specs.Setup.{AreTouched, ComesOver, IsFlowBy, IsLoweredOrDone, IsSetupPatch, IsTurnOfTables, every_delta, both_deltas, lowering_in, units_of};
 ghost use Rattle.world_setup.specs.Turning.{IsBare, IsNoTurn, IsPlannedEdit, IsPlannedMark, IsTurn, LacksFor, MayTurn, Tells, fault_of_keys};
 ghost use Rattle.sim_laws.specs.journeys.First.{nobody_home};
 ghost use Rattle.world_setup.specs.Zones.{home_change};
@@ -127,7 +127,7 @@ pub struct Turn {
 // All flows that every chassis has.
 fn all_lowered(alloc: Global, lowered: &LoweredFlows) -> Result<List<Flow>, NoMemory>
     ensures shown { IfOk result (λ flows. flows ≡ keys_of lowered.now.counts) }
-    ensures listed { IfOk result (λ flows. (l : Lowering) → CanCompile l → HaveLowered l lowered.now → AreListed (IsLoweredIn l) flows) }
+    ensures listed { IfOk result (λ flows. (l : Lowering) → CanCompile l → HaveLowered l lowered.now → ListsEach (IsLoweredIn l) flows) }
 {
     exact_flow_clone();
     let mut flows = List::new(alloc);
@@ -176,7 +176,7 @@ fn all_deltas(
     lowered: &Option<LoweredPlan>,
     patches: &[(Name, TablePatch)],
 ) -> Result<List<(Name, Delta<Flow>)>, NoMemory>
-    ensures { IfOk result (λ deltas. deltas ≡ map (λ p. (p.0, joined (every_delta lowered.now) p.1.delta)) patches.now) }
+    ensures { IfOk result (λ deltas. deltas ≡ map (λ p. (p.0, both_deltas (every_delta lowered.now) p.1.delta)) patches.now) }
 {
     match lowered {
         Some(plan) => deltas_of(alloc, plan.delta(), patches),
@@ -241,7 +241,7 @@ fn planned(
 ) -> Result<EditPlan, StepFault>
     ensures kept { records.new ≡ records.old }
     ensures faultless { IfOk result (λ plan. fault_of records.old ops.now number ≡ None) }
-    ensures stands { IfOk result (StandsFor records.old (accepted records.old ops.now number)) }
+    ensures stands { IfOk result (IsPlanBetween records.old (accepted records.old ops.now number)) }
     ensures refused { IfErr result (λ fault. Tells fault (option_map (λ f. why.Schema f) (fault_of records.old ops.now number))) }
 {
     match plan(alloc, records, ops, number) {
@@ -262,7 +262,7 @@ fn planned_mark(
 ) -> Result<EditPlan, StepFault>
     requires valid { IsValid records.old }
     ensures kept { records.new ≡ records.old }
-    ensures stands { IfOk result (StandsFor records.old (marked records.old balancer backend online)) }
+    ensures stands { IfOk result (IsPlanBetween records.old (marked records.old balancer backend online)) }
     ensures refused { IfErr result (λ fault. fault ≡ fault_why.Memory) }
 {
     let mark = Op::Health {
@@ -388,16 +388,16 @@ impl Setup {
         requires fits { IsChangeOf self.old.ground change }
         requires once { EachOnce self.old.ground.config.chassis }
         requires before { IsKeyed self.old.ground.config.net self.old.ground.keys }
-        requires keyed { IsKeyed (changed change self.old.ground).config.net (changed change self.old.ground).keys }
-        requires compiled { CanCompile (lowering_in (changed change self.old.ground)) }
-        requires planned { IsLoweredOrDone self.old.ground (changed change self.old.ground) self.old.lowered lowered }
+        requires keyed { IsKeyed (ground_after change self.old.ground).config.net (ground_after change self.old.ground).keys }
+        requires compiled { CanCompile (lowering_in (ground_after change self.old.ground)) }
+        requires planned { IsLoweredOrDone self.old.ground (ground_after change self.old.ground) self.old.lowered lowered }
         requires alone { IsSome come → lowered ≡ None }
-        requires touched { AreTouched self.old.ground (changed change self.old.ground) touched.now }
-        requires chassis { ComesOver self.old.ground.config.chassis come (changed change self.old.ground).config.chassis }
+        requires touched { AreTouched self.old.ground (ground_after change self.old.ground) touched.now }
+        requires chassis { ComesOver self.old.ground.config.chassis come (ground_after change self.old.ground).config.chassis }
         ensures kept { self.new.ground ≡ self.old.ground }
         ensures patch { IfOk result (λ turn. IsSetupPatch self.new turn.patch) }
         ensures change { IfOk result (λ turn. turn.patch.change ≡ change) }
-        ensures turned { IfOk result (λ turn. IsTurnOfTables self.old.ground (changed change self.old.ground) turn.sim) }
+        ensures turned { IfOk result (λ turn. IsTurnOfTables self.old.ground (ground_after change self.old.ground) turn.sim) }
         ensures bare { IfOk result IsBare }
     {
         let patches = prepare_each(alloc, &mut self.stores, &self.ground, &change, touched)?;
@@ -622,7 +622,7 @@ impl Setup {
         ensures kept { self.new.ground ≡ self.old.ground }
         ensures patch { IfOk result (λ turn. IsSetupPatch self.new turn.patch) }
         ensures change { IfOk result (λ turn. turn.patch.change ≡ mark_change records) }
-        ensures turned { IfOk result (λ turn. IsTurnOfTables self.old.ground (changed (mark_change records) self.old.ground) turn.sim) }
+        ensures turned { IfOk result (λ turn. IsTurnOfTables self.old.ground (ground_after (mark_change records) self.old.ground) turn.sim) }
         ensures bare { IfOk result IsBare }
         ensures steps { steps.old ≤ steps.new }
     {
@@ -689,7 +689,7 @@ impl Setup {
     /// Puts a patch into force, which was prepared for what is there. No memory is taken.
     pub fn apply(&mut self, patch: SetupPatch)
         requires { IsSetupPatch self.old patch }
-        ensures { self.new.ground ≡ changed patch.change self.old.ground }
+        ensures { self.new.ground ≡ ground_after patch.change self.old.ground }
     {
         let SetupPatch {
             change,

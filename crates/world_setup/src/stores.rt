@@ -15,8 +15,8 @@ ghost use Rattle.physical_flows.specs.Units.{ChangeOnly};
 ghost use Rattle.physical_flows.specs.declared.unit.FlowUnit.{FlowUnit};
 ghost use Rattle.physical_flows.specs.Around.{around_everywhere, around_rows};
 ghost use Rattle.physical_flows.specs.Switched.{IsKeyed};
-ghost use Rattle.world_setup.specs.Ground.{GroundView, changed};
-ghost use Rattle.world_setup.specs.Setup.{ArePatches, HaveStores, HasRowsAt, HasStore, IsOnTheWay, IsPatchAt, IsReadyAt, joined, rows_at, rows_on};
+ghost use Rattle.world_setup.specs.Ground.{GroundView, ground_after};
+ghost use Rattle.world_setup.specs.Setup.{ArePatches, HaveStores, HasRowsAt, HasStore, IsOnTheWay, IsPatchAt, IsReadyAt, both_deltas, rows_at, rows_on};
 
 use crate::ground::{Ground, GroundChange};
 use flow_table::exact::exact_flow_clone;
@@ -67,12 +67,12 @@ pub(crate) fn prepare_each(
     touched: &[FlowUnit],
 ) -> Result<List<(Name, TablePatch)>, NoMemory>
     requires once { EachOnce ground.now.config.chassis }
-    requires keyed { IsKeyed (changed change.now ground.now).config.net (changed change.now ground.now).keys }
+    requires keyed { IsKeyed (ground_after change.now ground.now).config.net (ground_after change.now ground.now).keys }
     requires units_once { EachOnce touched.now }
-    requires touched { (c : Name) → Among c ground.now.config.chassis → ChangeOnly touched.now (rows_on ground.now c) (rows_on (changed change.now ground.now) c) }
+    requires touched { (c : Name) → Among c ground.now.config.chassis → ChangeOnly touched.now (rows_on ground.now c) (rows_on (ground_after change.now ground.now) c) }
     requires stand { HaveStores ground.now stores.old.entries }
     ensures kept { HaveStores ground.now stores.new.entries }
-    ensures patches { IfOk result (ArePatches ground.now (changed change.now ground.now) stores.new.entries) }
+    ensures patches { IfOk result (ArePatches ground.now (ground_after change.now ground.now) stores.new.entries) }
     ensures spare { spare stores.new ≡ spare stores.old }
 {
     let mut patches = List::new(alloc);
@@ -91,7 +91,7 @@ pub(crate) fn prepare_each(
 
 // One delta and then the other.
 fn joined(one: &Delta<Flow>, other: &Delta<Flow>) -> Result<Delta<Flow>, NoMemory>
-    ensures { IfOk result (λ both. both ≡ joined one.now other.now) }
+    ensures { IfOk result (λ both. both ≡ both_deltas one.now other.now) }
 {
     exact_flow_clone();
     let mut both = one.copy()?;
@@ -106,7 +106,7 @@ pub(crate) fn deltas_of(
     every: &Delta<Flow>,
     patches: &[(Name, TablePatch)],
 ) -> Result<List<(Name, Delta<Flow>)>, NoMemory>
-    ensures { IfOk result (λ deltas. deltas ≡ map (λ p. (p.0, joined every.now p.1.delta)) patches.now) }
+    ensures { IfOk result (λ deltas. deltas ≡ map (λ p. (p.0, both_deltas every.now p.1.delta)) patches.now) }
 {
     let mut deltas = List::new(alloc);
     'patches: for (name, patch) in patches {

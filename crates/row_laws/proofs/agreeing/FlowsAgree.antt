@@ -46,7 +46,7 @@ use Rattle.row_laws.proofs.routers.RouterUnits.{of_table, no_row_at}
 use Rattle.row_laws.proofs.routers.TakenAtRouter as router
 use Rattle.row_laws.proofs.suited.LiveDatapaths.{IsThere, as_switch, as_router, there}
 use Rattle.row_laws.specs.AgreeAnywhere.{AgreeAnywhereLaw, IsOwnKey, HoldsStageRows, FlowsAgreeLaw}
-use Rattle.row_laws.specs.Numbers.{IsDatapathKey, IsPortKey, StandsFor, AreSameMembers, HasNumbersInRange}
+use Rattle.row_laws.specs.Numbers.{IsDatapathKey, IsPortKey, NumberStandsFor, AreSameMembers, HasNumbersInRange}
 use Rattle.row_laws.specs.Rows.{IsBestRow}
 use Rattle.row_laws.specs.routers.RouterCopies.{router_port_identity, router_roster}
 
@@ -100,7 +100,7 @@ module _ (net : Network) (keys : Keys) (sets : Sets) (flows : List Flow) (s : St
 
       -- whom the number stands for
       abbrev Stands : Option Identity → Type 0
-      Stands id = StandsFor keys who d id n
+      Stands id = NumberStandsFor keys who d id n
 
       none_has : list_any has_number keys.ports ≡ false → (q : Name) → IsPortKey keys d q n → ⊥
       unfolding has_number

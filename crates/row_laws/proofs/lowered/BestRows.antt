@@ -13,7 +13,7 @@ use Rattle.match_cubes.proofs.WholeLaws.{whole_in_range}
 use Rattle.match_cubes.specs.declared.sets.Sets.{Sets}
 use Rattle.nb_records.specs.Network.{Network}
 use Rattle.logical_flows.specs.declared.flow.LFlow.{LFlow}
-use Rattle.stage_rows.specs.Units.{IsPair}
+use Rattle.stage_rows.specs.Units.{IsPairedRow}
 use Rattle.tunnel_keys.proofs.HeldKeys.{found}
 use Rattle.tunnel_keys.specs.Keys.{Keys, held_datapath}
 use Rattle.tunnel_keys.specs.declared.owner.DatapathKey.{DatapathKey}
@@ -97,7 +97,7 @@ module _ (net : Network) (keys : Keys) (sets : Sets) (flows : List Flow) (table 
       let here : LogicalFlowMatches keys sets of.row d regs s.packet = subst (λ e. LogicalFlowMatches keys sets of.row e regs s.packet) there logical in
       record {
         row = of.row;
-        is_row = record { pair = subst (λ e. IsPair net of.row e) there of.pair; in_table = sym low.in_table ∙ m.in_table };
+        is_row = record { pair = subst (λ e. IsPairedRow net of.row e) there of.pair; in_table = sym low.in_table ∙ m.in_table };
         holds_here = record { registers = here.registers; matching = sym (holds_same keys rows.can_lower.hold sets who d regs s h of.row.matching suited) ∙ here.matching };
         priority = low.priority;
         rank = low.rank;

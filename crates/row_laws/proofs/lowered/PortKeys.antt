@@ -19,7 +19,7 @@ use Rattle.tunnel_keys.proofs.HeldKeys.{found, on_datapath_key, is_held_port}
 use Rattle.tunnel_keys.specs.Keys.{Keys, IsKeys, ports_on, held_port}
 use Rattle.tunnel_keys.specs.declared.owner.Identity.{Identity}
 use Rattle.tunnel_keys.specs.declared.owner.PortKey.{PortKey}
-use Rattle.row_laws.specs.Numbers.{IsPortKey, StandsFor}
+use Rattle.row_laws.specs.Numbers.{IsPortKey, NumberStandsFor}
 
 -- ---- by name
 
@@ -79,7 +79,7 @@ module _ (keys : Keys) (hold : IsKeys keys) where
       let high : keys.port_range ≤ 32767 = hold.port_ranges.1 in
       omega arith
 
-  module _ (who : Roster) (d : Name) (id : Option Identity) (n : ℕ) (stands : StandsFor keys who d id n) (small : n ≤ 0xffff) where
+  module _ (who : Roster) (d : Name) (id : Option Identity) (n : ℕ) (stands : NumberStandsFor keys who d id n) (small : n ≤ 0xffff) where
     abbrev is_key : Option ℕ → Bool
     is_key o = equals n (key_bits o)
 

@@ -19,7 +19,7 @@ use Rattle.tunnel_keys.specs.declared.owner.PortKey.{PortKey}
 use Rattle.net_model.specs.Config.{port_identity}
 use Rattle.net_model.specs.Sights.{Roster, roster_of, is_live_one}
 use Rattle.row_laws.proofs.records.ValidPorts.{port_named}
-use Rattle.row_laws.specs.Numbers.{IsPortKey, StandsFor, PortStandsLaw, NoneStandsLaw}
+use Rattle.row_laws.specs.Numbers.{IsPortKey, NumberStandsFor, PortStandsLaw, NoneStandsLaw}
 
 module _ (keys : Keys) (hold : IsKeys keys) where
   -- a live port's key is held, beside the live datapath of its name
@@ -53,7 +53,7 @@ module _ (keys : Keys) (hold : IsKeys keys) where
 
   -- the live key of the port's name stands for the port, where a name stands for a port of that name alone
   pub key_stands : (who : Roster) (d : Name) (id : Identity) → who.live id.name ≡ Some id → ((q : Name) (other : Identity) → who.live q ≡ Some other → other.name ≡ q) → (n : ℕ) → IsPortKey keys d id.name n
-      → StandsFor keys who d (Some id) n
+      → NumberStandsFor keys who d (Some id) n
   key_stands who d id live own n key = record {
     named = λ q other. ap (λ m. is_live_one (Some id) (who.live m)) (sym (one_name d id.name q n key other)) ∙ ap (is_live_one (Some id)) live ∙ identity_own id;
     numbered = λ q h. by q (who.live q) refl h;
@@ -64,7 +64,7 @@ module _ (keys : Keys) (hold : IsKeys keys) where
       by q (Some other) is h = subst (λ m. IsPortKey keys d m n) (ap (λ (x : Identity). x.name) (identity_exact id other h) ∙ own q other is) key
 
   -- what is no key stands for none
-  pub no_key_stands : (who : Roster) (d : Name) (n : ℕ) → (n ≡ 0) ⊎ (MAX_PORT_KEY < n) → StandsFor keys who d None n
+  pub no_key_stands : (who : Roster) (d : Name) (n : ℕ) → (n ≡ 0) ⊎ (MAX_PORT_KEY < n) → NumberStandsFor keys who d None n
   no_key_stands who d n outside = record {
     named = λ q key. let range = key_range d q n key in absurd (elim outside [ inl zero' ↦ omega (arith, range.0, zero') | inr high ↦ omega (arith, range.1, high) ]);
     numbered = λ q h. absurd (false≢true h);

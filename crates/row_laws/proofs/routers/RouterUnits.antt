@@ -44,7 +44,7 @@ use Rattle.stage_rows.specs.BalancerRows.{router_vip_row}
 use Rattle.stage_rows.specs.RouterRows.{answered_input, echo_input, own_row, network_row, route_row}
 use Rattle.stage_rows.specs.Rows.{on_some, when}
 use Rattle.stage_rows.specs.SwitchRows.{some_take_unknown}
-use Rattle.stage_rows.specs.Units.{IsPair, router_port_rows, route_rows, neighbour_rows, nat_rows, balancer_rows, router_rows, rule_rows, switch_rows, port_rows, rows_in, all_stages, translates_named, datapath_of, datapath_of_port}
+use Rattle.stage_rows.specs.Units.{IsPairedRow, router_port_rows, route_rows, neighbour_rows, nat_rows, balancer_rows, router_rows, rule_rows, switch_rows, port_rows, rows_in, all_stages, translates_named, datapath_of, datapath_of_port}
 use Rattle.row_laws.proofs.records.ValidPorts.{whole, on_switch}
 use Rattle.row_laws.proofs.units.RowUnits.{rows_among, in_some, some_in, in_when}
 use Rattle.row_laws.proofs.units.StageRows.{is_of_switches}
@@ -254,7 +254,7 @@ module _ (net : Network) (valid : IsValid net) (d : Name) (rt : Router) (is_rout
     of_unit t (unit.Router e) on m = of_router t e (same_Some e d on) (at net.routers e) refl m
 
   -- a row of the network on the router is of one of these units
-  of_pair : (s : Stage) (r : LFlow) → ((t : Stage) → IsOfRouters t r → t ≡ s) → IsPair net r d → RouterRow net s d r
+  of_pair : (s : Stage) (r : LFlow) → ((t : Stage) → IsOfRouters t r → t ≡ s) → IsPairedRow net r d → RouterRow net s d r
   of_pair s r same pair =
       let m = flat_map_among (λ t. rows_in t net pair.origin) r all_stages pair.among in
       of_unit s r same m.0 pair.origin pair.on m.2

@@ -24,7 +24,7 @@ use Rattle.logical_flows.specs.declared.unit.UnitId.{UnitId}
 use Rattle.logical_flows.specs.declared.unit.UnitId.TheVariants as unit
 use Rattle.stage_rows.specs.Rows.{on_some, when}
 use Rattle.stage_rows.specs.SwitchRows.{some_take_unknown}
-use Rattle.stage_rows.specs.Units.{IsPair, switch_port_rows, router_port_rows, rule_rows, route_rows, neighbour_rows, nat_rows, balancer_rows, switch_rows, router_rows, port_rows, rows_in, all_stages, neighbour_named, translates_named}
+use Rattle.stage_rows.specs.Units.{IsPairedRow, switch_port_rows, router_port_rows, rule_rows, route_rows, neighbour_rows, nat_rows, balancer_rows, switch_rows, router_rows, port_rows, rows_in, all_stages, neighbour_named, translates_named}
 
 -- the rows of each kind of unit have it, in each stage
 pub record OfEachKind (P : LFlow → Type 0) (net : Network) : Type 0 where
@@ -82,7 +82,7 @@ module _ (P : LFlow → Type 0) where
     unit_has (unit.Switch d) = if_some (at net.switches d) (λ (x : Switch). switch_rows s (is_stateful net d) (some_take_unknown net d)) (λ x is. kinds.switch s (is_stateful net d) (some_take_unknown net d))
     unit_has (unit.Router d) = if_some (translates_named net d) (router_rows s) (λ translating is. kinds.router s translating)
 
-  pub each_row : (net : Network) → OfEachKind P net → (r : LFlow) (d : Name) → IsPair net r d → P r
+  pub each_row : (net : Network) → OfEachKind P net → (r : LFlow) (d : Name) → IsPairedRow net r d → P r
   each_row net kinds r d pair =
       let m = flat_map_among (λ s. rows_in s net pair.origin) r all_stages pair.among in
       among_all P r (rows_in m.0 net pair.origin) (unit_has net kinds m.0 pair.origin) m.2

@@ -29,7 +29,7 @@ use Rattle.logical_flows.specs.declared.stage.Stage.{Stage}
 use Rattle.logical_flows.specs.declared.unit.UnitId.{UnitId}
 use Rattle.logical_flows.specs.declared.unit.UnitId.TheVariants as unit
 use Rattle.stage_rows.specs.SwitchRows.{some_take_unknown}
-use Rattle.stage_rows.specs.Units.{IsPair, rows_in, all_stages, switch_rows, router_rows, translates_named, datapath_of, datapath_of_port, units_of, units_of_rule, units_of_balancer, units_of_router_port, port_units, rule_units, neighbour_units, neighbour_ips, balancer_units}
+use Rattle.stage_rows.specs.Units.{IsPairedRow, rows_in, all_stages, switch_rows, router_rows, translates_named, datapath_of, datapath_of_port, units_of, units_of_rule, units_of_balancer, units_of_router_port, port_units, rule_units, neighbour_units, neighbour_ips, balancer_units}
 use Rattle.tunnel_keys.proofs.HeldKeys.{is_found}
 use Rattle.tunnel_keys.specs.Edits.{IsLive}
 use Rattle.tunnel_keys.specs.Keys.{Keys}
@@ -203,7 +203,7 @@ module _ (net : Network) (valid : IsValid net) where
       by {b = b} None is h = absurd (none-some b h)
       by (Some x) is h = as_router x is
 
-  pub there : (r : LFlow) (d : Name) → IsPair net r d → IsThere net d
+  pub there : (r : LFlow) (d : Name) → IsPairedRow net r d → IsThere net d
   there r d pair =
       let m = flat_map_among (λ s. rows_in s net pair.origin) r all_stages pair.among in
       unit_there r m.0 pair.origin d pair.there pair.on m.2

@@ -41,7 +41,7 @@ use Rattle.stage_rows.specs.RuleRows.{rule_row, rule_stage, verdict_number}
 use Rattle.stage_rows.specs.Rows.{on_some, when, in_is, drop_row, pass_row, go_on}
 use Rattle.stage_rows.specs.StateRows.{state_rows}
 use Rattle.stage_rows.specs.SwitchRows as switch
-use Rattle.stage_rows.specs.Units.{IsPair, switch_port_rows, router_port_rows, rule_rows, route_rows, neighbour_rows, nat_rows, balancer_rows, switch_rows, router_rows, is_from_lport, is_to_lport}
+use Rattle.stage_rows.specs.Units.{IsPairedRow, switch_port_rows, router_port_rows, rule_rows, route_rows, neighbour_rows, nat_rows, balancer_rows, switch_rows, router_rows, is_from_lport, is_to_lport}
 use Rattle.row_laws.proofs.suited.EachRow as rows
 use Rattle.row_laws.proofs.suited.EachRow.{each_row}
 use Rattle.row_laws.proofs.suited.RisingActions.{is_rising, rises, rising_row_proper}
@@ -167,7 +167,7 @@ router_rising s translating = closed (router_rows s translating) refl
 
 -- ---- all units
 
-pub rows_rise : (net : Network) → IsValid net → (r : LFlow) (d : Name) → IsPair net r d → IsRising r
+pub rows_rise : (net : Network) → IsValid net → (r : LFlow) (d : Name) → IsPairedRow net r d → IsRising r
 rows_rise net valid r d pair = each_row IsRising net (record {
   port = λ name q is s. port_rising net q s;
   router_port = λ name q is s. router_port_rising net q s;

@@ -7,16 +7,16 @@ use Rattle.nb_records.specs.Network.{Network}
 use Rattle.nb_records.specs.declared.router.RouterPort.{RouterPort}
 use Rattle.nb_rules.specs.Valid.{IsValid}
 use Rattle.tunnel_keys.specs.Keys.{Keys, IsKeys}
-use Rattle.row_laws.specs.Numbers.{IsPortKey, StandsFor}
+use Rattle.row_laws.specs.Numbers.{IsPortKey, NumberStandsFor}
 use Rattle.row_laws.specs.routers.RouterCopies.{router_port_identity, router_roster}
 
 -- The live key of a router's port stands for the port.
 abbrev pub RouterPortStandsLaw : Type 0
 RouterPortStandsLaw =
     (net : Network) (keys : Keys) → IsValid net → IsKeys keys → (i : RouterPort) → at net.router_ports i.name ≡ Some i
-    → (n : ℕ) → IsPortKey keys i.router i.name n → StandsFor keys (router_roster net) i.router (Some (router_port_identity i)) n
+    → (n : ℕ) → IsPortKey keys i.router i.name n → NumberStandsFor keys (router_roster net) i.router (Some (router_port_identity i)) n
 
 -- What is no key of ports, as 0, stands for none.
 abbrev pub NoRouterPortStandsLaw : Type 0
 NoRouterPortStandsLaw =
-    (net : Network) (keys : Keys) → IsKeys keys → (router : Name) (n : ℕ) → (n ≡ 0) ⊎ (MAX_PORT_KEY < n) → StandsFor keys (router_roster net) router None n
+    (net : Network) (keys : Keys) → IsKeys keys → (router : Name) (n : ℕ) → (n ≡ 0) ⊎ (MAX_PORT_KEY < n) → NumberStandsFor keys (router_roster net) router None n

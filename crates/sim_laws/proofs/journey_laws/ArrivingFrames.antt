@@ -71,7 +71,7 @@ use Rattle.sim_laws.specs.journeys.Filling.{FillingLaw}
 use Rattle.sim_laws.specs.journeys.Holding.{HoldsNetwork}
 use Rattle.sim_laws.specs.journeys.InState.{chassis_at, zones_on}
 use Rattle.sim_laws.specs.journeys.Moves.{journey_in}
-use Rattle.sim_laws.specs.journeys.Premises.{IsReady}
+use Rattle.sim_laws.specs.journeys.Premises.{IsReadyForPasses}
 use Rattle.sim_laws.specs.journeys.Refining.{IsComing, IsJourney, ArrivalJourneyLaw, waiting_on}
 use Rattle.sim_laws.specs.journeys.UnderWay.{IsUnderWay}
 use Rattle.sim_laws.specs.passes.Whole.{WholeWalkLaw}
@@ -162,7 +162,7 @@ module _ (m : State) (zones : Zoned) (sets : Sets) (more : ℕ) (s new : sim.Sim
     abbrev way : Trail → Trail
     way t = arrival scene n x t
 
-    ready : IsReady k zones.numbers
+    ready : IsReadyForPasses k zones.numbers
     ready = is_ready fills m zones more sets s u h x.home flows there by (tunnel_entry_of m.keys x)
 
     may_wait : MayWait m x

@@ -47,8 +47,8 @@ use Rattle.sim_laws.specs.journeys.Filling.{FillingLaw}
 use Rattle.sim_laws.specs.journeys.Holding.{HoldsNetwork}
 use Rattle.sim_laws.specs.journeys.InState.{chassis_at, zones_on}
 use Rattle.sim_laws.specs.journeys.Moves.{journey_in}
-use Rattle.sim_laws.specs.journeys.Premises.{IsReady}
-use Rattle.sim_laws.specs.journeys.Refining.{AreStraight, HasVirtualPorts, IsEntry, EntryJourneyLaw}
+use Rattle.sim_laws.specs.journeys.Premises.{IsReadyForPasses}
+use Rattle.sim_laws.specs.journeys.Refining.{AreStraight, HasVirtualPorts, IsPortEntry, EntryJourneyLaw}
 use Rattle.sim_laws.specs.journeys.UnderWay.{IsUnderWay}
 use Rattle.sim_laws.specs.routers.Visits.{RoutedVisitLaw}
 use Rattle.sim_laws.specs.Sound.{MayWait}
@@ -65,7 +65,7 @@ scene_there m chassis is =
 module _ (fills : FillingLaw) (visits : RoutedVisitLaw) (whole_walk : WholeWalkLaw) (m : State) (zones : Zoned) (sets : Sets) (more : ℕ) (s new : sim.SimState) (by : Choosing) (before after : SimOut) (u : IsUnderWay m zones more) (h : HoldsNetwork m zones.numbers sets s)
     (i : SwitchPort) (there : at m.config.net.switch_ports i.name ≡ Some i) (packet : Packet) (whole : IsWhole packet) where
   abbrev Entry : Type 0
-  Entry = IsEntry m zones sets more i.name packet before after new
+  Entry = IsPortEntry m zones sets more i.name packet before after new
 
   module _ (chassis : Name) (home : at m.config.bindings i.name ≡ Some chassis) (flows : List Flow) (held : at_name s.chassis chassis ≡ Some flows) (lists left : ZoneLists) (listed : at_name s.zones chassis ≡ Some lists)
       (steps : List Step) (effects : List Effect) (walk : IsWalkBy by flows (Vif i.name) m.clock packet lists steps effects left) (told : IsTold (rezoned s chassis left) chassis (start_of.Port i.name) steps effects before after new) where
@@ -78,7 +78,7 @@ module _ (fills : FillingLaw) (visits : RoutedVisitLaw) (whole_walk : WholeWalkL
     abbrev way : Trail → Trail
     way t = visit scene i t packet
 
-    ready : IsReady k zones.numbers
+    ready : IsReadyForPasses k zones.numbers
     ready = is_ready fills m zones more sets s u h chassis flows held by (Vif i.name)
 
     hold : HoldLists k.number lists m.lists
@@ -154,5 +154,5 @@ enters_so fills visits whole_walk m zones sets more s new by p packet before aft
     let b = bound_of by s new p m.clock packet before after injected in
     let i = found (at m.config.net.switch_ports p) (u.bound.port_there p b.0 (sym (h.bindings p) ∙ b.1)) in
     let named = port_named m.config.net u.valid p i.0 i.1 in
-    subst (λ q. passing.IsInjected by s q m.clock packet before after new → IsEntry m zones sets more q packet before after new) named
+    subst (λ q. passing.IsInjected by s q m.clock packet before after new → IsPortEntry m zones sets more q packet before after new) named
     (enters_at fills visits whole_walk m zones sets more s new by before after u h i.0 (own_place m.config.net u.valid p i.0 i.1) packet whole) injected

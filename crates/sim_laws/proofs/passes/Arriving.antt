@@ -38,7 +38,7 @@ use Rattle.physical_flows.specs.GroupKeys.{group_key}
 use Rattle.physical_flows.specs.Rows.{on_way, entry_row, arrival_row}
 use Rattle.physical_flows.specs.Stages.{IsDatapath, IsPort, PatchPort, IsPatchPort, to_router, of_router, EntryRow, HomeRow, member_of}
 use Rattle.row_laws.proofs.records.ValidPorts.{on_switch, port_named}
-use Rattle.row_laws.specs.Numbers.{IsDatapathKey, StandsFor}
+use Rattle.row_laws.specs.Numbers.{IsDatapathKey, NumberStandsFor}
 use Rattle.switch_engine.specs.Actions.{set_reg, with_header, gone_on}
 use Rattle.switch_engine.specs.Walk.{start, start_regs, unmatched}
 use Rattle.switch_engine.specs.Zones.{ZoneLists}
@@ -195,7 +195,7 @@ module _ (s : Chassis) (laid : IsLaidOut s) (numbers : GivenNumbers) (wired : Is
     on_it : IsDatapathKey s.keys x.datapath.name number_of
     on_it = vni_on s laid owned x may is
 
-    came_in : StandsFor s.keys (roster_of (net_of s)) x.datapath.name (Some x.in_port) entered
+    came_in : NumberStandsFor s.keys (roster_of (net_of s)) x.datapath.name (Some x.in_port) entered
     came_in = came_stands s laid owned x may is
 
     -- ---- it goes to one port
@@ -286,7 +286,7 @@ module _ (s : Chassis) (laid : IsLaidOut s) (numbers : GivenNumbers) (wired : Is
             packet = refl;
             whole = may.whole;
             on = subst (λ (a : Name). IsDatapathKey s.keys a number_of) switch on_it;
-            came_in = subst (λ (a : Name). StandsFor s.keys (roster_of (net_of s)) a (Some x.in_port) entered) switch came_in;
+            came_in = subst (λ (a : Name). NumberStandsFor s.keys (roster_of (net_of s)) a (Some x.in_port) entered) switch came_in;
             to = (live, p.1, refl, sym key);
             within = within;
             hold = hold_them;

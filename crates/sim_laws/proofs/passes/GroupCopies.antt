@@ -43,7 +43,7 @@ use Rattle.physical_flows.specs.Rows.{on_exit, on_way, on_group, remote_row, spr
 use Rattle.physical_flows.specs.Stages.{IsDatapath, IsPort, PatchPort, IsPatchPort, RemoteRow, HomeRow, member_of, members_here, homes_of}
 use Rattle.row_laws.proofs.records.StandsFor.{port_stands}
 use Rattle.row_laws.proofs.records.ValidPorts.{on_switch}
-use Rattle.row_laws.specs.Numbers.{IsDatapathKey, IsPortKey, StandsFor}
+use Rattle.row_laws.specs.Numbers.{IsDatapathKey, IsPortKey, NumberStandsFor}
 use Rattle.switch_engine.specs.Actions.{frame_to, gone_on, copy_for, copies_for}
 use Rattle.switch_engine.specs.Outcome.{picks_in}
 use Rattle.switch_engine.specs.Zones.{ZoneLists}
@@ -127,7 +127,7 @@ module _ (s : Chassis) (laid : IsLaidOut s) (numbers : GivenNumbers) (wired : Is
       by (Some z) is = wired.in_range q.name z is
 
   module _ (arrived : Bool) (copy : Carried) (passed : copy.passes ≡ passes) (packet : copy.packet ≡ p) (whole : IsWhole p) (on : IsDatapathKey s.keys switch copy.regs.dp)
-      (came_in : StandsFor s.keys (roster_of (net_of s)) switch (Some came) copy.regs.in_port) (within : HasRegistersInRange copy.regs) (keep : SwitchPort → Bool) where
+      (came_in : NumberStandsFor s.keys (roster_of (net_of s)) switch (Some came) copy.regs.in_port) (within : HasRegistersInRange copy.regs) (keep : SwitchPort → Bool) where
     -- a port of the switch that is kept where it is at home here and another than that of entry
     pub record IsMember (q : SwitchPort) : Type 0 where
       pub there_is : at (net_of s).switch_ports q.name ≡ Some q
@@ -158,7 +158,7 @@ module _ (s : Chassis) (laid : IsLaidOut s) (numbers : GivenNumbers) (wired : Is
           packet = packet;
           whole = whole;
           on = subst (λ (a : Name). IsDatapathKey s.keys a copy.regs.dp) (sym m.on_it) on;
-          came_in = subst (λ (a : Name). StandsFor s.keys (roster_of (net_of s)) a (Some came) copy.regs.in_port) (sym m.on_it) came_in;
+          came_in = subst (λ (a : Name). NumberStandsFor s.keys (roster_of (net_of s)) a (Some came) copy.regs.in_port) (sym m.on_it) came_in;
           to = key;
           within = aimed_within member.key member.zone copy.regs within (omega (arith, few)) (zone_small q);
           zone = zone_is arrived q at_home;
@@ -334,7 +334,7 @@ module _ (s : Chassis) (laid : IsLaidOut s) (numbers : GivenNumbers) (wired : Is
     abbrev next : Carried
     next = gone_on LOCAL_TABLE copy
 
-    abbrev came_in : StandsFor s.keys (roster_of (net_of s)) i.switch (Some (port_identity i)) copy.regs.in_port
+    abbrev came_in : NumberStandsFor s.keys (roster_of (net_of s)) i.switch (Some (port_identity i)) copy.regs.in_port
     came_in = port_stands (net_of s) s.keys laid.valid (hold s laid) i i_there copy.regs.in_port entered
 
     abbrev key : SwitchPort → ℕ

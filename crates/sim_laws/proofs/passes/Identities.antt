@@ -16,7 +16,7 @@ use Rattle.ovn_base.specs.declared.name.Name.{Name}
 use Rattle.ovn_base.specs.lists.Among.{Among}
 use Rattle.ovn_base.specs.names.ByName.{at}
 use Rattle.row_laws.proofs.records.ValidPorts.{on_switch, port_named}
-use Rattle.row_laws.specs.Numbers.{IsDatapathKey, IsPortKey, StandsFor}
+use Rattle.row_laws.specs.Numbers.{IsDatapathKey, IsPortKey, NumberStandsFor}
 use Rattle.tunnel_keys.proofs.HeldKeys.{found, is_found, on_datapath_key}
 use Rattle.tunnel_keys.specs.Keys.{held_datapath, held_ports}
 use Rattle.tunnel_keys.specs.Same.{same_identity, identity_exact, identity_own}
@@ -110,7 +110,7 @@ module _ (s : Chassis) (laid : IsLaidOut s) (owned : AreOwned s) (x : Crossing) 
 
   -- ---- the port of entry
 
-  pub came_stands : is_switch (net_of s) x.datapath ≡ true → StandsFor s.keys (roster_of (net_of s)) x.datapath.name (Some x.in_port) in_key
+  pub came_stands : is_switch (net_of s) x.datapath ≡ true → NumberStandsFor s.keys (roster_of (net_of s)) x.datapath.name (Some x.in_port) in_key
   came_stands is = record { named = λ q key. named q key; numbered = λ q h. numbered q (at (net_of s).switch_ports q) refl h }
     where
       named : (q : Name) → IsPortKey s.keys x.datapath.name q in_key → is_live_one (Some x.in_port) (option_map port_identity (at (net_of s).switch_ports q)) ≡ true

@@ -30,7 +30,7 @@ use Rattle.physical_flows.proofs.RowFits.{everything_fits, exit_fits, return_fit
 use Rattle.physical_flows.specs.Rows.{on_exit, on_return, return_row, leave_row, output_row, patch_row, no_peer_row}
 use Rattle.physical_flows.specs.Stages.{PatchPort, IsPatchPort, ReturnRow, OutputRow, beyond}
 use Rattle.row_laws.proofs.records.StandsFor.{port_stands}
-use Rattle.row_laws.specs.Numbers.{IsDatapathKey, IsPortKey, StandsFor}
+use Rattle.row_laws.specs.Numbers.{IsDatapathKey, IsPortKey, NumberStandsFor}
 use Rattle.switch_engine.specs.Actions.{set_flag, drop_at, gone_on}
 use Rattle.switch_engine.specs.Zones.{ZoneLists}
 use Rattle.switch_engine.specs.declared.carried.Carried.{Carried}
@@ -50,7 +50,7 @@ use Rattle.sim_laws.specs.passes.ToEnd.{Never, EndsAs}
 use Rattle.sim_laws.specs.pipelines.Egress.{way_out, ComesOut, EgressLaw}
 use Rattle.sim_laws.specs.pipelines.HeldLists.{HoldLists}
 use Rattle.sim_laws.specs.pipelines.Pieces.{ComesTo}
-use Rattle.sim_laws.specs.pipelines.Standing.{Chassis, net_of, course_of, IsLaidOut, no_words, StandsAt}
+use Rattle.sim_laws.specs.pipelines.Standing.{Chassis, net_of, course_of, IsLaidOut, no_words, StandsAtTable}
 use Rattle.sim_laws.specs.pipelines.WalkOn.{Reached, Comes}
 
 -- The copy stands before the table with the numbers of where it came in and of the port by which it would leave, and with the zone of a virtual port.
@@ -59,7 +59,7 @@ pub record IsAtExit (s : Chassis) (came : Identity) (o : SwitchPort) (p : Packet
   pub packet : copy.packet ≡ p
   pub whole : IsWhole p
   pub on : IsDatapathKey s.keys o.switch copy.regs.dp
-  pub came_in : StandsFor s.keys (roster_of (net_of s)) o.switch (Some came) copy.regs.in_port
+  pub came_in : NumberStandsFor s.keys (roster_of (net_of s)) o.switch (Some came) copy.regs.in_port
   pub to : IsPortKey s.keys o.switch o.name copy.regs.out_port
   pub within : HasRegistersInRange copy.regs
   pub zone : is_virtual o ≡ true → s.number (of_port o.name) ≡ Some copy.regs.z_out
@@ -134,7 +134,7 @@ module _ (s : Chassis) (laid : IsLaidOut s) (numbers : GivenNumbers) (wired : Is
         noted_within (record { out_port = copy.regs.out_port; state = 0; verdict = 0; flags = set_flag 4 0 (set_flag 2 0 copy.regs.flags) }) copy.regs h.within (h.within.within reg.OutPort) (omega arith) (omega arith)
 
     -- nothing is found out of it yet
-    stands_40 : StandsAt s Egress (stage_table SwitchTrackOut) (record { port = o; sight = sight_out came o p; words = no_words }) lists zones next
+    stands_40 : StandsAtTable s Egress (stage_table SwitchTrackOut) (record { port = o; sight = sight_out came o p; words = no_words }) lists zones next
     stands_40 = record {
       in_table = refl;
       packet = h.packet;

@@ -32,7 +32,7 @@ use Rattle.physical_flows.specs.Homes.{is_reached_at}
 use Rattle.physical_flows.specs.Rows.{remote_row, spread_row, stay_row, home_row, pass_row, enter_row, copies_row}
 use Rattle.physical_flows.specs.Stages.{IsPort, IsHere, PatchPort, IsPatchPort, to_router, RemoteRow, HomeRow, members_here, homes_of}
 use Rattle.row_laws.proofs.records.ValidPorts.{on_switch}
-use Rattle.row_laws.specs.Numbers.{IsDatapathKey, IsPortKey, StandsFor}
+use Rattle.row_laws.specs.Numbers.{IsDatapathKey, IsPortKey, NumberStandsFor}
 use Rattle.switch_engine.specs.Actions.{drop_at, frame_to, gone_on}
 use Rattle.switch_engine.specs.Walk.{unmatched, stray}
 use Rattle.switch_engine.specs.Zones.{ZoneLists}
@@ -68,7 +68,7 @@ pub record IsFor (s : Chassis) (came : Identity) (o : SwitchPort) (p : Packet) (
   pub packet : copy.packet ≡ p
   pub whole : IsWhole p
   pub on : IsDatapathKey s.keys o.switch copy.regs.dp
-  pub came_in : StandsFor s.keys (roster_of (net_of s)) o.switch (Some came) copy.regs.in_port
+  pub came_in : NumberStandsFor s.keys (roster_of (net_of s)) o.switch (Some came) copy.regs.in_port
   pub to : IsPortKey s.keys o.switch o.name copy.regs.out_port
   pub within : HasRegistersInRange copy.regs
   pub hold : HoldLists s.number zones lists

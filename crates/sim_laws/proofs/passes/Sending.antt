@@ -31,7 +31,7 @@ use Rattle.ovn_base.specs.names.ByName.{at}
 use Rattle.ovn_base.specs.names.SameName.{same_name, bytes_decides}
 use Rattle.row_laws.proofs.records.StandsFor.{port_stands}
 use Rattle.row_laws.proofs.records.SwitchPorts.{enabled_is}
-use Rattle.row_laws.specs.Numbers.{IsDatapathKey, IsPortKey, StandsFor}
+use Rattle.row_laws.specs.Numbers.{IsDatapathKey, IsPortKey, NumberStandsFor}
 use Rattle.row_laws.specs.StageActions.{found_target}
 use Rattle.switch_engine.specs.Zones.{ZoneLists}
 use Rattle.switch_engine.specs.declared.carried.Carried.{Carried}
@@ -205,7 +205,7 @@ module _ (s : Chassis) (laid : IsLaidOut s) (numbers : GivenNumbers) (wired : Is
           packet = h.packet;
           whole = subst IsWhole h.packet h.whole;
           on = subst (λ a. IsDatapathKey s.keys a copy.regs.dp) (sym e.on) h.on;
-          came_in = subst (λ a. StandsFor s.keys (roster_of (net_of s)) a (Some (port_identity i)) copy.regs.in_port) (sym e.on) (port_stands (net_of s) s.keys laid.valid (hold s laid) i i_there copy.regs.in_port h.came);
+          came_in = subst (λ a. NumberStandsFor s.keys (roster_of (net_of s)) a (Some (port_identity i)) copy.regs.in_port) (sym e.on) (port_stands (net_of s) s.keys laid.valid (hold s laid) i i_there copy.regs.in_port h.came);
           to = subst (λ a. IsPortKey s.keys a o.name copy.regs.out_port) (sym e.on) h.to;
           within = h.within;
           hold = h.hold;

@@ -19,7 +19,7 @@ use Rattle.net_model.specs.Trail.{Trail, Lists, End, is_dropped, spot_of, drop_f
 use Rattle.ovn_base.specs.declared.stages.TheConstants.{LOOKUP_TABLE}
 use Rattle.ovn_base.specs.names.ByName.{at}
 use Rattle.row_laws.specs.Copies.{Copy, IsAtPort, IsPortOf, Words, HaveWords}
-use Rattle.row_laws.specs.Numbers.{IsDatapathKey, IsPortKey, HasNumbers, StandsFor}
+use Rattle.row_laws.specs.Numbers.{IsDatapathKey, IsPortKey, HasNumbers, NumberStandsFor}
 use Rattle.switch_engine.specs.Actions.{drop_at}
 use Rattle.switch_engine.specs.Zones.{ZoneLists, zone_number}
 use Rattle.switch_engine.specs.declared.carried.Carried.{Carried}
@@ -31,7 +31,7 @@ use Rattle.sim_laws.specs.Naming.{HasDatapathKey, HasPortKey, IsNumbered}
 use Rattle.sim_laws.specs.Naming.IsNumbered.{drop}
 use Rattle.sim_laws.specs.pipelines.HeldLists.{HoldLists}
 use Rattle.sim_laws.specs.pipelines.Pieces.{Piece, trail_with, goes_on, has_ended, ComesTo}
-use Rattle.sim_laws.specs.pipelines.Standing.{Chassis, net_of, zone_of, StandsAt}
+use Rattle.sim_laws.specs.pipelines.Standing.{Chassis, net_of, zone_of, StandsAtTable}
 
 -- ---- its port
 
@@ -58,7 +58,7 @@ has_datapath_key h = record { live = h.0; has = h.1; number = h.2 }
 pub has_port_key : {keys : Keys} {d q : List ℕ} {n : ℕ} → IsPortKey keys d q n → HasPortKey keys d q n
 has_port_key h = record { live = h.0; has = h.1; on = h.2; number = h.3 }
 
-module _ (s : Chassis) {way : Pipeline} {table : ℕ} {c : Copy} {lists : Lists} {zones : ZoneLists} {copy : Carried} (h : StandsAt s way table c lists zones copy) where
+module _ (s : Chassis) {way : Pipeline} {table : ℕ} {c : Copy} {lists : Lists} {zones : ZoneLists} {copy : Carried} (h : StandsAtTable s way table c lists zones copy) where
   -- ---- a drop
 
   module _ (place : (regs : Regs) → cond (nat_le table LOOKUP_TABLE) regs.in_port regs.out_port ≡ port_reg way regs) (why : Cause) where
@@ -109,10 +109,10 @@ pub same_zone : (way : Pipeline) (n : Notes) (regs : Regs) → zone_number (zone
 same_zone Ingress n regs = refl
 same_zone Egress n regs = refl
 
-module _ (s : Chassis) {way : Pipeline} {table : ℕ} {c : Copy} {lists : Lists} {zones : ZoneLists} {copy : Carried} (h : StandsAt s way table c lists zones copy) where
+module _ (s : Chassis) {way : Pipeline} {table : ℕ} {c : Copy} {lists : Lists} {zones : ZoneLists} {copy : Carried} (h : StandsAtTable s way table c lists zones copy) where
   pub stands_on : (n : Notes) → n.out_port ≡ copy.regs.out_port → n.state ≤ 7 → n.verdict ≤ 7 → (w : Words) → HaveWords w (noted_in n copy.regs) → (p : Packet) → IsWhole p
       → (after : Lists) (last : ZoneLists) → HoldLists s.number last after → (next : ℕ) (new : Carried) → new.table ≡ next → new.packet ≡ p → new.regs ≡ noted_in n copy.regs
-      → StandsAt s way next (reworded c p w) after last new
+      → StandsAtTable s way next (reworded c p w) after last new
   stands_on n out state verdict w words p whole after last hold next new in_table packet regs =
       let within = noted_within n copy.regs h.numbers.within (subst (λ (k : ℕ). k ≤ 0xffff) (sym out) (h.numbers.within.within reg.OutPort)) state verdict in
       record {
@@ -127,7 +127,7 @@ module _ (s : Chassis) {way : Pipeline} {table : ℕ} {c : Copy} {lists : Lists}
         numbers = subst (λ (r : Regs). HasNumbers s.keys s.sets (roster_of (net_of s)) c.port.switch r (record c.sight { packet = p })) (sym regs) (record {
           on = h.numbers.on;
           came = h.numbers.came;
-          goes = subst (StandsFor s.keys (roster_of (net_of s)) c.port.switch c.sight.out_port) (sym out) h.numbers.goes;
+          goes = subst (NumberStandsFor s.keys (roster_of (net_of s)) c.port.switch c.sight.out_port) (sym out) h.numbers.goes;
           members = h.numbers.members;
           within = within;
           whole = whole;
@@ -138,6 +138,6 @@ module _ (s : Chassis) {way : Pipeline} {table : ℕ} {c : Copy} {lists : Lists}
 
   -- with the same notes
   pub stands_still : (p : Packet) → IsWhole p → (after : Lists) (last : ZoneLists) → HoldLists s.number last after → (next : ℕ) (new : Carried) → new.table ≡ next → new.packet ≡ p → new.regs ≡ copy.regs
-      → StandsAt s way next (reworded c p c.words) after last new
+      → StandsAtTable s way next (reworded c p c.words) after last new
   stands_still p whole after last hold next new in_table packet regs =
       stands_on (notes_in copy.regs) refl (h.numbers.within.within reg.State) (h.numbers.within.within reg.Verdict) c.words h.at_port.words p whole after last hold next new in_table packet regs

@@ -36,13 +36,13 @@ use Rattle.sim_laws.proofs.pipelines.Registers.{or_one, or_stays, and_zero, and_
 use Rattle.sim_laws.proofs.pipelines.Seeing.{IsSeen}
 use Rattle.sim_laws.specs.pipelines.HeldLists.{IsGoodList}
 use Rattle.sim_laws.specs.pipelines.Pieces.{Piece, ComesTo}
-use Rattle.sim_laws.specs.pipelines.Standing.{Chassis, course_of, zone_of, StandsAt, Remembers, is_noted, IsStill}
+use Rattle.sim_laws.specs.pipelines.Standing.{Chassis, course_of, zone_of, StandsAtTable, Remembers, is_noted, IsStill}
 use Rattle.sim_laws.specs.pipelines.WalkOn.{Reached, Comes}
 use Rattle.sim_laws.specs.routers.TranslatingWords.{Bring}
 
 -- the copy stands before the table, and has noted what it may
 pub record Stands (s : Chassis) (way : Pipeline) (table : ℕ) (first : Carried) (c : Copy) (lists : Lists) (zones : ZoneLists) (copy : Carried) : Type 0 where
-  pub stands : StandsAt s way table c lists zones copy
+  pub stands : StandsAtTable s way table c lists zones copy
   pub still : IsStill is_noted first copy
 
 -- and remembers what its port's list says of its packet
@@ -55,7 +55,7 @@ pub record IsOwnZone (zones : ZoneLists) (lists : Lists) (owner : ListOwner) (z 
   pub held : zone_at zones z ≡ Some (list_of lists owner)
   pub good : IsGoodList (list_of lists owner)
 
-pub own_zone : (s : Chassis) {way : Pipeline} {table : ℕ} {c : Copy} {lists : Lists} {zones : ZoneLists} {copy : Carried} → StandsAt s way table c lists zones copy → is_virtual c.port ≡ true
+pub own_zone : (s : Chassis) {way : Pipeline} {table : ℕ} {c : Copy} {lists : Lists} {zones : ZoneLists} {copy : Carried} → StandsAtTable s way table c lists zones copy → is_virtual c.port ≡ true
     → IsOwnZone zones lists (of_port c.port.name) (zone_number (zone_of way) copy.regs)
 own_zone s {way = way} {c = c} {lists = lists} {copy = copy} h virtual =
     let e = h.hold (of_port c.port.name) (zone_number (zone_of way) copy.regs) (h.zone virtual) in

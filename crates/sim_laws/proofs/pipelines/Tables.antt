@@ -16,7 +16,7 @@ use Rattle.switch_engine.specs.Zones.{ZoneLists}
 use Rattle.switch_engine.specs.declared.carried.Carried.{Carried}
 use Rattle.switch_engine.specs.declared.effect.Effect.{Effect}
 use Rattle.sim_laws.proofs.pipelines.WalkOn.{comes_step}
-use Rattle.sim_laws.specs.pipelines.Standing.{Chassis, net_of, course_of, IsLaidOut, StandsAt}
+use Rattle.sim_laws.specs.pipelines.Standing.{Chassis, net_of, course_of, IsLaidOut, StandsAtTable}
 use Rattle.sim_laws.specs.pipelines.WalkOn.{Reached, Comes}
 use Rattle.sim_laws.specs.routers.TranslatingWords.{Bring}
 
@@ -27,7 +27,7 @@ DoesOps s ops zones copy So =
     → So told (outcome s.entry s.scene.now ops (choosing copy zones told)).zones (going_on (outcome s.entry s.scene.now ops (choosing copy zones told)))
 
 module _ (s : Chassis) (laid : IsLaidOut s) (stage : Stage) (law : TableLaw stage) (rows : HoldsRows (net_of s) s.keys s.sets s.flows (stage_table stage)) where
-  pub table_step : (c : Copy) (lists : Lists) (zones : ZoneLists) (copy : Carried) → StandsAt s (stage_pipeline stage) (stage_table stage) c lists zones copy
+  pub table_step : (c : Copy) (lists : Lists) (zones : ZoneLists) (copy : Carried) → StandsAtTable s (stage_pipeline stage) (stage_table stage) c lists zones copy
       → (So : Reached) → Bring s (actions_at stage (net_of s) c) zones copy So → Comes (course_of s) zones (copy ∷ []) So
   table_step c lists zones copy h So does =
       let here : IsInTable (net_of s) s.keys s.sets s.flows stage c copy.regs = record { valid = laid.valid; holds = rows; numbers = h.numbers; copy = h.at_port } in

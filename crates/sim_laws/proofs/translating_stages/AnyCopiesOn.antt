@@ -16,7 +16,7 @@ use Rattle.net_model.specs.Sights.{is_live_one}
 use Rattle.net_model.specs.Trail.{Lists, spot_in_router}
 use Rattle.ovn_base.specs.declared.stages.TheConstants.{LOOKUP_TABLE}
 use Rattle.row_laws.specs.Copies.{Finding, not_sought, found_new, found_forward, found_reply, found_invalid, finding_code}
-use Rattle.row_laws.specs.Numbers.{IsDatapathKey, IsPortKey, StandsFor, HasNumbers}
+use Rattle.row_laws.specs.Numbers.{IsDatapathKey, IsPortKey, NumberStandsFor, HasNumbers}
 use Rattle.row_laws.specs.routers.RouterCopies.{RouterCopy, RouterWords, HaveRouterWords, IsWayOut, HasWayOut, router_port_identity, router_roster}
 use Rattle.row_laws.specs.routers.TranslatingActions.{IsAskedOf, HasComeTo}
 use Rattle.switch_engine.specs.Actions.{gone_on}
@@ -71,7 +71,7 @@ module _ (s : Chassis) {here : Stage} {table : ℕ} {c : RouterCopy} {lists : Li
   -- where it goes was set
   pub stands_set : (out : Option RouterPort) (p : Packet) (w : RouterWords) (set : WayRegs) (next : Stage) (n : ℕ) (new : Carried)
       → new.table ≡ n → new.packet ≡ p → new.regs ≡ set_in set copy.regs → IsWhole p → HasRegistersInRange (set_in set copy.regs) → HaveRouterWords w (set_in set copy.regs)
-      → HasWayOut (net_of s) (led_on c out p w) out → StandsFor s.keys (router_roster (net_of s)) c.port.router (option_map router_port_identity out) set.out_port
+      → HasWayOut (net_of s) (led_on c out p w) out → NumberStandsFor s.keys (router_roster (net_of s)) c.port.router (option_map router_port_identity out) set.out_port
       → HasComeTo (net_of s) next (led_on c out p w) → StandsInRouter s next n (led_on c out p w) lists zones new
   stands_set out p w set next n new in_table packet regs whole within words way goes passed = record {
     in_table = in_table;
@@ -123,8 +123,8 @@ module _ (s : Chassis) {here : Stage} {table : ℕ} {c : RouterCopy} {lists : Li
           };
           numbers = record {
             on = subst (IsDatapathKey s.keys c.port.router) (sym same_dp) h.numbers.on;
-            came = subst (StandsFor s.keys (router_roster (net_of s)) c.port.router (Some c.sight.in_port)) (sym (still.registers reg.InPort refl)) h.numbers.came;
-            goes = subst (StandsFor s.keys (router_roster (net_of s)) c.port.router c.sight.out_port) (sym (still.registers reg.OutPort refl)) h.numbers.goes;
+            came = subst (NumberStandsFor s.keys (router_roster (net_of s)) c.port.router (Some c.sight.in_port)) (sym (still.registers reg.InPort refl)) h.numbers.came;
+            goes = subst (NumberStandsFor s.keys (router_roster (net_of s)) c.port.router c.sight.out_port) (sym (still.registers reg.OutPort refl)) h.numbers.goes;
             members = h.numbers.members;
             within = sought_within copy new still h.numbers.within (subst (λ (k : ℕ). k ≤ 7) (sym state) (finding_small f));
             whole = whole;

@@ -34,7 +34,7 @@ use Rattle.ovn_base.specs.names.ByName.{at}
 use Rattle.row_laws.proofs.routers.BestWays.{best_way_law}
 use Rattle.row_laws.proofs.routers.RouterNumbers.{router_port_stands}
 use Rattle.row_laws.specs.Copies.{Finding}
-use Rattle.row_laws.specs.Numbers.{StandsFor}
+use Rattle.row_laws.specs.Numbers.{NumberStandsFor}
 use Rattle.row_laws.specs.StageActions.{unless_dropped}
 use Rattle.row_laws.specs.routers.RouterActions.{best_way, route_actions, neighbour_actions}
 use Rattle.row_laws.specs.routers.RouterCopies.{RouterCopy, RouterWords, router_port_identity, router_roster}
@@ -214,7 +214,7 @@ module _ (s : Chassis) (laid : IsLaidOut s) (i : RouterPort) (first : Carried) w
           whole (way_within set copy.regs h.stands.numbers.within (key_small s.keys keys out.router out.name (live_port_key s.keys out.name) key) small)
           (record { own = or_stays copy.regs.flags.0 1 3 refl ∙ h.stands.at_port.words.own; next = is_hop; finding = h.stands.at_port.words.finding })
           (record { there = k.there; on = k.on; is_port = refl })
-          (subst (λ (d : List ℕ). StandsFor s.keys (router_roster net) d (Some (router_port_identity out)) (live_port_key s.keys out.name)) k.on (router_port_stands net s.keys laid.valid keys out k.there (live_port_key s.keys out.name) key))
+          (subst (λ (d : List ℕ). NumberStandsFor s.keys (router_roster net) d (Some (router_port_identity out)) (live_port_key s.keys out.name)) k.on (router_port_stands net s.keys laid.valid keys out k.there (live_port_key s.keys out.name) key))
           (ip4_stays ip4_dec_ttl q h.stands.at_port.passed) in
           let still = still_after first copy next h.still (way_set set copy next refl refl (record { tracked = or_stays copy.regs.flags.0 1 1 refl; blocked = or_stays copy.regs.flags.0 1 2 refl; arrived = or_stays copy.regs.flags.0 1 4 refl })) in
           same_hop (Some w.hop) k.route

@@ -49,7 +49,7 @@ SoundOnLaw =
     → (sets : Sets) (by : Choosing) (flows : List Flow) (entry : Entry) (chassis : Name) → IsSoundOn m zones.numbers (chassis_at m zones.numbers sets by flows entry chassis)
 
 -- the chassis has what the laws of passes ask
-pub record IsReady (s : Chassis) (numbers : GivenNumbers) : Type 0 where
+pub record IsReadyForPasses (s : Chassis) (numbers : GivenNumbers) : Type 0 where
   pub around : IsLaidAround s numbers
   pub owned : AreOwned s
 
@@ -58,4 +58,4 @@ abbrev pub ReadyLaw : Type 0
 ReadyLaw =
     (m : State) (zones : Zoned) (more : ℕ) (sets : Sets) (s : sim.SimState) → IsUnderWay m zones more → HoldsNetwork m zones.numbers sets s
     → (chassis : Name) (flows : List Flow) → at_name s.chassis chassis ≡ Some flows
-    → (by : Choosing) (entry : Entry) → IsReady (chassis_at m zones.numbers sets by flows entry chassis) zones.numbers
+    → (by : Choosing) (entry : Entry) → IsReadyForPasses (chassis_at m zones.numbers sets by flows entry chassis) zones.numbers

@@ -57,7 +57,7 @@ pub record AreStraight (net : Network) (i : SwitchPort) (xs : List Crossing) : T
 
 -- A packet entered at the port, and went on through switches and routers. So many frames were sent, each from the switch in which the packet was; where no
 -- port of the first switch leads to a router, all are sent from the port at which it entered, at most as many as there may be chassis.
-pub record IsEntry (m : State) (zones : Zoned) (sets : Sets) (more : ℕ) (port : Name) (packet : Packet) (before after : SimOut) (new : SimState) : Type 0 where
+pub record IsPortEntry (m : State) (zones : Zoned) (sets : Sets) (more : ℕ) (port : Name) (packet : Packet) (before after : SimOut) (new : SimState) : Type 0 where
   pub sent : ℕ
   pub journey : IsJourney m zones sets (more + sent) (enter_one port packet) before after new
   pub count : length (crossings_in journey.ends) ≡ sent
@@ -86,7 +86,7 @@ EntryJourneyLaw =
     (m : State) (zones : Zoned) (sets : Sets) (more : ℕ) (s new : SimState) (by : Choosing) (port : Name) (packet : Packet) (before after : SimOut)
     → IsUnderWay m zones more → HoldsNetwork m zones.numbers sets s
     → IsWhole packet → IsInjected by s port m.clock packet before after new
-    → IsEntry m zones sets more port packet before after new
+    → IsPortEntry m zones sets more port packet before after new
 
 -- A frame that arrives is its crossing, that arrives, and waits on where it is kept.
 abbrev pub ArrivalJourneyLaw : Type 0

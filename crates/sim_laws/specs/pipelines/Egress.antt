@@ -15,7 +15,7 @@ use Rattle.switch_engine.specs.declared.carried.Carried.{Carried}
 use Rattle.tunnel_keys.specs.declared.owner.Identity.{Identity}
 use Rattle.sim_laws.specs.pipelines.HeldLists.{HoldLists}
 use Rattle.sim_laws.specs.pipelines.Pieces.{Piece, ComesTo}
-use Rattle.sim_laws.specs.pipelines.Standing.{Chassis, course_of, IsLaidOut, no_words, StandsAt, is_noted, IsStill}
+use Rattle.sim_laws.specs.pipelines.Standing.{Chassis, course_of, IsLaidOut, no_words, StandsAtTable, is_noted, IsStill}
 use Rattle.sim_laws.specs.pipelines.WalkOn.{Comes}
 
 -- the packet leaves the switch by the port, which lets it out
@@ -35,5 +35,5 @@ pub record ComesOut (s : Chassis) (first : Carried) (lists : Lists) (p : Packet)
 abbrev pub EgressLaw : Type 0
 EgressLaw =
     (s : Chassis) → IsLaidOut s → (came : Identity) (o : SwitchPort) (p : Packet) (lists : Lists) (zones : ZoneLists) (copy : Carried)
-    → StandsAt s Egress (stage_table SwitchTrackOut) (record { port = o; sight = sight_out came o p; words = no_words }) lists zones copy
+    → StandsAtTable s Egress (stage_table SwitchTrackOut) (record { port = o; sight = sight_out came o p; words = no_words }) lists zones copy
     → Comes (course_of s) zones (copy ∷ []) (ComesTo s (way_out s came o p) lists (ComesOut s copy))

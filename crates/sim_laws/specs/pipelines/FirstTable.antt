@@ -16,7 +16,7 @@ use Rattle.row_laws.specs.Numbers.{IsDatapathKey, IsPortKey}
 use Rattle.switch_engine.specs.Zones.{ZoneLists}
 use Rattle.switch_engine.specs.declared.carried.Carried.{Carried}
 use Rattle.sim_laws.specs.pipelines.HeldLists.{HoldLists}
-use Rattle.sim_laws.specs.pipelines.Standing.{Chassis, net_of, IsLaidOut, no_words, StandsAt}
+use Rattle.sim_laws.specs.pipelines.Standing.{Chassis, net_of, IsLaidOut, no_words, StandsAtTable}
 
 -- the registers name the port of entry, and nothing else yet
 pub record AreFirst (s : Chassis) (i : SwitchPort) (regs : Regs) : Type 0 where
@@ -35,4 +35,4 @@ abbrev pub FirstTableLaw : Type 0
 FirstTableLaw =
     (s : Chassis) → IsLaidOut s → (i : SwitchPort) → at (net_of s).switch_ports i.name ≡ Some i
     → (p : Packet) → IsWhole p → (lists : Lists) (zones : ZoneLists) → HoldLists s.number zones lists → (copy : Carried) → copy.table ≡ ADMIT_TABLE → copy.packet ≡ p → AreFirst s i copy.regs
-    → StandsAt s Ingress ADMIT_TABLE (record { port = i; sight = sight_in i p; words = no_words }) lists zones copy
+    → StandsAtTable s Ingress ADMIT_TABLE (record { port = i; sight = sight_in i p; words = no_words }) lists zones copy

@@ -20,7 +20,7 @@ use Rattle.switch_engine.specs.declared.carried.Carried.{Carried}
 use Rattle.tunnel_keys.specs.Keys.{Keys}
 use Rattle.sim_laws.specs.pipelines.HeldLists.{HoldLists}
 use Rattle.sim_laws.specs.pipelines.Pieces.{Piece, ComesTo}
-use Rattle.sim_laws.specs.pipelines.Standing.{Chassis, course_of, net_of, IsLaidOut, no_words, StandsAt, is_for_target, IsStill}
+use Rattle.sim_laws.specs.pipelines.Standing.{Chassis, course_of, net_of, IsLaidOut, no_words, StandsAtTable, is_for_target, IsStill}
 use Rattle.sim_laws.specs.pipelines.WalkOn.{Comes}
 
 -- ---- what the network says
@@ -74,5 +74,5 @@ pub record GoesTo (s : Chassis) (i : SwitchPort) (first : Carried) (lists : List
 abbrev pub IngressLaw : Type 0
 IngressLaw =
     (s : Chassis) → IsLaidOut s → (i : SwitchPort) (p : Packet) (lists : Lists) (zones : ZoneLists) (copy : Carried)
-    → StandsAt s Ingress ADMIT_TABLE (record { port = i; sight = sight_in i p; words = no_words }) lists zones copy
+    → StandsAtTable s Ingress ADMIT_TABLE (record { port = i; sight = sight_in i p; words = no_words }) lists zones copy
     → Comes (course_of s) zones (copy ∷ []) (ComesTo s (way_in s i p) lists (GoesTo s i copy))

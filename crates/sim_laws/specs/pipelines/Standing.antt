@@ -76,7 +76,7 @@ no_words = record { tracked = false; verdict = default; finding = not_sought; bl
 
 -- The copy stands before the table of a switch's pipeline, with the numbers of its names and words; a virtual port has its zone here, and
 -- the zones hold the lists.
-pub record StandsAt (s : Chassis) (way : Pipeline) (table : ℕ) (c : Copy) (lists : Lists) (zones : ZoneLists) (copy : Carried) : Type 0 where
+pub record StandsAtTable (s : Chassis) (way : Pipeline) (table : ℕ) (c : Copy) (lists : Lists) (zones : ZoneLists) (copy : Carried) : Type 0 where
   pub in_table : copy.table ≡ table
   pub packet : copy.packet ≡ c.sight.packet
   pub at_port : IsAtPort (net_of s) way c copy.regs

@@ -22,4 +22,4 @@ decreases-term l = 5 * l.levels
 
 -- the terms so far, and those to come
 abbrev pub invariant-joined-loop-turn : goal.invariant-joined-loop-turn
-invariant-joined-loop-turn l = spec.joined (spec.term l.way l.levels) l.is_and l.fn.first l.fn.cursor ≡ spec.more (spec.term l.way l.levels) l.is_and (l.turn-end - l.turn) l.terms l.cursor
+invariant-joined-loop-turn l = spec.joined_terms (spec.term l.way l.levels) l.is_and l.fn.first l.fn.cursor ≡ spec.more (spec.term l.way l.levels) l.is_and (l.turn-end - l.turn) l.terms l.cursor

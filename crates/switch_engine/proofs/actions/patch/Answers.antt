@@ -9,14 +9,14 @@ use Rattle.switch_engine.specs.declared.carried.Carried.{Carried}
 use Rattle.switch_engine.specs.declared.effect.Effect.{Effect}
 use Rattle.switch_engine.specs.Actions.{drop_at, patched}
 use Rattle.switch_engine.specs.Acts.{turns, drops}
-use Rattle.switch_engine.specs.Advance.{having, Does}
+use Rattle.switch_engine.specs.Advance.{having, ActionDoes}
 use Rattle.switch_engine.specs.Outcome.{patches}
 use Rattle.switch_engine.specs.Zones.{ZoneLists}
 use Rattle.switch_engine.proofs.Doings.{does_drop}
 use Rattle.switch_engine.proofs.actions.patch.Goals as goal
 
 -- it has passed too often
-does_stop : (regs : Regs) (copy : Carried) (zones : ZoneLists) {effects all : List Effect} → nat_lt copy.passes MAX_HOPS ≡ false → all ≡ effects ++ drop_at copy.table HopLimit copy.regs ∷ [] → Does (patches regs) Ends copy copy zones zones effects all []
+does_stop : (regs : Regs) (copy : Carried) (zones : ZoneLists) {effects all : List Effect} → nat_lt copy.passes MAX_HOPS ≡ false → all ≡ effects ++ drop_at copy.table HopLimit copy.regs ∷ [] → ActionDoes (patches regs) Ends copy copy zones zones effects all []
 does_stop regs copy zones stop told =
     does_drop HopLimit told (λ rest. ap (λ b. cond b (turns Leaves (record (having copy zones [] rest) { copy = patched regs copy })) (drops HopLimit (having copy zones [] rest))) stop)
 

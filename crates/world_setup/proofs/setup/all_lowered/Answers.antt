@@ -3,7 +3,7 @@ use Rattle.std.specs.Map.{keys_of}
 use Rattle.std.proofs.lemmas.List.{length-append}
 use Rattle.std.proofs.lemmas.Option.{slice_get_within}
 use Rattle.northd_core.specs.Lowering.{IsLoweredIn}
-use Rattle.northd_core.specs.Plans.{AreListed}
+use Rattle.northd_core.specs.Plans.{ListsEach}
 use Rattle.world_setup.proofs.ListedFlows.{read_all, read_more}
 use Rattle.world_setup.proofs.setup.all_lowered.Goals as goal
 
@@ -23,4 +23,4 @@ pub returns-clause-shown : goal.returns-clause-shown
 returns-clause-shown c = read_all (keys_of c.args.lowered.now.counts) c.flows.flows c.flows.invariant (search rules)
 
 pub returns-clause-listed : goal.returns-clause-listed
-returns-clause-listed c l can have = subst (AreListed (IsLoweredIn l)) (sym (read_all (keys_of c.args.lowered.now.counts) c.flows.flows c.flows.invariant (search rules))) (c.flow.ensures.each l can have)
+returns-clause-listed c l can have = subst (ListsEach (IsLoweredIn l)) (sym (read_all (keys_of c.args.lowered.now.counts) c.flows.flows c.flows.invariant (search rules))) (c.flow.ensures.each l can have)

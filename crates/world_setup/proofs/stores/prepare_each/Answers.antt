@@ -11,7 +11,7 @@ use Rattle.physical_flows.specs.Around.{around_everywhere}
 use Rattle.physical_flows.specs.Compiling.{basis_of}
 use Rattle.physical_flows.specs.declared.unit.FlowUnit.{FlowUnit}
 use Rattle.physical_flows.proofs.UnitLaws.{all_around_alike}
-use Rattle.world_setup.specs.Ground.{basis_in, changed}
+use Rattle.world_setup.specs.Ground.{basis_in, ground_after}
 use Rattle.world_setup.specs.Setup.{ArePatches, IsPatchAt, rows_on}
 use Rattle.world_setup.proofs.FlowStores.{AllLead, all_have, are_patches, has_still, lead_more, names_more, next_among, next_apart, no_patch, patch_made, units_of_rows}
 use Rattle.world_setup.proofs.ListedFlows.{none_first}
@@ -26,7 +26,7 @@ prepare_one-requires-clause-once c =
 
 pub prepare_one-requires-clause-everywhere : goal.prepare_one-requires-clause-everywhere
 prepare_one-requires-clause-everywhere c =
-    let after = changed c.args.change.now c.args.ground.now in
+    let after = ground_after c.args.change.now c.args.ground.now in
     let first = basis_of c.maps.result in
     let this = basis_of c.maps-maps.result in
     let alike : (u : FlowUnit) → around_everywhere first u ≡ around_everywhere this u = λ u.
@@ -45,7 +45,7 @@ returns-in_err-push-clause-kept c name among =
 pub chassis-preserved : goal.chassis-preserved
 chassis-preserved c =
     let before = c.args.ground.now in
-    let after = changed c.args.change.now before in
+    let after = ground_after c.args.change.now before in
     let old = c.chassis.stores.entries in
     let new = c.prepare_one.new.stores.entries in
     let names = before.config.chassis in
@@ -86,7 +86,7 @@ returns-clause-patches c =
     let before = c.args.ground.now in
     let items : c.as_slice-chassis-items.result.now ≡ before.config.chassis = c.as_slice-chassis-items.ensures ∙ ap (λ g. g.config.chassis) c.ground.view_is in
     let all : length before.config.chassis ≤ c.chassis.chassis-index = subst (λ (l : List Name). length l ≤ c.chassis.chassis-index) items c.chassis-test.false in
-    are_patches before (changed c.args.change.now before) c.chassis.stores.entries c.chassis.patches (c.chassis.invariant.chassis ∙ take_all c.chassis.chassis-index before.config.chassis all) c.requires.once
+    are_patches before (ground_after c.args.change.now before) c.chassis.stores.entries c.chassis.patches (c.chassis.invariant.chassis ∙ take_all c.chassis.chassis-index before.config.chassis all) c.requires.once
     (λ name among. has_still before c.args.stores.now.entries c.chassis.stores.entries name (c.chassis.invariant.rows name) (c.requires.stand name among))
     c.chassis.invariant.lead
 
@@ -95,5 +95,5 @@ pub returns-in_default-clause-patches : goal.returns-in_default-clause-patches
 returns-in_default-clause-patches c =
     let before = c.args.ground.now in
     let none : before.config.chassis ≡ [] = ap (λ g. g.config.chassis) (sym c.ground.view_is) ∙ sym c.as_slice.ensures ∙ none_first c.as_slice.result.now c.in_default.ensures.value in
-    subst (ArePatches before (changed c.args.change.now before) c.args.stores.now.entries) (sym c.new-patches.ensures)
-    (are_patches before (changed c.args.change.now before) c.args.stores.now.entries [] (sym none) c.requires.once c.requires.stand tt)
+    subst (ArePatches before (ground_after c.args.change.now before) c.args.stores.now.entries) (sym c.new-patches.ensures)
+    (are_patches before (ground_after c.args.change.now before) c.args.stores.now.entries [] (sym none) c.requires.once c.requires.stand tt)

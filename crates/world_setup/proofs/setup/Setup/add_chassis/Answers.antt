@@ -6,7 +6,7 @@ use Rattle.conn_zones.specs.Zoning.{Zoned}
 use Rattle.edit_reader.specs.declared.event.Event.TheVariants as event_of
 use Rattle.ovn_base.specs.lists.Among.{Among}
 use Rattle.physical_flows.specs.declared.unit.FlowUnit.{FlowUnit}
-use Rattle.world_setup.specs.Ground.{GroundView, changed}
+use Rattle.world_setup.specs.Ground.{GroundView, ground_after}
 use Rattle.world_setup.specs.Setup.{SetupView}
 use Rattle.net_model.specs.State.{State}
 use Rattle.world_setup.specs.Refusing.{refusal}
@@ -97,6 +97,6 @@ returns-clause-turn c =
       patch = c.in_ok-turn.ensures.patch;
       tables = tables_then _ g now turn.patch.change _ c.in_ok-turn.ensures.change turn.sim sim refl refl refl c.in_ok-turn.ensures.turned;
       turned = λ m may.
-          subst (λ ch. IsTurned m g.zones (event_of.AddChassis chassis) turn.effects sim (changed ch g)) (sym c.in_ok-turn.ensures.change)
+          subst (λ ch. IsTurned m g.zones (event_of.AddChassis chassis) turn.effects sim (ground_after ch g)) (sym c.in_ok-turn.ensures.change)
           (chassis_turns g n chassis m may c.in_ok-all.all names (allowed_then m may) later rezoned turn.effects c.in_ok-turn.ensures.bare.effects sim c.in_ok-turn.ensures.bare.bound c.in_ok-turn.ensures.bare.names begun);
     }

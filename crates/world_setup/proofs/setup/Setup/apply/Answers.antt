@@ -2,7 +2,7 @@ use Rattle.std.proofs.Common.{◌≡◌, ◌∙◌, List, sym, subst, ap, rules}
 use Rattle.ovn_base.specs.declared.name.Name.{Name}
 use Rattle.ovn_base.specs.lists.Among.{Among}
 use Rattle.physical_flows.specs.UnitFlows.{UnitStore}
-use Rattle.world_setup.specs.Ground.{GroundView, changed}
+use Rattle.world_setup.specs.Ground.{GroundView, ground_after}
 use Rattle.northd_core.specs.Lowering.{HaveLowered}
 use Rattle.world_setup.specs.Setup.{HasStore, HaveStores, IsSetupPatch, SetupView, StandsForGround, lowering_in}
 use Rattle.world_setup.proofs.FlowStores.{all_ready}
@@ -16,18 +16,18 @@ apply_each-requires-clause-once c = c.requires.patches.once
 pub apply_each-requires-clause-ready : goal.apply_each-requires-clause-ready
 apply_each-requires-clause-ready c =
     let had = subst (λ (s : SetupView). IsSetupPatch s c.args.patch) (sym c.self.view_is) c.requires in
-    all_ready c.self.inside.ground (changed c.args.patch.change c.self.inside.ground) c.self.inside.stores.entries c.args.patch.patches had.patches
+    all_ready c.self.inside.ground (ground_after c.args.patch.change c.self.inside.ground) c.self.inside.stores.entries c.args.patch.patches had.patches
 
 pub apply_lowered-requires : goal.apply_lowered-requires
 apply_lowered-requires c =
     let had = subst (λ (s : SetupView). IsSetupPatch s c.args.patch) (sym c.self.view_is) c.requires in
-    (c.self.inside.ground, changed c.args.patch.change c.self.inside.ground, had.lowered)
+    (c.self.inside.ground, ground_after c.args.patch.change c.self.inside.ground, had.lowered)
 
 pub invariant_of-self : goal.invariant_of-self
 invariant_of-self c =
     let patch = c.args.patch in
     let before = c.self.inside.ground in
-    let after = changed patch.change before in
+    let after = ground_after patch.change before in
     let had = subst (λ (s : SetupView). IsSetupPatch s patch) (sym c.self.view_is) c.requires in
     let stores = c.apply_each.new.stores.entries in
     let olds : (d : Name) → Among d before.config.chassis → HasStore after stores d = c.apply_each.ensures.leads before after had.patches.each in
@@ -36,7 +36,7 @@ invariant_of-self c =
     let there : (all : List (Name × UnitStore)) → now.ground ≡ before → now.lowered ≡ c.apply_lowered.new.lowered → now.stores.entries ≡ all → ((d : Name) → Among d after.config.chassis → HasStore after all d)
     → StandsForGround c.apply.new.self now.lowered now.stores.entries =
     λ all ground low es have.
-    let is : c.apply.new.self ≡ after = c.apply.ensures ∙ ap (changed patch.change) ground in
+    let is : c.apply.new.self ≡ after = c.apply.ensures ∙ ap (ground_after patch.change) ground in
     subst (λ (g : GroundView). StandsForGround g now.lowered now.stores.entries) (sym is)
     (record { lowered = subst (λ l. HaveLowered (lowering_in after) l) (sym low) lowered; stores = subst (λ l. HaveStores after l) (sym es) have }) in
     elim c.match-come.branch [

@@ -6,7 +6,7 @@ use Rattle.conn_zones.specs.declared.change.HomeChange.{HomeChange}
 use Rattle.edit_reader.specs.declared.event.Event.TheVariants as event_of
 use Rattle.ovn_base.specs.declared.name.Name.{Name}
 use Rattle.ovn_base.specs.names.ByName.{at}
-use Rattle.world_setup.specs.Ground.{GroundView, changed}
+use Rattle.world_setup.specs.Ground.{GroundView, ground_after}
 use Rattle.world_setup.specs.Setup.{AreTouched, SetupView, units_of}
 use Rattle.net_model.specs.State.{State}
 use Rattle.std.proofs.lemmas.Result.{err_from_is_err_and}
@@ -65,7 +65,7 @@ prepare-requires-2-clause-compiled c = (readied c).tables_then.compiled
 
 pub prepare-requires-2-clause-touched : goal.prepare-requires-2-clause-touched
 prepare-requires-2-clause-touched c = subst
-    (λ l. AreTouched (ground_with c.self-inside.inside.0.0.records c.self-inside.inside.0.0.chassis c.self-inside.inside.0.0.keys c.prepare.new.self) (changed (record { records = None; chassis = None; keys = None; zones = Some c.in_ok-zones.zones }) (ground_with c.self-inside.inside.0.0.records c.self-inside.inside.0.0.chassis c.self-inside.inside.0.0.keys c.prepare.new.self)) l)
+    (λ l. AreTouched (ground_with c.self-inside.inside.0.0.records c.self-inside.inside.0.0.chassis c.self-inside.inside.0.0.keys c.prepare.new.self) (ground_after (record { records = None; chassis = None; keys = None; zones = Some c.in_ok-zones.zones }) (ground_with c.self-inside.inside.0.0.records c.self-inside.inside.0.0.chassis c.self-inside.inside.0.0.keys c.prepare.new.self)) l)
     (sym (touched_are c)) (readied c).touched_alone
 
 -- who is at home has a number
@@ -118,6 +118,6 @@ returns-clause-turn c =
       patch = c.in_ok-turn.ensures.patch;
       tables = tables_then _ g (ap (λ (z : Zoned). ground_with c.self-inside.inside.0.0.records c.self-inside.inside.0.0.chassis c.self-inside.inside.0.0.keys z) c.prepare.ensures.kept ∙ start) turn.patch.change _ c.in_ok-turn.ensures.change turn.sim sim refl refl refl c.in_ok-turn.ensures.turned;
       turned = λ m may.
-          subst (λ ch. IsTurned m g.zones (event_of.Bind p chassis) turn.effects sim (changed ch g)) (sym c.in_ok-turn.ensures.change)
+          subst (λ ch. IsTurned m g.zones (event_of.Bind p chassis) turn.effects sim (ground_after ch g)) (sym c.in_ok-turn.ensures.change)
           (binding_turns g c.args.number p chassis m may (allowed m may) zones rezoned c.in-Some.zone numbered turn.effects c.in_ok-turn.ensures.bare.effects sim bound c.in_ok-turn.ensures.bare.names emptied);
     }

@@ -3,7 +3,7 @@ use Rattle.std.proofs.lemmas.Result.{err_from_is_err_and}
 use Rattle.edit_reader.specs.declared.event.Event.TheVariants as event_of
 use Rattle.event_lines.specs.declared.refusal.Refusal.TheVariants as why
 use Rattle.nb_edits.specs.OpFaults.{fault_of}
-use Rattle.nb_edits.specs.Plans.{StandsFor}
+use Rattle.nb_edits.specs.Plans.{IsPlanBetween}
 use Rattle.nb_records.specs.Editing.{accepted}
 use Rattle.net_model.specs.State.{State}
 use Rattle.northd_core.specs.Lowering.{IsLoweredPlan}
@@ -27,7 +27,7 @@ keys_for-requires bounds c =
     let start = ap (λ (i : Inside). i.ground) c.self-inside.view_is ∙ ap (λ (s : SetupView). s.ground) c.self.view_is in
     record {
       fits = keys_fit g n ops c.requires.may.0 c.requires.may.1 plan (sym c.is_built_edit.ensures ∙ c.if-not-is_built_edit.false) (subst (λ (x : GroundView). fault_of x.config.net ops n ≡ None) start c.in_ok-records.ensures.faultless)
-          (subst (λ (x : GroundView). StandsFor x.config.net (accepted x.config.net ops n) plan) start c.in_ok-records.ensures.stands) _ (ap (λ (x : GroundView). x.keys) start);
+          (subst (λ (x : GroundView). IsPlanBetween x.config.net (accepted x.config.net ops n) plan) start c.in_ok-records.ensures.stands) _ (ap (λ (x : GroundView). x.keys) start);
     }
 
 pub returns-in_err-records-clause-refused : goal.returns-in_err-records-clause-refused
@@ -48,7 +48,7 @@ returns-in_err-keys-clause-refused bounds c =
     let plan = c.in_ok-records.records in
     let start = ap (λ (i : Inside). i.ground) c.self-inside.view_is ∙ ap (λ (s : SetupView). s.ground) c.self.view_is in
     let none : fault_of g.config.net ops n ≡ None = subst (λ (x : GroundView). fault_of x.config.net ops n ≡ None) start c.in_ok-records.ensures.faultless in
-    let stands : StandsFor g.config.net (accepted g.config.net ops n) plan = subst (λ (x : GroundView). StandsFor x.config.net (accepted x.config.net ops n) plan) start c.in_ok-records.ensures.stands in
+    let stands : IsPlanBetween g.config.net (accepted g.config.net ops n) plan = subst (λ (x : GroundView). IsPlanBetween x.config.net (accepted x.config.net ops n) plan) start c.in_ok-records.ensures.stands in
     let failed = err_from_is_err_and c.from_residual-in_err-keys.result c.from_residual-in_err-keys.ensures.1 in
     rw failed.1 (λ m may. subst (λ f. Tells f (refusal m (event_of.Edit ops))) (sym failed.2)
     (keys_tell g n ops m may plan (sym c.is_built_edit.ensures ∙ c.if-not-is_built_edit.false) none stands _ (ap (λ (x : GroundView). x.keys) start) c.in_err-keys.field-0.0 c.in_err-keys.ensures.lacks))
@@ -72,7 +72,7 @@ lower-requires-clause-planned bounds c =
     let planned : IsPlannedEdit g n ops plan keys = record {
       built = sym c.is_built_edit.ensures ∙ c.if-not-is_built_edit.false;
       faultless = subst (λ (x : GroundView). fault_of x.config.net ops n ≡ None) start c.in_ok-records.ensures.faultless;
-      stands = subst (λ (x : GroundView). StandsFor x.config.net (accepted x.config.net ops n) plan) start c.in_ok-records.ensures.stands;
+      stands = subst (λ (x : GroundView). IsPlanBetween x.config.net (accepted x.config.net ops n) plan) start c.in_ok-records.ensures.stands;
       after = subst (λ (k : Keys). IsAfter k plan.added plan.removed keys) held c.in_ok-keys.ensures.after;
       enough = subst (λ (k : Keys). HasKeys k plan.added plan.removed) held c.in_ok-keys.ensures.enough;
     } in
@@ -101,7 +101,7 @@ edited-requires-clause-planned bounds c =
     let planned : IsPlannedEdit g n ops plan keys = record {
       built = sym c.is_built_edit.ensures ∙ c.if-not-is_built_edit.false;
       faultless = subst (λ (x : GroundView). fault_of x.config.net ops n ≡ None) start c.in_ok-records.ensures.faultless;
-      stands = subst (λ (x : GroundView). StandsFor x.config.net (accepted x.config.net ops n) plan) start c.in_ok-records.ensures.stands;
+      stands = subst (λ (x : GroundView). IsPlanBetween x.config.net (accepted x.config.net ops n) plan) start c.in_ok-records.ensures.stands;
       after = subst (λ (k : Keys). IsAfter k plan.added plan.removed keys) held c.in_ok-keys.ensures.after;
       enough = subst (λ (k : Keys). HasKeys k plan.added plan.removed) held c.in_ok-keys.ensures.enough;
     } in

@@ -8,7 +8,7 @@ use Rattle.northd_core.specs.Lowering.{IsLoweredPlan, Lowering}
 use Rattle.ovn_base.specs.lists.Among.{Among}
 use Rattle.physical_flows.specs.declared.unit.FlowUnit.{FlowUnit}
 use Rattle.sim_laws.specs.journeys.TurnedZones.{coming_home}
-use Rattle.world_setup.specs.Ground.{GroundView, changed}
+use Rattle.world_setup.specs.Ground.{GroundView, ground_after}
 use Rattle.world_setup.specs.Homecoming.{homes_by}
 use Rattle.world_setup.specs.KeyLines.{key_effects, key_name}
 use Rattle.world_setup.specs.Setup.{SetupView, lowering_in}
@@ -93,6 +93,6 @@ returns-clause-turn c =
       patch = c.in_ok-turn.ensures.patch;
       tables = tables_then _ g now turn.patch.change _ c.in_ok-turn.ensures.change turn.sim sim refl refl refl c.in_ok-turn.ensures.turned;
       turned = λ m may.
-          subst (λ ch. IsTurned m g.zones (event_of.Edit ops) effects sim (changed ch g)) (sym c.in_ok-turn.ensures.change)
+          subst (λ ch. IsTurned m g.zones (event_of.Edit ops) effects sim (ground_after ch g)) (sym c.in_ok-turn.ensures.change)
           (edit_turns g n ops m may plan keys c.requires.planned later rezoned effects told sim c.in_ok-turn.ensures.bare.bound begun named);
     }
