@@ -89,6 +89,19 @@ impl Walk {
     }
 }
 
+// Most walks have no more steps. They are large, and so not moved while a walk grows.
+const USUAL: usize = 16;
+
+// No step, with room for so many, if there is memory for it.
+fn steps_for(alloc: Global, many: usize) -> List<Step>
+    ensures { result ≡ [] }
+{
+    match Vec::with_capacity(alloc, many) {
+        Ok(steps) => List::from_vec(steps),
+        Err(_) => List::new(alloc),
+    }
+}
+
 /// What packets came to.
 #[derive(PartialEq, Eq, Debug, Drop)]
 pub struct RunOut {
@@ -106,7 +119,7 @@ impl RunOut {
     {
         RunOut {
             effects: List::new(alloc),
-            walk: List::new(alloc),
+            walk: steps_for(alloc, USUAL),
         }
     }
 
