@@ -54,8 +54,8 @@ def to_each(entries):
 
 
 def to_one(entries):
-    """Connections from the first ports to one server, which hold these ports."""
-    return [packet(1, first + at, 0) for at in range(entries)]
+    """Connections from the first ports to one server, which hold these ports, and a first one for which a port behind them is picked."""
+    return [*(packet(1, first + at, 0) for at in range(entries)), packet(250, first, 0)]
 
 
 def known(entries, count):
@@ -96,7 +96,7 @@ def measure_all(name, command, entries, count, behind, runs):
     measure(name, command, entries, each, "packets of known connections", known(entries, count), 0, runs)
     measure(name, command, entries, each, "packets of new connections that keep their port", begun(count), 0, runs)
     measure(name, command, entries, each, "packets for which one of the first four ports is picked", picked(count), count, runs)
-    measure(name, command, entries, one, f"packets for which the port behind {entries} of one server is picked", picked_behind(entries, behind), behind, runs)
+    measure(name, command, entries, one, f"packets for which the port behind {entries} of one server is picked", picked_behind(entries, behind), behind + 1, runs)
 
 
 if __name__ == "__main__":
