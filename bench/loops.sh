@@ -4,17 +4,25 @@ top=$(cd "$(dirname "${BASH_SOURCE[0]}")/.." && pwd)
 work=$(mktemp -d)
 trap 'rm -rf "$work"' EXIT
 
-# Makes a program over the crates that are named, in the folder crates/timed. Its main.rt comes on standard input. A name of no crate
-# of the repository is one of the toolchain's.
+# Copies the crate and those on which it stands. A name of no crate of the repository is one of the toolchain's.
+copy_crate() {
+  local crate=$1 below
+  [[ -d $top/crates/$crate && ! -d $work/crates/$crate ]] || return 0
+  cp -r "$top/crates/$crate" "$work/crates"
+  grep "^$crate:" "$top/crates.txt" >>"$work/crates.txt"
+  for below in $(sed -n "s/^$crate://p" "$top/crates.txt"); do
+    copy_crate "$below"
+  done
+}
+
+# Makes a program over the crates that are named, in the folder crates/timed. Its main.rt comes on standard input.
 make_program() {
   local crate folder=$work/crates/timed
   mkdir -p "$folder/src"
   cat >"$folder/src/main.rt"
   cp "$top/HANDLES" "$work"
   for crate in "$@"; do
-    [[ -d $top/crates/$crate ]] || continue
-    cp -r "$top/crates/$crate" "$work/crates"
-    grep "^$crate:" "$top/crates.txt" >>"$work/crates.txt"
+    copy_crate "$crate"
   done
   echo "timed: $*" >>"$work/crates.txt"
 }
