@@ -1,6 +1,7 @@
 //! Lists, and values that hold some.
 
 use ovn_base::boxed::Boxed;
+use ovn_base::counted::Counted;
 use ovn_base::list::{Bytes, List};
 use std::test::Fail;
 
@@ -41,5 +42,17 @@ fn copies_values_with_lists_in_them(rt: HostRuntime) -> Result<(), Fail> {
     let copy = point.copy()?;
     assert!(rt; copy == point);
     assert!(rt; copy.into_inner() == point.into_inner());
+    Ok(())
+}
+
+#[test]
+fn a_shared_value_outlives_its_first_owner(rt: HostRuntime) -> Result<(), Fail> {
+    let y: Bytes = List::from_slice(rt.alloc(), &[1, 2])?;
+    let point = Counted::new(rt.alloc(), Point { x: 1, y })?;
+    let copy = point.share()?;
+    let clone = copy.clone()?;
+    assert!(rt; copy == point);
+    drop(point);
+    assert_eq!(rt; clone.get().y.as_slice(), [1, 2].as_slice());
     Ok(())
 }

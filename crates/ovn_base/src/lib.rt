@@ -3,6 +3,7 @@
 
 pub mod address;
 pub mod boxed;
+pub mod counted;
 pub mod delta;
 pub mod equality;
 pub mod limits;

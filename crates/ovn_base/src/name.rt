@@ -16,11 +16,12 @@ use std::fmt;
 use std::hash::{Hash, Hasher};
 use std::marker::Model;
 
-/// A name of 1 to 64 bytes, each a letter, a digit, `_`, `.`, `:` or `-`. It is kept in place.
+/// A name of 1 to 64 bytes, each a letter, a digit, `_`, `.`, `:` or `-`. It is kept in place. Its length comes first:
+/// names are compared by it and by their first bytes, which then stand side by side.
 #[derive(Clone, Copy)]
 pub struct Name {
-    bytes: [u8; 64],
     len: usize,
+    bytes: [u8; 64],
 }
 
 impl Model for Name {
@@ -72,8 +73,8 @@ impl Name {
     {
         if is_name(text) {
             Some(Name {
-                bytes: padded(text),
                 len: text.len(),
+                bytes: padded(text),
             })
         } else {
             None

@@ -14,7 +14,7 @@ pub record IsPadded (n : Inside) : Type 0 where
 
 -- the array and the length of a name's bytes
 abbrev pub fields_of : List ℕ → Inside
-fields_of xs = record { bytes = xs ++ replicate (64 - length xs) 0; len = length xs }
+fields_of xs = record { len = length xs; bytes = xs ++ replicate (64 - length xs) 0 }
 
 -- the fields of the bytes of a name are the name's
 pub fields_of-take : (n : Inside) → IsPadded n → fields_of (take n.len n.bytes) ≡ n
@@ -22,4 +22,4 @@ fields_of-take n h =
     let same : length (take n.len n.bytes) ≡ n.len = length-take-le n.len n.bytes (omega (arith, h.fits, h.whole)) in
     let filled : take n.len n.bytes ++ replicate (64 - length (take n.len n.bytes)) 0 ≡ n.bytes =
     rw same (rw (← h.zeros) (take-append-drop n.len n.bytes)) in
-    λ i. record { bytes = filled i; len = same i }
+    λ i. record { len = same i; bytes = filled i }
