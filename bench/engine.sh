@@ -19,6 +19,7 @@ use inet_packet::cube::{Bits, Cube};
 use inet_packet::decode::decode;
 use inet_packet::packet::Packet;
 use inet_packet::regs::{At, Reg, RegFlags, Regs};
+use ovn_base::counted::Counted;
 use ovn_base::delta::Delta;
 use ovn_base::list::List;
 use ovn_base::memory::NoMemory;
@@ -61,12 +62,13 @@ fn row<const N: usize>(
     cube: Cube,
     ops: [FlowOp; N],
 ) -> Result<Flow, NoMemory> {
+    let ops = List::from_vec(Vec::from_array(alloc, ops)?);
     Ok(Flow {
         table,
         priority: 100,
         rank: 0,
-        cube,
-        ops: List::from_vec(Vec::from_array(alloc, ops)?),
+        cube: Counted::new(alloc, cube)?,
+        ops: Counted::new(alloc, ops)?,
         cookie: 0,
     })
 }
@@ -111,8 +113,8 @@ fn put(tables: &mut TupleSpace, flow: Flow) -> Result<(), NoMemory>
     requires flow { IsProperFlow flow }
     ensures { IsProper (flows_in tables.new.bunches) }
 {
-    let mut added = List::new(flow.ops.allocator());
-    let mut removed = List::new(flow.ops.allocator());
+    let mut added = List::new(flow.ops.get().allocator());
+    let mut removed = List::new(flow.ops.get().allocator());
     removed.push(flow.copy()?)?;
     added.push(flow)?;
     let delta = Delta { added, removed };

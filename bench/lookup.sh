@@ -11,13 +11,14 @@ make_program ovn_base inet_packet flow_table tuple_space <<'EOF'
 ghost use Rattle.std.specs.Prelude.{◌≡◌, ◌<◌, [], IfOk};
 ghost use Rattle.ovn_base.specs.lists.Once.{EachOnce};
 
-use flow_table::flow::Flow;
+use flow_table::flow::{Flow, FlowOp};
 use flow_table::lookup::Lookup;
 use flow_table::tables::Tables;
 use inet_packet::cube::{Bits, Cube};
 use inet_packet::packet::{Body, Ip4Packet, Packet, Part};
 use inet_packet::regs::{At, RegFlags, Regs};
 use ovn_base::address::{Ip4, Mac};
+use ovn_base::counted::Counted;
 use ovn_base::delta::Delta;
 use ovn_base::list::List;
 use ovn_base::memory::NoMemory;
@@ -147,15 +148,15 @@ fn priority(by: &str, number: u64) -> u16 {
     }
 }
 
-fn flow(alloc: Global, mask: u64, by: &str, number: u64) -> Flow
+fn flow(cube: Counted<Cube>, ops: Counted<List<FlowOp>>, by: &str, number: u64) -> Flow
     ensures { result.cookie ≡ number }
 {
     Flow {
         table: 8,
         priority: priority(by, number),
         rank: 0,
-        cube: cube(mask, number),
-        ops: List::new(alloc),
+        cube,
+        ops,
         cookie: number,
     }
 }
@@ -164,13 +165,15 @@ fn flows(alloc: Global, by: &str) -> Result<List<Flow>, NoMemory>
     ensures { IfOk result (λ flows. EachOnce flows) }
 {
     let masks = masks(alloc)?;
+    let none = Counted::new(alloc, List::new(alloc))?;
     let mut flows = List::new(alloc);
     for number in 0..FLOWS {
         let mask = masks
             .get((number % MASKS) as usize)
             .copied()
             .unwrap_or(0);
-        flows.push(flow(alloc, mask, by, number))?;
+        let cube = Counted::new(alloc, cube(mask, number))?;
+        flows.push(flow(cube, none.share()?, by, number))?;
     }
     Ok(flows)
 }

@@ -1,4 +1,4 @@
-//! Lists of effects and of walks in memory of their own.
+//! Copies of lists of effects and of walks.
 ghost use Rattle.std.specs.Prelude.{◌≡◌, IfOk};
 
 use ovn_base::list::List;
@@ -17,7 +17,7 @@ pub(crate) fn copy_effects(effects: &List<NetEffect>) -> Result<List<NetEffect>,
     Ok(copy)
 }
 
-// Equal walks in memory of their own.
+// Equal walks, which share what their flows match and do.
 pub(crate) fn copy_walks(walks: &List<Walk>) -> Result<List<Walk>, NoMemory>
     ensures { IfOk result (λ w. w ≡ walks.now) }
 {

@@ -30,7 +30,7 @@ impl SimOut {
         }
     }
 
-    /// Equal effects and walks in memory of their own.
+    /// Equal effects in memory of their own, and equal walks.
     pub fn copy(&self) -> Result<Self, NoMemory>
         ensures { IfOk result (λ o. o ≡ self.now) }
     {

@@ -108,7 +108,7 @@ fn is_effect_copied(alloc: Global, p1: Name) -> Result<bool, NoMemory> {
     Ok(lost.copy()? == lost)
 }
 
-// A walk, a run and an effect have copies in memory of their own.
+// A walk, a run and an effect have copies.
 #[test]
 fn copies(rt: HostRuntime) -> Result<(), Fail> {
     let p1 = name("p1")?;

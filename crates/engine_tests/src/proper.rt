@@ -64,5 +64,5 @@ fn all_rise(table: u8, ops: &[FlowOp]) -> bool
 pub fn is_proper(flow: &Flow) -> bool
     ensures { IsTrue result → IsProperFlow flow.now }
 {
-    all_rise(flow.table, flow.ops.as_slice())
+    all_rise(flow.table, flow.ops.get().as_slice())
 }

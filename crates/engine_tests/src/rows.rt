@@ -7,6 +7,7 @@ use flow_table::flow::{Flow, FlowOp};
 use flow_table::lookup::Lookup;
 use flow_table::tables::Tables;
 use inet_packet::cube::Cube;
+use ovn_base::counted::Counted;
 use ovn_base::delta::Delta;
 use ovn_base::list::List;
 use ovn_base::memory::NoMemory;
@@ -19,12 +20,13 @@ pub fn row<const N: usize>(
     cube: Cube,
     ops: [FlowOp; N],
 ) -> Result<Flow, NoMemory> {
+    let ops = List::from_vec(Vec::from_array(alloc, ops)?);
     Ok(Flow {
         table,
         priority: 100,
         rank: 0,
-        cube,
-        ops: List::from_vec(Vec::from_array(alloc, ops)?),
+        cube: Counted::new(alloc, cube)?,
+        ops: Counted::new(alloc, ops)?,
         cookie: 0,
     })
 }
@@ -35,8 +37,8 @@ fn put(tables: &mut Tables, flow: Flow) -> Result<(), NoMemory>
     requires flow { IsProperFlow flow }
     ensures { IsProper tables.new.flows }
 {
-    let mut added = List::new(flow.ops.allocator());
-    let mut removed = List::new(flow.ops.allocator());
+    let mut added = List::new(flow.ops.get().allocator());
+    let mut removed = List::new(flow.ops.get().allocator());
     removed.push(flow.copy()?)?;
     added.push(flow)?;
     let delta = Delta { added, removed };

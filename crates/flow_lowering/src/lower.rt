@@ -12,7 +12,6 @@ ghost use Rattle.flow_lowering.specs.LoweredFlows as spec;
 ghost use Rattle.flow_lowering.specs.Registers.{dp_is, met_with_all};
 
 use crate::registers::met_on;
-use flow_table::exact::exact_op_clone;
 use flow_table::flow::{Flow, FlowOp};
 use inet_packet::cube::Cube;
 use inet_packet::regs::{At, Reg};
@@ -22,6 +21,7 @@ use match_cubes::cubes::cubes;
 use match_cubes::fault::CubeFault;
 use match_cubes::sets::Sets;
 use match_language::expr::Expr;
+use ovn_base::counted::Counted;
 use ovn_base::list::List;
 use ovn_base::memory::NoMemory;
 use ovn_base::name::Name;
@@ -126,16 +126,21 @@ fn narrow_cubes(
 }
 
 // The flow on the packets of the cube, with these operations.
-fn flow_on(flow: &LFlow, ops: &List<FlowOp>, cube: Cube) -> Result<Flow, NoMemory>
+fn flow_on(
+    alloc: Global,
+    flow: &LFlow,
+    ops: &Counted<List<FlowOp>>,
+    cube: Cube,
+) -> Result<Flow, NoMemory>
     ensures { IfOk result (λ f. f ≡ spec.flow_on flow.now ops.now cube) }
 {
-    exact_op_clone();
+    let _entry: &Option<At> = &cube.at;
     Ok(Flow {
         table: flow.stage.table(),
         priority: flow.priority,
         rank: flow.rank,
-        cube,
-        ops: ops.copy()?,
+        cube: Counted::new(alloc, cube)?,
+        ops: ops.share()?,
         cookie: 0,
     })
 }
@@ -144,7 +149,7 @@ fn flow_on(flow: &LFlow, ops: &List<FlowOp>, cube: Cube) -> Result<Flow, NoMemor
 fn flows_on(
     alloc: Global,
     flow: &LFlow,
-    ops: &List<FlowOp>,
+    ops: &Counted<List<FlowOp>>,
     key: u32,
     cubes: &[Cube],
 ) -> Result<List<Flow>, NoMemory>
@@ -154,7 +159,7 @@ fn flows_on(
     for cube in cubes {
         if let Some(met) = met_on(cube, key, flow.regs.as_slice()) {
             let _entry: &Option<At> = &met.at;
-            flows.push(flow_on(flow, ops, met)?)?;
+            flows.push(flow_on(alloc, flow, ops, met)?)?;
         }
     }
     Ok(flows)
@@ -177,7 +182,7 @@ fn lowered_flows(
         unreachable!()
     };
     let cubes = narrow_cubes(alloc, &flow.matching, sets, ports)?;
-    let ops = lowered_ops(alloc, keys, flow.actions.as_slice())?;
+    let ops = Counted::new(alloc, lowered_ops(alloc, keys, flow.actions.as_slice())?)?;
     flows_on(alloc, flow, &ops, key, cubes.as_slice())
 }
 

@@ -76,10 +76,7 @@ pub fn exact_flow()
 /// A clone of a flow is that flow.
 pub fn exact_flow_clone()
     ensures { (a b : Flow) → ⟦<Flow as Clone>⟧.is_clone a b → b ≡ a }
-{
-    exact_op_clone();
-    exact_list_clone::<FlowOp>();
-}
+{}
 
 impl FlowOp {
     /// An equal operation in memory of its own.
@@ -93,7 +90,7 @@ impl FlowOp {
 }
 
 impl Flow {
-    /// An equal flow in memory of its own.
+    /// The same flow, which shares what it matches and what it does.
     pub fn copy(&self) -> Result<Flow, NoMemory>
         ensures { IfOk result (λ f. f ≡ self.now) }
     {

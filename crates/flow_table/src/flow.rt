@@ -4,6 +4,7 @@ ghost use Rattle.flow_table.specs.Causes.{cause_name};
 use inet_packet::cube::Cube;
 use inet_packet::regs::Reg;
 use ovn_base::address::{Backend, Ip4, Mac};
+use ovn_base::counted::Counted;
 use ovn_base::list::List;
 use ovn_base::name::Name;
 
@@ -199,7 +200,7 @@ pub enum FlowOp {
     },
 }
 
-/// A row of a table: what it matches, and what it does.
+/// A row of a table: what it matches, and what it does. Both are shared by all copies of it, on whatever chassis.
 #[derive(PartialEq, Eq, Hash, Clone, Debug, Drop)]
 pub struct Flow {
     pub table: u8,
@@ -207,7 +208,7 @@ pub struct Flow {
     pub priority: u16,
     /// Of those, one of the greatest rank.
     pub rank: u8,
-    pub cube: Cube,
-    pub ops: List<FlowOp>,
+    pub cube: Counted<Cube>,
+    pub ops: Counted<List<FlowOp>>,
     pub cookie: u64,
 }

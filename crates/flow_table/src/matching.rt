@@ -10,7 +10,7 @@ use inet_packet::regs::Regs;
 pub fn matches(flow: &Flow, table: u8, regs: &Regs, packet: &Packet) -> bool
     ensures { IsTrue result ↔ Matches flow.now table regs.now packet.now }
 {
-    flow.table == table && flow.cube.fits(regs, packet)
+    flow.table == table && flow.cube.get().fits(regs, packet)
 }
 
 /// Whether the first flow comes before the second: by a greater priority, or by a greater rank at an equal one.

@@ -6,6 +6,7 @@ use inet_packet::cube::{Bits, Cube};
 use inet_packet::packet::{Body, Ip4Packet, Packet, Part};
 use inet_packet::regs::{At, RegFlags, Regs};
 use ovn_base::address::{Ip4, Mac};
+use ovn_base::counted::Counted;
 use ovn_base::delta::Delta;
 use ovn_base::list::List;
 use ovn_base::memory::NoMemory;
@@ -62,15 +63,17 @@ fn cube(asks: u32, wants: u32) -> Cube {
 }
 
 /// The flow of the row.
-pub fn flow(alloc: Global, row: &Row) -> Flow {
-    Flow {
+pub fn flow(alloc: Global, row: &Row) -> Result<Flow, NoMemory> {
+    let cube = cube(row.asks, row.wants);
+    let _entry: &Option<At> = &cube.at;
+    Ok(Flow {
         table: row.table,
         priority: row.priority,
         rank: row.rank,
-        cube: cube(row.asks, row.wants),
-        ops: List::new(alloc),
+        cube: Counted::new(alloc, cube)?,
+        ops: Counted::new(alloc, List::new(alloc))?,
         cookie: 0,
-    }
+    })
 }
 
 // Registers with the number in all fields that flows ask for.
@@ -123,7 +126,7 @@ pub fn packet(alloc: Global, number: u8) -> Packet {
 pub fn change<T: Lookup>(held: &mut T, comes: Flow, goes: List<Flow>) -> Result<(), NoMemory> {
     let mut removed = goes;
     removed.push(comes.copy()?)?;
-    let mut added = List::new(comes.ops.allocator());
+    let mut added = List::new(comes.ops.get().allocator());
     added.push(comes)?;
     let delta = Delta { added, removed };
     held.prepare(&delta)?;
@@ -133,7 +136,7 @@ pub fn change<T: Lookup>(held: &mut T, comes: Flow, goes: List<Flow>) -> Result<
 
 /// The flow goes.
 pub fn remove<T: Lookup>(held: &mut T, goes: Flow) -> Result<(), NoMemory> {
-    let alloc = goes.ops.allocator();
+    let alloc = goes.ops.get().allocator();
     let mut removed = List::new(alloc);
     removed.push(goes)?;
     let delta = Delta {

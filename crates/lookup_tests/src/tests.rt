@@ -23,7 +23,7 @@ impl Dice {
     }
 
     // A flow of one of so many masks.
-    fn flow(&mut self, alloc: Global, masks: u32) -> Flow {
+    fn flow(&mut self, alloc: Global, masks: u32) -> Result<Flow, NoMemory> {
         let table = self.table();
         let priority = if self.throw(2) == 0 { 100 } else { 200 };
         let rank = if self.throw(2) == 0 { 0 } else { 1 };
@@ -42,7 +42,7 @@ impl Dice {
     fn flows(&mut self, alloc: Global, masks: u32, many: usize) -> Result<List<Flow>, NoMemory> {
         let mut flows = List::new(alloc);
         for _ in 0..many {
-            flows.push(self.flow(alloc, masks))?;
+            flows.push(self.flow(alloc, masks)?)?;
         }
         Ok(flows)
     }
@@ -53,7 +53,7 @@ fn run<T: Lookup>(alloc: Global, held: &mut T, masks: u32, rounds: u32) -> Resul
     let mut dice = Dice(1);
     let mut told: u32 = 0;
     for _ in 0..rounds {
-        let comes = dice.flow(alloc, masks);
+        let comes = dice.flow(alloc, masks)?;
         let goes = dice.flows(alloc, masks, 11)?;
         change(held, comes, goes)?;
         let table = dice.table();
@@ -68,7 +68,7 @@ fn run<T: Lookup>(alloc: Global, held: &mut T, masks: u32, rounds: u32) -> Resul
 }
 
 // A flow of table 8 that asks for the datapath, or for nothing.
-fn asking(alloc: Global, asks: u32, priority: u16, rank: u8) -> Flow {
+fn asking(alloc: Global, asks: u32, priority: u16, rank: u8) -> Result<Flow, NoMemory> {
     let row = Row {
         table: 8,
         priority,
@@ -83,15 +83,15 @@ fn asking(alloc: Global, asks: u32, priority: u16, rank: u8) -> Flow {
 // of the two goes, when the mask's last flow goes, and when the other mask's goes.
 fn falling<T: Lookup>(alloc: Global, held: &mut T) -> Result<[Option<(u16, u8)>; 4], NoMemory> {
     let packet = packet(alloc, 1);
-    change(held, asking(alloc, 1, 200, 0), List::new(alloc))?;
-    change(held, asking(alloc, 1, 200, 1), List::new(alloc))?;
-    change(held, asking(alloc, 0, 50, 0), List::new(alloc))?;
+    change(held, asking(alloc, 1, 200, 0)?, List::new(alloc))?;
+    change(held, asking(alloc, 1, 200, 1)?, List::new(alloc))?;
+    change(held, asking(alloc, 0, 50, 0)?, List::new(alloc))?;
     let best = taken(held, 8, 1, &packet);
-    remove(held, asking(alloc, 1, 200, 1))?;
+    remove(held, asking(alloc, 1, 200, 1)?)?;
     let second = taken(held, 8, 1, &packet);
-    remove(held, asking(alloc, 1, 200, 0))?;
+    remove(held, asking(alloc, 1, 200, 0)?)?;
     let other = taken(held, 8, 1, &packet);
-    remove(held, asking(alloc, 0, 50, 0))?;
+    remove(held, asking(alloc, 0, 50, 0)?)?;
     Ok([best, second, other, taken(held, 8, 1, &packet)])
 }
 

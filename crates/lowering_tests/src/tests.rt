@@ -6,6 +6,7 @@ use inet_packet::cube::{Bits, Cube};
 use inet_packet::decode::decode;
 use inet_packet::regs::{At, Reg, RegFlags, Regs};
 use logical_flows::flow::RegIs;
+use ovn_base::counted::Counted;
 use ovn_base::list::List;
 use ovn_base::memory::NoMemory;
 use ovn_base::steps::Steps;
@@ -125,12 +126,14 @@ fn flow_of_replies(alloc: Global) -> Result<Flow, NoMemory> {
         value: 2,
     })?;
     ops.push(FlowOp::Go(12))?;
+    let cube = cube_of_replies();
+    let _entry: &Option<At> = &cube.at;
     Ok(Flow {
         table: 11,
         priority: 2000,
         rank: 6,
-        cube: cube_of_replies(),
-        ops,
+        cube: Counted::new(alloc, cube)?,
+        ops: Counted::new(alloc, ops)?,
         cookie: 0,
     })
 }

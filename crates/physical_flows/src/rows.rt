@@ -13,6 +13,7 @@ use flow_table::flow::{Cause, Flow, FlowOp, Member};
 use inet_packet::cube::{Bits, Cube};
 use inet_packet::regs::{At, Reg};
 use net_model::crossing::Group;
+use ovn_base::counted::Counted;
 use ovn_base::limits::{FLOOD_KEY, UNKNOWN_KEY};
 use ovn_base::list::List;
 use ovn_base::memory::NoMemory;
@@ -106,6 +107,10 @@ fn push_flow(
 ) -> Result<(), NoMemory>
     ensures { OnOk result (flows.new ≡ flows.old ++ flow_of table priority cube ops ∷ []) }
 {
+    let _entry: &Option<At> = &cube.at;
+    let alloc = flows.allocator();
+    let ops = Counted::new(alloc, ops)?;
+    let cube = Counted::new(alloc, cube)?;
     flows.push(Flow {
         table,
         priority,

@@ -101,7 +101,7 @@ fn advance<T: Lookup>(
     let goes_on = run_ops(
         entry,
         now,
-        flow.ops.as_slice(),
+        flow.ops.get().as_slice(),
         copy,
         zones,
         &mut out.effects,

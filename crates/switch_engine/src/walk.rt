@@ -2,7 +2,6 @@
 ghost use Rattle.std.specs.Prelude.{◌≡◌, ◌++◌, ◌∷◌, [], IfOk, OnOk, OnErr};
 
 use crate::effect::Effect;
-use flow_table::exact::exact_op_clone;
 use flow_table::flow::Flow;
 use ovn_base::list::List;
 use ovn_base::memory::NoMemory;
@@ -17,7 +16,7 @@ pub struct Step {
 }
 
 impl Step {
-    /// An equal step in memory of its own.
+    /// An equal step, which shares what its flow matches and does.
     pub fn copy(&self) -> Result<Self, NoMemory>
         ensures { IfOk result (λ s. s ≡ self.now) }
     {
@@ -28,27 +27,16 @@ impl Step {
     }
 }
 
-// Adds the step that matched the flow in the table. The flow's parts are copied right into the step, which is large.
+// Adds the step that matched the flow in the table.
 pub(crate) fn add_step(table: u8, flow: &Flow, steps: &mut List<Step>) -> Result<(), NoMemory>
     ensures ok { OnOk result (steps.new ≡ steps.old ++ record { table = table; flow = flow.now } ∷ []) }
     ensures err { OnErr result (steps.new ≡ steps.old) }
 {
-    exact_op_clone();
-    let ops = flow.ops.copy()?;
-    steps.push(Step {
-        table,
-        flow: Flow {
-            table: flow.table,
-            priority: flow.priority,
-            rank: flow.rank,
-            cube: flow.cube,
-            ops,
-            cookie: flow.cookie,
-        },
-    })
+    let flow = flow.copy()?;
+    steps.push(Step { table, flow })
 }
 
-// Equal steps in memory of their own.
+// Equal steps, which share what their flows match and do.
 fn copy_steps(steps: &List<Step>) -> Result<List<Step>, NoMemory>
     ensures { IfOk result (λ s. s ≡ steps.now) }
 {
@@ -77,7 +65,7 @@ pub struct Walk {
 }
 
 impl Walk {
-    /// An equal walk in memory of its own.
+    /// An equal walk, whose steps share what their flows match and do.
     pub fn copy(&self) -> Result<Self, NoMemory>
         ensures { IfOk result (λ w. w ≡ self.now) }
     {
@@ -89,7 +77,7 @@ impl Walk {
     }
 }
 
-// Most walks have no more steps. They are large, and so not moved while a walk grows.
+// Most walks have no more steps, and so take memory for them once.
 const USUAL: usize = 16;
 
 // No step, with room for so many, if there is memory for it.
@@ -123,7 +111,7 @@ impl RunOut {
         }
     }
 
-    /// Equal effects and steps in memory of their own.
+    /// Equal effects in memory of their own, and equal steps.
     pub fn copy(&self) -> Result<Self, NoMemory>
         ensures { IfOk result (λ o. o ≡ self.now) }
     {

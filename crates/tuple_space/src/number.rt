@@ -15,10 +15,10 @@ pub fn write_key(masks: &Masks, flow: &Flow, key: &mut Key) -> usize
     ensures number { result ≡ mask_number masks.now (cube_mask flow.now.cube) }
     ensures key { key.new.items ≡ key_in masks.now flow.now }
 {
-    let bits = bits_of(&flow.cube);
+    let bits = bits_of(flow.cube.get());
     let asks = asks_of(&bits);
-    let number = masks.number_of(asks.as_slice(), flow.cube.at.is_some());
-    write_wanted(flow.table, number, &bits, &flow.cube.at, key);
+    let number = masks.number_of(asks.as_slice(), flow.cube.get().at.is_some());
+    write_wanted(flow.table, number, &bits, &flow.cube.get().at, key);
     number
 }
 
@@ -30,8 +30,8 @@ pub fn note_in(sieve: &mut Sieve, masks: &Masks, table: u8, flow: &Flow)
     if flow.table != table {
         return;
     }
-    let bits = bits_of(&flow.cube);
+    let bits = bits_of(flow.cube.get());
     let asks = asks_of(&bits);
-    let number = masks.number_of(asks.as_slice(), flow.cube.at.is_some());
+    let number = masks.number_of(asks.as_slice(), flow.cube.get().at.is_some());
     sieve.note(number, &bits);
 }

@@ -74,11 +74,11 @@ impl TupleSpace {
         ensures stays { (f : Flow) (p r : ℕ) → IsServed self.old.masks self.old.turns f p r → IsServed self.new.masks self.new.turns f p r }
         ensures bunches { self.new.bunches ≡ self.old.bunches }
     {
-        let bits = bits_of(&flow.cube);
+        let bits = bits_of(flow.cube.get());
         let asks = asks_of(&bits);
         let number = self
             .masks
-            .number_for(asks.as_slice(), flow.cube.at.is_some())?;
+            .number_for(asks.as_slice(), flow.cube.get().at.is_some())?;
         self.turns.add(flow.table, number)
     }
 
@@ -149,7 +149,8 @@ impl TupleSpace {
         self.buckets.hold();
         self.turns
             .raise(flow.table, number, flow.priority, flow.rank);
-        self.sieves.note(flow.table, number, &bits_of(&flow.cube));
+        self.sieves
+            .note(flow.table, number, &bits_of(flow.cube.get()));
         self.buckets.put(key.as_slice(), flow);
         self.buckets.hold();
     }

@@ -1,7 +1,7 @@
 use Rattle.std.proofs.Common.{◌≡◌, ◌⊎◌, ◌↔◌, sym, subst, ◌∙◌}
 use mathlib.Core.Logic.{inl, inr}
 use Rattle.ovn_base.specs.lists.Among.{Among}
-use Rattle.tuple_space.specs.Masks.{cube_mask, AllFit}
+use Rattle.tuple_space.specs.Masks.{cube_bits, cube_mask, AllFit}
 use Rattle.tuple_space.specs.Bunches.{flows_in}
 use Rattle.tuple_space.specs.Turns.{HasTurn, turns_of}
 use Rattle.tuple_space.specs.Sieving.{IsLetIn, bit_of}
@@ -24,7 +24,7 @@ invariant_of-self c =
           (record { known = served.known; turn = subst (λ n. HasTurn (turns_of c.raise.new.self c.args.flow.table) n c.args.flow.priority c.args.flow.rank) number c.raise.ensures.has });
       let_through = λ k f m.
           elim ((c.put.ensures.held k f).0 m) [
-            | inl e ↦ subst (λ g. IsLetThrough ms c.note.new.self g) (sym e.1) (λ xs fit. subst (λ n. IsLetIn c.note.new.self c.args.flow.table xs (bit_of n)) number (c.note.ensures.noted xs (subst (λ bs. AllFit bs xs) (sym c.bits_of.ensures) fit)))
+            | inl e ↦ subst (λ g. IsLetThrough ms c.note.new.self g) (sym e.1) (λ xs fit. subst (λ n. IsLetIn c.note.new.self c.args.flow.table xs (bit_of n)) number (c.note.ensures.noted xs (subst (λ bs. AllFit bs xs) (sym c.bits_of.ensures) (subst (λ q. AllFit (cube_bits q) xs) (sym c.get.ensures) fit))))
             | inr a ↦ λ xs fit. c.note.ensures.kept f.table xs (bit_of (mask_number ms (cube_mask f.cube))) (c.self.invariant.let_through k f a xs fit)
           ];
       few = c.self.invariant.few;
