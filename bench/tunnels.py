@@ -61,8 +61,8 @@ def moves(switches, ports, count):
         yield {"bind": {"port": f"s{switch}-p0", "chassis": f"c{(switch + 1 - turn) % chassis}"}}
 
 
-def run(command, setup, traffic):
-    """The seconds that the set-up and the traffic take, by the times at which the last line of each comes, and the lines."""
+def timed(command, setup, traffic, slices):
+    """The seconds that the set-up takes, and each of the slices of the traffic, by the times at which their last lines come, and the lines."""
     with tempfile.TemporaryFile("w+") as events:
         for event in [*setup, *traffic]:
             events.write(json.dumps(event, separators=(",", ":")) + "\n")
@@ -70,18 +70,27 @@ def run(command, setup, traffic):
         events.seek(0)
         start = time.monotonic()
         child = subprocess.Popen(command, stdin=events, stdout=subprocess.PIPE)
-        mark, middle, lines = f"{len(setup)} ok ".encode(), start, []
+        ends = [len(setup) + len(traffic) * at // slices for at in range(slices + 1)]
+        times, lines = [start], []
+        mark = f"{ends[0]} ok ".encode()
         for line in child.stdout:
-            if middle == start and line.startswith(mark):
-                middle = time.monotonic()
+            if line.startswith(mark):
+                times.append(time.monotonic())
+                mark = f"{ends[len(times) - 1]} ok ".encode() if len(times) <= len(ends) else b"no line"
             lines.append(line)
-        end = time.monotonic()
         status = child.wait()
     count = len(setup) + len(traffic)
     last = lines.pop().decode().rstrip()
     if status != 0 or last != f"end events={count} accepted={count} refused=0 waiting=0":
         sys.exit(f"{command}: status {status}, last line {last!r}")
-    return middle - start, end - middle, lines
+    setup_time, *slice_times = (after - before for before, after in zip(times, times[1:]))
+    return setup_time, slice_times, lines
+
+
+def run(command, setup, traffic):
+    """The seconds that the set-up and the traffic take, and the lines."""
+    before, (seconds,), lines = timed(command, setup, traffic, 1)
+    return before, seconds, lines
 
 
 def counts(lines, setup):
@@ -98,14 +107,15 @@ def counts(lines, setup):
     return f"{out} out, {tunnels} tunnels, {drops} drops{flows}"
 
 
-def measure(name, command, switches, ports, count, runs):
-    """The best of the runs over a network and packets through it."""
+def measure(name, command, switches, ports, count, slices):
+    """A network, and packets through it: what all of them take, and those of the quickest slice, in which the machine did the least else."""
     setup, traffic = list(network(switches, ports)), list(packets(switches, ports, count))
-    done = [run(command, setup, traffic) for _ in range(runs)]
-    before, seconds, lines = min(done, key=lambda one: one[1])
+    before, times, lines = timed(command, setup, traffic, slices)
+    whole, least = sum(times) / count * 1e6, min(times) * slices / count * 1e6
     print(f"{name}, {switches} switches of {ports} ports: {len(setup)} events of set-up in {before:.3f} s,", end=" ")
-    print(f"{count} packets in {seconds:.3f} s, {count / seconds:.0f} a second, {seconds / count * 1e6:.1f} us each:", end=" ")
+    print(f"{count} packets in {sum(times):.3f} s, {whole:.1f} us each, {least:.1f} in the quickest of {slices} slices:", end=" ")
     print(counts(lines, len(setup)), flush=True)
+    return least
 
 
 def measure_moves(command, switches, ports, count):
@@ -117,8 +127,9 @@ def measure_moves(command, switches, ports, count):
 program = [*os.environ.get("OVNSIM", os.path.join(top, "ovnsim")).split(), "replay"]
 if __name__ == "__main__":
     subprocess.run(program, stdin=subprocess.DEVNULL, stdout=subprocess.DEVNULL, check=True)
-    measure("ovnsim", program, 8, 16, 20_000, 3)
-    measure("ovnsim", program, 32, 64, 20_000, 1)
+    few = measure("ovnsim", program, 8, 16, 200_000, 20)
+    many = measure("ovnsim", program, 32, 64, 200_000, 20)
+    print(f"a packet of the greater network takes {many / few:.2f} times one of the smaller", flush=True)
     measure_moves(program, 8, 16, 1_000)
     measure_moves(program, 32, 64, 1_000)
     if os.path.exists(model):
