@@ -108,14 +108,16 @@ def counts(lines, setup):
 
 
 def measure(name, command, switches, ports, count, slices):
-    """A network, and packets through it: what all of them take, and those of the quickest slice, in which the machine did the least else."""
+    """A network, and packets through it: microseconds a packet in the quickest slice, in which the machine did the least else, in the
+    first tenth of the slices, in which much is met for the first time, and in all."""
     setup, traffic = list(network(switches, ports)), list(packets(switches, ports, count))
     before, times, lines = timed(command, setup, traffic, slices)
-    whole, least = sum(times) / count * 1e6, min(times) * slices / count * 1e6
+    first = times[: max(1, slices // 10)]
+    took = [sum(some) * slices / len(some) / count * 1e6 for some in ([min(times)], first, times)]
     print(f"{name}, {switches} switches of {ports} ports: {len(setup)} events of set-up in {before:.3f} s,", end=" ")
-    print(f"{count} packets in {sum(times):.3f} s, {whole:.1f} us each, {least:.1f} in the quickest of {slices} slices:", end=" ")
+    print(f"{count} packets in {sum(times):.3f} s, {took[2]:.1f} us each, {took[0]:.1f} in the quickest of {slices} slices:", end=" ")
     print(counts(lines, len(setup)), flush=True)
-    return least
+    return took
 
 
 def measure_moves(command, switches, ports, count):
@@ -127,9 +129,11 @@ def measure_moves(command, switches, ports, count):
 program = [*os.environ.get("OVNSIM", os.path.join(top, "ovnsim")).split(), "replay"]
 if __name__ == "__main__":
     subprocess.run(program, stdin=subprocess.DEVNULL, stdout=subprocess.DEVNULL, check=True)
-    few = measure("ovnsim", program, 8, 16, 200_000, 20)
-    many = measure("ovnsim", program, 32, 64, 200_000, 20)
-    print(f"a packet of the greater network takes {many / few:.2f} times one of the smaller", flush=True)
+    runs = [[measure("ovnsim", program, *size, 200_000, 20) for size in ((8, 16), (32, 64))] for _ in range(3)]
+    for at, which in enumerate(("in the quickest slice", "of the first 20,000", "of all")):
+        few, many = (min(run[size][at] for run in runs) for size in (0, 1))
+        print(f"a packet {which} takes {many:.1f} us in the greater network and {few:.1f} in the smaller,", end=" ")
+        print(f"{many / few:.2f} times as long (the least of {len(runs)} runs each)", flush=True)
     measure_moves(program, 8, 16, 1_000)
     measure_moves(program, 32, 64, 1_000)
     if os.path.exists(model):
