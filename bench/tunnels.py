@@ -3,15 +3,20 @@
 The packets are those of the generated workload: switches, ports, chassis and bindings have its names and addresses, and each
 packet is made from the next word of SplitMix64 of the seed 1. Each port is added by an edit of its own."""
 
+import itertools
 import json
 import os
+import statistics
 import subprocess
 import sys
 import tempfile
+import threading
 import time
 
 top, model = sys.argv[1], sys.argv[2]
 chassis = 4
+# How many switches, and how many ports of each.
+SIZES = (8, 16), (32, 64)
 most = (1 << 64) - 1
 
 
@@ -61,8 +66,60 @@ def moves(switches, ports, count):
         yield {"bind": {"port": f"s{switch}-p0", "chassis": f"c{(switch + 1 - turn) % chassis}"}}
 
 
-def timed(command, setup, traffic, slices):
-    """The seconds that the set-up takes, and each of the slices of the traffic, by the times at which their last lines come, and the lines."""
+class Run:
+    """The program with a network: it takes events when they are given, and tells for how long it computed on them."""
+
+    def __init__(self, command, setup):
+        self.command, self.given, self.lines = command, 0, []
+        self.child = subprocess.Popen(command, stdin=subprocess.PIPE, stdout=subprocess.PIPE, bufsize=0)
+        # All on one processor: others may be slower, by what else their machine does.
+        os.sched_setaffinity(self.child.pid, {max(os.sched_getaffinity(0))})
+        self.rest = b""
+        self.setup_time = self.give(setup)
+        self.setup = self.given
+
+    def computed(self):
+        """The processor time so far, in seconds, without what else the machine did in the meantime."""
+        with open(f"/proc/{self.child.pid}/schedstat") as told:
+            return int(told.read().split()[0]) / 1e9
+
+    def put(self, text):
+        left = memoryview(text)
+        while left:
+            left = left[os.write(self.child.stdin.fileno(), left[: 1 << 16]) :]
+
+    def give(self, events):
+        """The seconds of processor time that the events take, until the last line of the last of them comes."""
+        text = b"".join(json.dumps(event, separators=(",", ":")).encode() + b"\n" for event in events)
+        self.given += len(events)
+        last = f"{self.given} ok ".encode()
+        before = self.computed()
+        writer = threading.Thread(target=self.put, args=(text,))
+        writer.start()
+        while True:
+            piece = os.read(self.child.stdout.fileno(), 1 << 20)
+            if not piece:
+                sys.exit(f"{self.command}: it ended early")
+            *lines, self.rest = (self.rest + piece).split(b"\n")
+            self.lines += lines
+            if lines and lines[-1].startswith(last) and not self.rest:
+                break
+        writer.join()
+        return self.computed() - before
+
+    def end(self):
+        """The lines, behind the last of which the program ends as it should."""
+        self.child.stdin.close()
+        said = (self.rest + self.child.stdout.read()).decode().split("\n")
+        status = self.child.wait()
+        if status != 0 or said != [f"end events={self.given} accepted={self.given} refused=0 waiting=0", ""]:
+            sys.exit(f"{self.command}: status {status}, last lines {said!r}")
+        return self.lines
+
+
+def run(command, setup, traffic):
+    """The seconds that the set-up and the traffic take, by the times at which their last lines come, and the lines: of the program, or of
+    the model, which reads its whole input first."""
     with tempfile.TemporaryFile("w+") as events:
         for event in [*setup, *traffic]:
             events.write(json.dumps(event, separators=(",", ":")) + "\n")
@@ -70,27 +127,17 @@ def timed(command, setup, traffic, slices):
         events.seek(0)
         start = time.monotonic()
         child = subprocess.Popen(command, stdin=events, stdout=subprocess.PIPE)
-        ends = [len(setup) + len(traffic) * at // slices for at in range(slices + 1)]
-        times, lines = [start], []
-        mark = f"{ends[0]} ok ".encode()
+        mark, lines = f"{len(setup)} ok ".encode(), []
         for line in child.stdout:
             if line.startswith(mark):
-                times.append(time.monotonic())
-                mark = f"{ends[len(times) - 1]} ok ".encode() if len(times) <= len(ends) else b"no line"
+                begun = time.monotonic()
             lines.append(line)
-        status = child.wait()
+        status, ended = child.wait(), time.monotonic()
     count = len(setup) + len(traffic)
     last = lines.pop().decode().rstrip()
     if status != 0 or last != f"end events={count} accepted={count} refused=0 waiting=0":
         sys.exit(f"{command}: status {status}, last line {last!r}")
-    setup_time, *slice_times = (after - before for before, after in zip(times, times[1:]))
-    return setup_time, slice_times, lines
-
-
-def run(command, setup, traffic):
-    """The seconds that the set-up and the traffic take, and the lines."""
-    before, (seconds,), lines = timed(command, setup, traffic, 1)
-    return before, seconds, lines
+    return begun - start, ended - begun, lines
 
 
 def counts(lines, setup):
@@ -107,17 +154,37 @@ def counts(lines, setup):
     return f"{out} out, {tunnels} tunnels, {drops} drops{flows}"
 
 
-def measure(name, command, switches, ports, count, slices):
-    """A network, and packets through it: microseconds a packet in the quickest slice, in which the machine did the least else, in the
-    first tenth of the slices, in which much is met for the first time, and in all."""
-    setup, traffic = list(network(switches, ports)), list(packets(switches, ports, count))
-    before, times, lines = timed(command, setup, traffic, slices)
-    first = times[: max(1, slices // 10)]
-    took = [sum(some) * slices / len(some) / count * 1e6 for some in ([min(times)], first, times)]
-    print(f"{name}, {switches} switches of {ports} ports: {len(setup)} events of set-up in {before:.3f} s,", end=" ")
-    print(f"{count} packets in {sum(times):.3f} s, {took[2]:.1f} us each, {took[0]:.1f} in the quickest of {slices} slices:", end=" ")
-    print(counts(lines, len(setup)), flush=True)
-    return took
+def middle(numbers):
+    """The median, and the quartiles around it."""
+    low, median, high = statistics.quantiles(numbers, n=4)
+    return f"{median:.2f} ({low:.2f} to {high:.2f})"
+
+
+def measure(command, slices, each):
+    """Packets through the two networks, slice by slice in turn, so that both meet the machine in the same state."""
+    runs, traffic, took = [], [], []
+    for switches, ports in SIZES:
+        one = Run(command, list(network(switches, ports)))
+        print(f"ovnsim, {switches} switches of {ports} ports: {one.setup} events of set-up in {one.setup_time:.3f} s", flush=True)
+        runs.append(one)
+        traffic.append(packets(switches, ports, (slices + 1) * each))
+    for _ in range(slices + 1):
+        took.append([one.give(list(itertools.islice(source, each))) / each * 1e6 for one, source in zip(runs, traffic)])
+    # In the first slice much is met for the first time.
+    first, *others = took
+    for at, ((switches, ports), one) in enumerate(zip(SIZES, runs)):
+        print(f"{switches} switches of {ports} ports: a packet takes {middle([slice[at] for slice in others])} us,", end=" ")
+        print(f"one of the first {each} {first[at]:.2f} us: {counts(one.end(), one.setup)}", flush=True)
+    print(f"the greater network takes {middle([many / few for few, many in others])} times as long, slice by slice,", end=" ")
+    print(f"{first[1] / first[0]:.2f} times for the first {each} packets", flush=True)
+
+
+def measure_model(command, switches, ports, count):
+    """Packets through the plain model."""
+    setup = list(network(switches, ports))
+    before, seconds, lines = run(command, setup, list(packets(switches, ports, count)))
+    print(f"model, {switches} switches of {ports} ports: {len(setup)} events of set-up in {before:.3f} s,", end=" ")
+    print(f"{count} packets in {seconds:.3f} s, {seconds / count * 1e6:.1f} us each: {counts(lines, len(setup))}", flush=True)
 
 
 def measure_moves(command, switches, ports, count):
@@ -128,13 +195,11 @@ def measure_moves(command, switches, ports, count):
 
 program = [*os.environ.get("OVNSIM", os.path.join(top, "ovnsim")).split(), "replay"]
 if __name__ == "__main__":
-    subprocess.run(program, stdin=subprocess.DEVNULL, stdout=subprocess.DEVNULL, check=True)
-    runs = [[measure("ovnsim", program, *size, 200_000, 20) for size in ((8, 16), (32, 64))] for _ in range(3)]
-    for at, which in enumerate(("in the quickest slice", "of the first 20,000", "of all")):
-        few, many = (min(run[size][at] for run in runs) for size in (0, 1))
-        print(f"a packet {which} takes {many:.1f} us in the greater network and {few:.1f} in the smaller,", end=" ")
-        print(f"{many / few:.2f} times as long (the least of {len(runs)} runs each)", flush=True)
-    measure_moves(program, 8, 16, 1_000)
-    measure_moves(program, 32, 64, 1_000)
+    begun = subprocess.run(program, stdin=subprocess.DEVNULL, stdout=subprocess.DEVNULL, stderr=subprocess.PIPE, check=True)
+    if begun.stderr:
+        sys.exit(f"{begun.stderr.decode()}a program that is compiled anew for each run can't be timed: ./build first")
+    measure(program, 20, 20_000)
+    for size in SIZES:
+        measure_moves(program, *size, 1_000)
     if os.path.exists(model):
-        measure("model", [sys.executable, "-u", model, "replay"], 8, 16, 2_000, 1)
+        measure_model([sys.executable, "-u", model, "replay"], *SIZES[0], 2_000)
