@@ -148,6 +148,13 @@ fn priority(by: &str, number: u64) -> u16 {
     }
 }
 
+// The cube of the flow of this number, which its copies share.
+fn shared_cube(alloc: Global, mask: u64, number: u64) -> Result<Counted<Cube>, NoMemory> {
+    let cube = cube(mask, number);
+    let _entry: &Option<At> = &cube.at;
+    Counted::new(alloc, cube)
+}
+
 fn flow(cube: Counted<Cube>, ops: Counted<List<FlowOp>>, by: &str, number: u64) -> Flow
     ensures { result.cookie ≡ number }
 {
@@ -172,7 +179,7 @@ fn flows(alloc: Global, by: &str) -> Result<List<Flow>, NoMemory>
             .get((number % MASKS) as usize)
             .copied()
             .unwrap_or(0);
-        let cube = Counted::new(alloc, cube(mask, number))?;
+        let cube = shared_cube(alloc, mask, number)?;
         flows.push(flow(cube, none.share()?, by, number))?;
     }
     Ok(flows)
