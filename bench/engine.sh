@@ -13,13 +13,12 @@ ghost use Rattle.switch_engine.specs.Proper.{IsProper, IsProperFlow};
 ghost use Rattle.tuple_space.specs.Bunches.{flows_in};
 
 use engine_tests::proper::is_proper;
-use flow_table::flow::{Flow, FlowOp, ZoneOf};
+use flow_table::flow::{Flow, FlowOp, SharedFlow, ZoneOf};
 use flow_table::lookup::Lookup;
 use inet_packet::cube::{Bits, Cube};
 use inet_packet::decode::decode;
 use inet_packet::packet::Packet;
 use inet_packet::regs::{At, Reg, RegFlags, Regs};
-use ovn_base::counted::Counted;
 use ovn_base::delta::Delta;
 use ovn_base::list::List;
 use ovn_base::memory::NoMemory;
@@ -61,20 +60,12 @@ fn row<const N: usize>(
     table: u8,
     cube: Cube,
     ops: [FlowOp; N],
-) -> Result<Flow, NoMemory> {
-    let ops = List::from_vec(Vec::from_array(alloc, ops)?);
-    Ok(Flow {
-        table,
-        priority: 100,
-        rank: 0,
-        cube: Counted::new(alloc, cube)?,
-        ops: Counted::new(alloc, ops)?,
-        cookie: 0,
-    })
+) -> Result<SharedFlow, NoMemory> {
+    Flow::shared(alloc, table, 100, 0, cube, &ops)
 }
 
 // The flows: each packet is of datapath 1 and tracked in zone 7, and leaves the port behind the last table.
-fn rows(alloc: Global, port: Name) -> Result<Vec<Flow>, NoMemory> {
+fn rows(alloc: Global, port: Name) -> Result<Vec<SharedFlow>, NoMemory> {
     let mut rows = Vec::new(alloc);
     let begin = [
         FlowOp::Set {
@@ -98,24 +89,21 @@ fn rows(alloc: Global, port: Name) -> Result<Vec<Flow>, NoMemory> {
             rows.push(row(alloc, table, of(dp, None), [FlowOp::Go(table + 1)])?)?;
         }
     }
-    rows.push(row(
-        alloc,
-        LAST_TABLE,
-        of(1, None),
-        [FlowOp::Output(port)],
-    )?)?;
+    let leave = FlowOp::output(alloc, port)?;
+    rows.push(row(alloc, LAST_TABLE, of(1, None), [leave])?)?;
     Ok(rows)
 }
 
 // Adds a proper flow.
-fn put(tables: &mut TupleSpace, flow: Flow) -> Result<(), NoMemory>
+fn put(tables: &mut TupleSpace, flow: SharedFlow) -> Result<(), NoMemory>
     requires tables { IsProper (flows_in tables.old.bunches) }
     requires flow { IsProperFlow flow }
     ensures { IsProper (flows_in tables.new.bunches) }
 {
-    let mut added = List::new(flow.ops.get().allocator());
-    let mut removed = List::new(flow.ops.get().allocator());
-    removed.push(flow.copy()?)?;
+    let alloc = flow.get().ops.allocator();
+    let mut added = List::new(alloc);
+    let mut removed = List::new(alloc);
+    removed.push(flow.share()?)?;
     added.push(flow)?;
     let delta = Delta { added, removed };
     tables.prepare(&delta)?;

@@ -11,13 +11,16 @@ make_program ovn_base inet_packet flow_table tuple_space <<'EOF'
 ghost use Rattle.std.specs.Prelude.{◌≡◌, ◌<◌, [], IfOk};
 ghost use Rattle.ovn_base.specs.lists.Once.{EachOnce};
 
-use flow_table::flow::{Flow, FlowOp};
+use flow_table::exact::exact_op_clone;
+use flow_table::few::Few;
+use flow_table::flow::{Flow, SharedFlow};
 use flow_table::lookup::Lookup;
 use flow_table::tables::Tables;
 use inet_packet::cube::{Bits, Cube};
 use inet_packet::packet::{Body, Ip4Packet, Packet, Part};
 use inet_packet::regs::{At, RegFlags, Regs};
 use ovn_base::address::{Ip4, Mac};
+use ovn_base::boxed::Boxed;
 use ovn_base::counted::Counted;
 use ovn_base::delta::Delta;
 use ovn_base::list::List;
@@ -148,39 +151,35 @@ fn priority(by: &str, number: u64) -> u16 {
     }
 }
 
-// The cube of the flow of this number, which its copies share.
-fn shared_cube(alloc: Global, mask: u64, number: u64) -> Result<Counted<Cube>, NoMemory> {
+// The flow of this number, which does nothing.
+fn flow(alloc: Global, mask: u64, by: &str, number: u64) -> Result<SharedFlow, NoMemory>
+    ensures { IfOk result (λ f. f.cookie ≡ number) }
+{
+    exact_op_clone();
     let cube = cube(mask, number);
     let _entry: &Option<At> = &cube.at;
-    Counted::new(alloc, cube)
-}
-
-fn flow(cube: Counted<Cube>, ops: Counted<List<FlowOp>>, by: &str, number: u64) -> Flow
-    ensures { result.cookie ≡ number }
-{
-    Flow {
+    let flow = Flow {
         table: 8,
         priority: priority(by, number),
         rank: 0,
-        cube,
-        ops,
+        cube: Boxed::new(alloc, cube)?,
+        ops: Few::from_slice(alloc, &[])?,
         cookie: number,
-    }
+    };
+    Counted::new(alloc, flow)
 }
 
-fn flows(alloc: Global, by: &str) -> Result<List<Flow>, NoMemory>
+fn flows(alloc: Global, by: &str) -> Result<List<SharedFlow>, NoMemory>
     ensures { IfOk result (λ flows. EachOnce flows) }
 {
     let masks = masks(alloc)?;
-    let none = Counted::new(alloc, List::new(alloc))?;
     let mut flows = List::new(alloc);
     for number in 0..FLOWS {
         let mask = masks
             .get((number % MASKS) as usize)
             .copied()
             .unwrap_or(0);
-        let cube = shared_cube(alloc, mask, number)?;
-        flows.push(flow(cube, none.share()?, by, number))?;
+        flows.push(flow(alloc, mask, by, number)?)?;
     }
     Ok(flows)
 }
@@ -197,7 +196,7 @@ fn packets(alloc: Global, by: &str) -> Result<Vec<(u64, Regs, Packet)>, NoMemory
     Ok(packets)
 }
 
-fn fill<T: Lookup>(held: &mut T, flows: List<Flow>) -> Result<(), NoMemory>
+fn fill<T: Lookup>(held: &mut T, flows: List<SharedFlow>) -> Result<(), NoMemory>
     requires empty { T.flows held.old ≡ [] }
     requires once { EachOnce flows }
 {
@@ -217,7 +216,7 @@ fn found<T: Lookup>(held: &T, packets: &[(u64, Regs, Packet)], rounds: usize) ->
     for round in 0..rounds {
         if let Some((number, regs, packet)) = packets.get(round % PACKETS) {
             if let Some(flow) = held.lookup(8, regs, packet) {
-                if flow.cookie == *number {
+                if flow.get().cookie == *number {
                     seen = seen.wrapping_add(1);
                 }
             }
@@ -275,13 +274,13 @@ use Rattle.timed.proofs.flows.Goals as goal
 
 pub loop-number-preserved : goal.loop-number-preserved
 loop-number-preserved c =
-    let number : c.flow.result.cookie ≡ c.loop-number.number = c.flow.ensures in
-    let pushed : c.push.new.self ≡ c.loop-number.flows ++ c.flow.result ∷ [] = c.in_ok-push.ensures.ok in
+    let number : c.in_ok-flow.field-0.cookie ≡ c.loop-number.number = c.in_ok-flow.ensures in
+    let pushed : c.push.new.self ≡ c.loop-number.flows ++ c.in_ok-flow.field-0 ∷ [] = c.in_ok-push.ensures.ok in
     record {
-      once = subst EachOnce (sym pushed) (once_push c.loop-number.flows c.flow.result c.loop-number.invariant.once (λ m. let below = c.loop-number.invariant.below c.flow.result m in omega (arith, below, number)));
-      below = λ f m. elim (among_append f c.loop-number.flows (c.flow.result ∷ []) (subst (λ l. Among f l) pushed m)) [
+      once = subst EachOnce (sym pushed) (once_push c.loop-number.flows c.in_ok-flow.field-0 c.loop-number.invariant.once (λ m. let below = c.loop-number.invariant.below c.in_ok-flow.field-0 m in omega (arith, below, number)));
+      below = λ f m. elim (among_append f c.loop-number.flows (c.in_ok-flow.field-0 ∷ []) (subst (λ l. Among f l) pushed m)) [
         | inl a ↦ let below = c.loop-number.invariant.below f a in omega (arith, below)
-        | inr b ↦ elim (among_cases f c.flow.result [] b) [ inl e ↦ let same : f.cookie ≡ c.flow.result.cookie = ap (λ (g : Flow). g.cookie) e in omega (arith, same, number) | inr n ↦ absurd (among_none f n) ]
+        | inr b ↦ elim (among_cases f c.in_ok-flow.field-0 [] b) [ inl e ↦ let same : f.cookie ≡ c.in_ok-flow.field-0.cookie = ap (λ (g : Flow). g.cookie) e in omega (arith, same, number) | inr n ↦ absurd (among_none f n) ]
       ];
     }
 EOF

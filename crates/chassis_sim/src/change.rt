@@ -1,6 +1,6 @@
 //! A change of what the chassis hold.
 
-use flow_table::flow::Flow;
+use flow_table::flow::SharedFlow;
 use ovn_base::delta::Delta;
 use ovn_base::list::List;
 use ovn_base::name::Name;
@@ -14,7 +14,7 @@ pub struct SimChange<T> {
     /// The chassis that go, with their zones.
     pub removed: List<Name>,
     /// How the tables of chassis change. No chassis stands twice; one that isn't held has no tables.
-    pub tables: List<(Name, Delta<Flow>)>,
+    pub tables: List<(Name, Delta<SharedFlow>)>,
     /// The zones that are emptied, by chassis and number. One that isn't there comes; on a chassis that isn't held nothing comes of it.
     pub emptied: List<(Name, u16)>,
     /// The ports that are bound to a chassis, or to none.

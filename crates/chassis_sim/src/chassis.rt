@@ -14,7 +14,7 @@ ghost use Rattle.chassis_sim.specs.Tables.{flows_held, zones_held};
 use crate::change::SimChange;
 use crate::names::Names;
 use crate::zones::{ZoneMap, fresh_zones, prepare_zones};
-use flow_table::flow::Flow;
+use flow_table::flow::SharedFlow;
 use flow_table::lookup::Lookup;
 use indexmap::IndexMap;
 use ovn_base::delta::Delta;
@@ -28,7 +28,7 @@ use switch_engine::zones::Zones;
 fn prepare_one<T: Lookup>(
     held: &mut IndexMap<Name, T>,
     name: &Name,
-    delta: &Delta<Flow>,
+    delta: &Delta<SharedFlow>,
 ) -> Result<(), NoMemory>
     requires { IsDeltaOfAny delta.now (at_name (flows_held T.flows held.old.entries) name.now) }
     ensures flows { flows_held T.flows held.new.entries ≡ flows_held T.flows held.old.entries }
@@ -45,7 +45,7 @@ fn prepare_one<T: Lookup>(
 // Makes the tables of chassis ready for their deltas.
 pub(crate) fn prepare_each<T: Lookup>(
     held: &mut IndexMap<Name, T>,
-    deltas: &[(Name, Delta<Flow>)],
+    deltas: &[(Name, Delta<SharedFlow>)],
 ) -> Result<(), NoMemory>
     requires once { EachOnce (keys_of deltas.now) }
     requires deltas { AllAreDeltas (flows_held T.flows held.old.entries) deltas.now }
@@ -82,7 +82,7 @@ pub(crate) fn make_ready<T: Lookup>(
 }
 
 // Changes the tables of the chassis by the delta, if it has any.
-fn replace_one<T: Lookup>(held: &mut IndexMap<Name, T>, name: &Name, delta: Delta<Flow>)
+fn replace_one<T: Lookup>(held: &mut IndexMap<Name, T>, name: &Name, delta: Delta<SharedFlow>)
     requires { IsReadyFor T.ready delta (at_name held.old.entries name.now) }
     ensures replaced { AreReplaced (Some delta) (at_name (flows_held T.flows held.old.entries) name.now) (at_name (flows_held T.flows held.new.entries) name.now) }
     ensures others { (other : Name) → same_name name.now other ≡ false → at_name held.new.entries other ≡ at_name held.old.entries other }
@@ -97,7 +97,7 @@ fn replace_one<T: Lookup>(held: &mut IndexMap<Name, T>, name: &Name, delta: Delt
 // Changes the tables of chassis by their deltas.
 pub(crate) fn replace_each<T: Lookup>(
     held: &mut IndexMap<Name, T>,
-    deltas: List<(Name, Delta<Flow>)>,
+    deltas: List<(Name, Delta<SharedFlow>)>,
 )
     requires once { EachOnce (keys_of deltas) }
     requires ready { AreReady T.ready held.old.entries deltas }

@@ -21,7 +21,7 @@ use crate::out::{SimFault, SimOut};
 use crate::passing::pass;
 use crate::underlay::Underlay;
 use crate::zones::{ZoneMap, empty_each, expire_each};
-use flow_table::flow::Flow;
+use flow_table::flow::SharedFlow;
 use flow_table::lookup::Lookup;
 use indexmap::IndexMap;
 use inet_packet::packet::Packet;
@@ -100,7 +100,7 @@ impl<T: Lookup + Drop> Sim<T> {
 
     /// Each flow of the chassis at exactly one index below their number; `None` past the last, and where no such chassis is
     /// held. No memory is taken.
-    pub fn flow(&self, chassis: &Name, index: usize) -> Option<&Flow>
+    pub fn flow(&self, chassis: &Name, index: usize) -> Option<&SharedFlow>
         ensures flow { option_copied result ≡ flow_at self.now.state chassis.now index }
         ensures once { (flows : List Flow) → at_name self.now.state.chassis chassis.now ≡ Some flows → EachOnce flows }
     {

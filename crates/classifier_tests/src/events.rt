@@ -8,7 +8,7 @@ use edit_reader::event::Event;
 use edit_reader::read::{read_event, read_is_in_grammar};
 use event_lines::lines::{accepted, refused};
 use event_lines::refusal::{Refusal, StepFault};
-use flow_table::flow::Flow;
+use flow_table::flow::SharedFlow;
 use ovn_base::list::List;
 use ovn_base::memory::NoMemory;
 use ovn_base::name::Name;
@@ -170,11 +170,11 @@ pub fn take_line<T: Empty>(
 }
 
 // The flows that the chassis holds.
-fn flows_of(alloc: Global, world: &World, chassis: &Name) -> Result<List<Flow>, NoMemory> {
+fn flows_of(alloc: Global, world: &World, chassis: &Name) -> Result<List<SharedFlow>, NoMemory> {
     let mut flows = List::new(alloc);
     for index in 0..10_000 {
-        match world.chassis_flow(chassis, index) {
-            Some(flow) => flows.push(flow.copy()?)?,
+        match world.simulated_chassis().flow(chassis, index) {
+            Some(flow) => flows.push(flow.share()?)?,
             None => return Ok(flows),
         }
     }

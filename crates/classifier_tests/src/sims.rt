@@ -8,7 +8,7 @@ use chassis_sim::out::{SimFault, SimOut};
 use chassis_sim::sim::Sim;
 use engine_tests::proper::is_proper;
 use flow_table::exact::{exact_flow, exact_flow_clone};
-use flow_table::flow::Flow;
+use flow_table::flow::SharedFlow;
 use flow_table::lookup::Lookup;
 use flow_table::tables::Tables;
 use inet_packet::decode::decode;
@@ -107,18 +107,22 @@ pub fn call<T: Empty>(
 }
 
 // Those of the flows that are none of the others.
-fn beyond(alloc: Global, flows: &[Flow], others: &[Flow]) -> Result<List<Flow>, NoMemory> {
+fn beyond(
+    alloc: Global,
+    flows: &[SharedFlow],
+    others: &[SharedFlow],
+) -> Result<List<SharedFlow>, NoMemory> {
     let mut left = List::new(alloc);
     for flow in flows {
         if !others.contains(flow) {
-            left.push(flow.copy()?)?;
+            left.push(flow.share()?)?;
         }
     }
     Ok(left)
 }
 
 // Adds the flow, if it is proper and isn't there.
-fn keep(kept: &mut List<Flow>, flow: &Flow) -> Result<(), NoMemory>
+fn keep(kept: &mut List<SharedFlow>, flow: &SharedFlow) -> Result<(), NoMemory>
     ensures once { EachOnce kept.old → OnOk result (EachOnce kept.new) }
     ensures proper { IsProper kept.old → OnOk result (IsProper kept.new) }
 {
@@ -126,16 +130,16 @@ fn keep(kept: &mut List<Flow>, flow: &Flow) -> Result<(), NoMemory>
     if !is_proper(flow) || kept.as_slice().contains(flow) {
         return Ok(());
     }
-    kept.push(flow.copy()?)?;
+    kept.push(flow.share()?)?;
     Ok(())
 }
 
 // Those of the flows that are proper, each once.
-fn proper_once(alloc: Global, flows: &List<Flow>) -> Result<List<Flow>, NoMemory>
+fn proper_once(alloc: Global, flows: &List<SharedFlow>) -> Result<List<SharedFlow>, NoMemory>
     ensures once { IfOk result (λ kept. EachOnce kept) }
     ensures proper { IfOk result (λ kept. IsProper kept) }
 {
-    let mut kept: List<Flow> = List::new(alloc);
+    let mut kept: List<SharedFlow> = List::new(alloc);
     'flows: for flow in flows.as_slice() {
         keep(&mut kept, flow)?;
     }
@@ -148,8 +152,8 @@ fn change<T: Empty>(
     alloc: Global,
     sim: &mut Sim<T>,
     chassis: Name,
-    comes: List<Flow>,
-    goes: List<Flow>,
+    comes: List<SharedFlow>,
+    goes: List<SharedFlow>,
 ) -> Result<(), NoMemory>
     requires once { EachOnce comes }
     requires proper { IsProper comes }
@@ -175,11 +179,15 @@ fn change<T: Empty>(
 }
 
 // The flows that the chassis holds.
-fn held_by<T: Empty>(alloc: Global, sim: &Sim<T>, chassis: &Name) -> Result<List<Flow>, NoMemory> {
+fn held_by<T: Empty>(
+    alloc: Global,
+    sim: &Sim<T>,
+    chassis: &Name,
+) -> Result<List<SharedFlow>, NoMemory> {
     let mut flows = List::new(alloc);
     for index in 0..10_000 {
         match sim.flow(chassis, index) {
-            Some(flow) => flows.push(flow.copy()?)?,
+            Some(flow) => flows.push(flow.share()?)?,
             None => return Ok(flows),
         }
     }
@@ -191,7 +199,7 @@ pub fn follow<T: Empty>(
     alloc: Global,
     sim: &mut Sim<T>,
     chassis: Name,
-    wanted: &List<Flow>,
+    wanted: &List<SharedFlow>,
 ) -> Result<(), NoMemory> {
     let held = held_by(alloc, sim, &chassis)?;
     let missing = beyond(alloc, wanted.as_slice(), held.as_slice())?;

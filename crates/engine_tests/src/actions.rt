@@ -46,7 +46,8 @@ fn header_is_read(alloc: Global, tables: &Tables, p1: Name, hv2: Name) -> Result
 fn reads_the_header(rt: HostRuntime) -> Result<(), Fail> {
     let alloc = rt.alloc();
     let (p1, hv2) = (name("p1")?, name("hv2")?);
-    let ops = [set(Reg::Dp, 5), FlowOp::Header, FlowOp::Frame(hv2)];
+    let send = FlowOp::frame(alloc, hv2)?;
+    let ops = [set(Reg::Dp, 5), FlowOp::Header, send];
     let tables = tables(alloc, &[], [row(alloc, 0, all(), ops)])?;
     assert!(rt; header_is_read(alloc, &tables, p1, hv2)?);
     Ok(())
@@ -76,7 +77,8 @@ fn matches_nothing(rt: HostRuntime) -> Result<(), Fail> {
 
 // What comes of a packet that is sent as a frame.
 fn one_frame(alloc: Global, p1: Name) -> Result<RunOut, NoMemory> {
-    let tables = tables(alloc, &[], [row(alloc, 0, all(), [FlowOp::Frame(p1)])])?;
+    let send = FlowOp::frame(alloc, p1)?;
+    let tables = tables(alloc, &[], [row(alloc, 0, all(), [send])])?;
     sent(alloc, &tables, Entry::Vif(p1))
 }
 

@@ -29,7 +29,8 @@ fn tracking(alloc: Global, p1: Name) -> Result<Tables, NoMemory>
     ensures { IfOk result (λ t. IsProper t.flows) }
 {
     let look = [set(Reg::ZIn, 7), FlowOp::Find(ZoneOf::In), FlowOp::Go(1)];
-    let begin = [FlowOp::Commit(ZoneOf::In), FlowOp::Output(p1)];
+    let leave = FlowOp::output(alloc, p1)?;
+    let begin = [FlowOp::Commit(ZoneOf::In), leave];
     let rows = [
         row(alloc, 0, at(At::Local(p1)), look),
         row(alloc, 1, new(), begin),

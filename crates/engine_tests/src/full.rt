@@ -37,12 +37,13 @@ fn asking(alloc: Global, from: u16, to: u16) -> Result<Packet, NoMemory>
 fn committing(alloc: Global, p1: Name) -> Result<Tables, NoMemory>
     ensures { IfOk result (λ t. IsProper t.flows) }
 {
+    let leave = FlowOp::output(alloc, p1)?;
     let begin = [
         set(Reg::Dp, 3),
         set(Reg::InPort, 2),
         set(Reg::ZIn, 7),
         FlowOp::Commit(ZoneOf::In),
-        FlowOp::Output(p1),
+        leave,
     ];
     tables(alloc, &[], [row(alloc, 0, all(), begin)])
 }

@@ -2,9 +2,8 @@
 
 use crate::rows::row;
 use crate::tables::{Comes, at, name, set, shows, to};
-use flow_table::flow::{Flow, FlowOp, Member};
+use flow_table::flow::{FlowOp, Member, SharedFlow};
 use inet_packet::regs::{At, Reg};
-use ovn_base::list::List;
 use ovn_base::memory::NoMemory;
 use ovn_base::name::Name;
 use std::alloc::Global;
@@ -25,14 +24,13 @@ fn framed(chassis: Name, in_key: u16) -> Comes {
 }
 
 // The flow of table 33 that copies what is for the group to these members.
-fn copies(alloc: Global, members: &[Member]) -> Result<Flow, NoMemory> {
-    let members = List::from_slice(alloc, members)?;
-    row(alloc, 33, to(UNKNOWN), [FlowOp::Copies(members)])
+fn copies(alloc: Global, members: &[Member]) -> Result<SharedFlow, NoMemory> {
+    row(alloc, 33, to(UNKNOWN), [FlowOp::copies(alloc, members)?])
 }
 
 // The flow of table 64 that gives what is for the port of the key out of the port.
-fn gives(alloc: Global, key: u16, port: Name) -> Result<Flow, NoMemory> {
-    row(alloc, 64, to(key), [FlowOp::Output(port)])
+fn gives(alloc: Global, key: u16, port: Name) -> Result<SharedFlow, NoMemory> {
+    row(alloc, 64, to(key), [FlowOp::output(alloc, port)?])
 }
 
 // On hv1 the port p1 has the key 1, and p3 with the key 3 takes unknown addresses, as a port of hv2 does: a packet of p1 for an
@@ -43,10 +41,11 @@ fn unknown_group_where_it_is_sent(rt: HostRuntime) -> Result<(), Fail> {
     let (p1, p3, hv2) = (name("p1")?, name("p3")?, name("hv2")?);
     let group = u32::from(UNKNOWN);
     let enter = [set(Reg::Dp, 1), set(Reg::InPort, 1), FlowOp::Go(8)];
+    let send = FlowOp::frame(alloc, hv2)?;
     let rows = [
         row(alloc, 0, at(At::Local(p1)), enter),
         row(alloc, 14, to(0), [set(Reg::OutPort, group), FlowOp::Go(32)]),
-        row(alloc, 32, to(UNKNOWN), [FlowOp::Frame(hv2), FlowOp::Go(33)]),
+        row(alloc, 32, to(UNKNOWN), [send, FlowOp::Go(33)]),
         copies(alloc, &[Member { key: 3, zone: 7 }]),
         gives(alloc, 3, p3),
     ];
@@ -92,11 +91,11 @@ fn unknown_group_where_it_arrives(rt: HostRuntime) -> Result<(), Fail> {
 }
 
 // The flow that gives what is for the port of the key 5 out of it, where its zone is 9.
-fn gives_in_zone(alloc: Global, port: Name) -> Result<Flow, NoMemory> {
+fn gives_in_zone(alloc: Global, port: Name) -> Result<SharedFlow, NoMemory> {
     let mut cube = to(5);
     cube.z_out.value = 9;
     cube.z_out.mask = 0xffff;
-    row(alloc, 64, cube, [FlowOp::Output(port)])
+    row(alloc, 64, cube, [FlowOp::output(alloc, port)?])
 }
 
 // Frames come before the copies, in order. The port p2 with the key 2, at which the packet enters, gets no copy, and the other
@@ -111,12 +110,14 @@ fn copies_for_all_members_but_one(rt: HostRuntime) -> Result<(), Fail> {
         Member { key: 2, zone: 0 },
         Member { key: 5, zone: 9 },
     ];
+    let first = FlowOp::frame(alloc, hv2)?;
+    let second = FlowOp::frame(alloc, hv3)?;
     let enter = [
         set(Reg::Dp, 1),
         set(Reg::InPort, 2),
         set(Reg::OutPort, u32::from(UNKNOWN)),
-        FlowOp::Frame(hv2),
-        FlowOp::Frame(hv3),
+        first,
+        second,
         FlowOp::Go(33),
     ];
     let rows = [
@@ -137,9 +138,9 @@ fn copies_for_all_members_but_one(rt: HostRuntime) -> Result<(), Fail> {
 }
 
 // The flow of table 0 that copies what is for no port to the port of the key 3, and has the packet itself go on.
-fn copies_and_goes(alloc: Global) -> Result<Flow, NoMemory> {
-    let members = List::from_slice(alloc, &[Member { key: 3, zone: 0 }])?;
-    row(alloc, 0, to(0), [FlowOp::Copies(members), FlowOp::Go(40)])
+fn copies_and_goes(alloc: Global) -> Result<SharedFlow, NoMemory> {
+    let copies = FlowOp::copies(alloc, &[Member { key: 3, zone: 0 }])?;
+    row(alloc, 0, to(0), [copies, FlowOp::Go(40)])
 }
 
 // The copy itself goes to its end, at p1, before the one that was made of it for p3 with the key 3.

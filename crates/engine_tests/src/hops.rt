@@ -2,7 +2,7 @@
 
 use crate::rows::row;
 use crate::tables::{all, name, sent, set, tables};
-use flow_table::flow::{Cause, Flow, FlowOp};
+use flow_table::flow::{Cause, FlowOp, SharedFlow};
 use inet_packet::cube::{Bits, Cube};
 use inet_packet::regs::Reg;
 use ovn_base::memory::NoMemory;
@@ -22,7 +22,7 @@ fn of(dp: u32) -> Cube {
 }
 
 // What takes a packet of the datapath into the other, by its port of the key 2.
-fn passes(alloc: Global, from: u32, into: u32) -> Result<Flow, NoMemory> {
+fn passes(alloc: Global, from: u32, into: u32) -> Result<SharedFlow, NoMemory> {
     let patch = FlowOp::Patch {
         dp: into,
         in_port: 2,

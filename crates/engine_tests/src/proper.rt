@@ -4,7 +4,7 @@ ghost use Rattle.std.specs.List.{AllByRecursion};
 ghost use Rattle.ovn_base.specs.declared.stages.TheConstants.{OUTPUT_TABLE};
 ghost use Rattle.switch_engine.specs.Proper.{CanPatch, IsProperFlow, Rises};
 
-use flow_table::flow::{Flow, FlowOp};
+use flow_table::flow::{FlowOp, SharedFlow};
 use inet_packet::regs::Reg;
 use ovn_base::limits::FLOOD_KEY;
 use ovn_base::stages::OUTPUT_TABLE;
@@ -61,8 +61,9 @@ fn all_rise(table: u8, ops: &[FlowOp]) -> bool
 }
 
 /// Whether the flow is one from which walks end.
-pub fn is_proper(flow: &Flow) -> bool
+pub fn is_proper(flow: &SharedFlow) -> bool
     ensures { IsTrue result → IsProperFlow flow.now }
 {
-    all_rise(flow.table, flow.ops.get().as_slice())
+    let flow = flow.get();
+    all_rise(flow.table, flow.ops.as_slice())
 }

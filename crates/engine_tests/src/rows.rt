@@ -3,11 +3,10 @@ ghost use Rattle.std.specs.Prelude.{IfOk};
 ghost use Rattle.switch_engine.specs.Proper.{IsProper, IsProperFlow};
 
 use crate::proper::is_proper;
-use flow_table::flow::{Flow, FlowOp};
+use flow_table::flow::{Flow, FlowOp, SharedFlow};
 use flow_table::lookup::Lookup;
 use flow_table::tables::Tables;
 use inet_packet::cube::Cube;
-use ovn_base::counted::Counted;
 use ovn_base::delta::Delta;
 use ovn_base::list::List;
 use ovn_base::memory::NoMemory;
@@ -19,27 +18,20 @@ pub fn row<const N: usize>(
     table: u8,
     cube: Cube,
     ops: [FlowOp; N],
-) -> Result<Flow, NoMemory> {
-    let ops = List::from_vec(Vec::from_array(alloc, ops)?);
-    Ok(Flow {
-        table,
-        priority: 100,
-        rank: 0,
-        cube: Counted::new(alloc, cube)?,
-        ops: Counted::new(alloc, ops)?,
-        cookie: 0,
-    })
+) -> Result<SharedFlow, NoMemory> {
+    Flow::shared(alloc, table, 100, 0, cube, &ops)
 }
 
 // Adds a proper flow.
-fn put(tables: &mut Tables, flow: Flow) -> Result<(), NoMemory>
+fn put(tables: &mut Tables, flow: SharedFlow) -> Result<(), NoMemory>
     requires tables { IsProper tables.old.flows }
     requires flow { IsProperFlow flow }
     ensures { IsProper tables.new.flows }
 {
-    let mut added = List::new(flow.ops.get().allocator());
-    let mut removed = List::new(flow.ops.get().allocator());
-    removed.push(flow.copy()?)?;
+    let alloc = flow.get().ops.allocator();
+    let mut added = List::new(alloc);
+    let mut removed = List::new(alloc);
+    removed.push(flow.share()?)?;
     added.push(flow)?;
     let delta = Delta { added, removed };
     tables.prepare(&delta)?;
@@ -48,7 +40,7 @@ fn put(tables: &mut Tables, flow: Flow) -> Result<(), NoMemory>
 }
 
 /// The flows whose actions may stand in their tables.
-pub fn put_all(alloc: Global, flows: Vec<Flow>) -> Result<Tables, NoMemory>
+pub fn put_all(alloc: Global, flows: Vec<SharedFlow>) -> Result<Tables, NoMemory>
     ensures { IfOk result (λ t. IsProper t.flows) }
 {
     let mut tables = Tables::new(alloc)?;

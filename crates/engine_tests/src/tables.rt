@@ -4,7 +4,7 @@ ghost use Rattle.inet_packet.specs.Whole.{IsWhole};
 ghost use Rattle.switch_engine.specs.Proper.{IsEntry, IsProper};
 
 use crate::rows::{put_all, row};
-use flow_table::flow::{Cause, Flow, FlowOp};
+use flow_table::flow::{Cause, FlowOp, SharedFlow};
 use flow_table::tables::Tables;
 use inet_packet::cube::{Bits, Cube};
 use inet_packet::packet::{Body, Packet};
@@ -62,9 +62,9 @@ pub fn set(reg: Reg, value: u32) -> FlowOp {
 fn with_way(
     alloc: Global,
     way: &[(u8, u8)],
-    rows: Vec<Result<Flow, NoMemory>>,
-) -> Result<Vec<Flow>, NoMemory> {
-    let mut flows: Vec<Flow> = rows.into_iter().try_collect(alloc)?;
+    rows: Vec<Result<SharedFlow, NoMemory>>,
+) -> Result<Vec<SharedFlow>, NoMemory> {
+    let mut flows: Vec<SharedFlow> = rows.into_iter().try_collect(alloc)?;
     for &(table, next) in way {
         flows.push(row(alloc, table, all(), [FlowOp::Go(next)])?)?;
     }
@@ -75,7 +75,7 @@ fn with_way(
 pub fn tables<const N: usize>(
     alloc: Global,
     way: &[(u8, u8)],
-    rows: [Result<Flow, NoMemory>; N],
+    rows: [Result<SharedFlow, NoMemory>; N],
 ) -> Result<Tables, NoMemory>
     ensures { IfOk result (λ t. IsProper t.flows) }
 {
@@ -208,7 +208,7 @@ pub fn leads_to(
 pub fn shows<const N: usize>(
     alloc: Global,
     way: &[(u8, u8)],
-    rows: [Result<Flow, NoMemory>; N],
+    rows: [Result<SharedFlow, NoMemory>; N],
     entry: Entry,
     effects: &[Comes],
     path: &[u8],

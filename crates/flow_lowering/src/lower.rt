@@ -12,7 +12,7 @@ ghost use Rattle.flow_lowering.specs.LoweredFlows as spec;
 ghost use Rattle.flow_lowering.specs.Registers.{dp_is, met_with_all};
 
 use crate::registers::met_on;
-use flow_table::flow::{Flow, FlowOp};
+use flow_table::flow::{Flow, FlowOp, SharedFlow};
 use inet_packet::cube::Cube;
 use inet_packet::regs::{At, Reg};
 use logical_flows::action::Action;
@@ -21,7 +21,6 @@ use match_cubes::cubes::cubes;
 use match_cubes::fault::CubeFault;
 use match_cubes::sets::Sets;
 use match_language::expr::Expr;
-use ovn_base::counted::Counted;
 use ovn_base::list::List;
 use ovn_base::memory::NoMemory;
 use ovn_base::name::Name;
@@ -78,13 +77,7 @@ fn lowered_op(keys: &KeyStore, action: &Action) -> Result<FlowOp, NoMemory>
             zone,
             vip,
             backends,
-        } => {
-            Ok(FlowOp::Balance {
-                zone: *zone,
-                vip: *vip,
-                backends: backends.copy()?,
-            })
-        }
+        } => FlowOp::balance(backends.allocator(), *zone, *vip, backends.as_slice()),
         Action::ArpReply { mac, ip } => { Ok(FlowOp::ArpReply { mac: *mac, ip: *ip }) }
         Action::EchoReply => Ok(FlowOp::EchoReply),
         Action::DecTtl => Ok(FlowOp::DecTtl),
@@ -126,33 +119,27 @@ fn narrow_cubes(
 }
 
 // The flow on the packets of the cube, with these operations.
-fn flow_on(
-    alloc: Global,
-    flow: &LFlow,
-    ops: &Counted<List<FlowOp>>,
-    cube: Cube,
-) -> Result<Flow, NoMemory>
+fn flow_on(alloc: Global, flow: &LFlow, ops: &[FlowOp], cube: Cube) -> Result<SharedFlow, NoMemory>
     ensures { IfOk result (λ f. f ≡ spec.flow_on flow.now ops.now cube) }
 {
-    let _entry: &Option<At> = &cube.at;
-    Ok(Flow {
-        table: flow.stage.table(),
-        priority: flow.priority,
-        rank: flow.rank,
-        cube: Counted::new(alloc, cube)?,
-        ops: ops.share()?,
-        cookie: 0,
-    })
+    Flow::shared(
+        alloc,
+        flow.stage.table(),
+        flow.priority,
+        flow.rank,
+        cube,
+        ops,
+    )
 }
 
 // The flows on the packets of the cubes that are on the datapath of this key.
 fn flows_on(
     alloc: Global,
     flow: &LFlow,
-    ops: &Counted<List<FlowOp>>,
+    ops: &[FlowOp],
     key: u32,
     cubes: &[Cube],
-) -> Result<List<Flow>, NoMemory>
+) -> Result<List<SharedFlow>, NoMemory>
     ensures { IfOk result (λ flows. flows ≡ map (spec.flow_on flow.now ops.now) (filter_map (met_with_all (dp_is key ∷ flow.now.regs)) cubes.now)) }
 {
     let mut flows = List::new(alloc);
@@ -171,7 +158,7 @@ fn lowered_flows(
     datapath: &Name,
     keys: &KeyStore,
     sets: &Sets,
-) -> Result<List<Flow>, NoMemory>
+) -> Result<List<SharedFlow>, NoMemory>
     requires suited { are_suited flow.now.matching true ≡ true }
     requires narrow { width_of (members_of sets.now) flow.now.matching ≤ MAX_WIDTH }
     requires datapath { IsSome (at keys.now.datapaths datapath.now) }
@@ -182,8 +169,8 @@ fn lowered_flows(
         unreachable!()
     };
     let cubes = narrow_cubes(alloc, &flow.matching, sets, ports)?;
-    let ops = Counted::new(alloc, lowered_ops(alloc, keys, flow.actions.as_slice())?)?;
-    flows_on(alloc, flow, &ops, key, cubes.as_slice())
+    let ops = lowered_ops(alloc, keys, flow.actions.as_slice())?;
+    flows_on(alloc, flow, ops.as_slice(), key, cubes.as_slice())
 }
 
 /// Adds the flows to which the logical flow is lowered on the datapath, one for each cube of what it matches there, and counts
@@ -196,7 +183,7 @@ pub fn lower<L>(
     datapath: &Name,
     keys: &KeyStore,
     sets: &Sets,
-    out: &mut List<Flow>,
+    out: &mut List<SharedFlow>,
     steps: &mut Steps<L>,
 ) -> Result<(), NoMemory>
     requires suited { are_suited flow.now.matching true ≡ true }

@@ -7,10 +7,13 @@ ghost use Rattle.flow_table.specs.declared.flow.FlowOp.{FlowOp};
 ghost use Rattle.flow_table.specs.declared.flow.Member.{Member};
 ghost use Rattle.flow_table.specs.declared.flow.ZoneOf.{ZoneOf};
 
-use crate::flow::{Cause, Flow, FlowOp, Member, ZoneOf};
+use crate::few::Few;
+use crate::flow::{Cause, Flow, FlowOp, Member, SharedFlow, ZoneOf};
 use inet_packet::exact::{exact_cube, exact_reg};
-use ovn_base::address::{Backend, exact_backend, exact_ip4, exact_mac};
-use ovn_base::equality::{equal_where_same, exact_list_clone};
+use inet_packet::regs::At;
+use ovn_base::address::{exact_backend, exact_ip4, exact_mac};
+use ovn_base::boxed::Boxed;
+use ovn_base::equality::equal_where_same;
 use ovn_base::memory::NoMemory;
 use ovn_base::name::exact_name;
 
@@ -34,11 +37,6 @@ pub fn exact_member()
     ensures { (a b : Member) → (⟦<Member as PartialEq>⟧.eq a b ≡ true) ↔ (a ≡ b) }
 {}
 
-/// A clone of a member is that member.
-pub fn exact_member_clone()
-    ensures { (a b : Member) → ⟦<Member as Clone>⟧.is_clone a b → b ≡ a }
-{}
-
 /// Operations are equal exactly where they are the same.
 pub fn exact_op()
     ensures { (a b : FlowOp) → (⟦<FlowOp as PartialEq>⟧.eq a b ≡ true) ↔ (a ≡ b) }
@@ -57,12 +55,7 @@ pub fn exact_op()
 /// A clone of an operation is that operation.
 pub fn exact_op_clone()
     ensures { (a b : FlowOp) → ⟦<FlowOp as Clone>⟧.is_clone a b → b ≡ a }
-{
-    exact_backend();
-    exact_list_clone::<Backend>();
-    exact_member_clone();
-    exact_list_clone::<Member>();
-}
+{}
 
 /// Flows are equal exactly where they are the same.
 pub fn exact_flow()
@@ -73,13 +66,13 @@ pub fn exact_flow()
     equal_where_same::<Flow>();
 }
 
-/// A clone of a flow is that flow.
+/// A clone of a shared flow is that flow.
 pub fn exact_flow_clone()
-    ensures { (a b : Flow) → ⟦<Flow as Clone>⟧.is_clone a b → b ≡ a }
+    ensures { (a b : Flow) → ⟦<SharedFlow as Clone>⟧.is_clone a b → b ≡ a }
 {}
 
 impl FlowOp {
-    /// An equal operation in memory of its own.
+    /// An equal operation, which shares its name or list.
     pub fn copy(&self) -> Result<FlowOp, NoMemory>
         ensures { IfOk result (λ op. op ≡ self.now) }
     {
@@ -90,11 +83,21 @@ impl FlowOp {
 }
 
 impl Flow {
-    /// The same flow, which shares what it matches and what it does.
+    /// An equal flow with a cube and operations of its own, whose names and lists are shared.
     pub fn copy(&self) -> Result<Flow, NoMemory>
         ensures { IfOk result (λ f. f ≡ self.now) }
     {
-        exact_flow_clone();
-        Ok(self.clone()?)
+        exact_op_clone();
+        let alloc = self.ops.allocator();
+        let cube = *self.cube.get();
+        let _entry: &Option<At> = &cube.at;
+        Ok(Flow {
+            table: self.table,
+            priority: self.priority,
+            rank: self.rank,
+            cube: Boxed::new(alloc, cube)?,
+            ops: Few::from_slice(alloc, self.ops.as_slice())?,
+            cookie: self.cookie,
+        })
     }
 }

@@ -1,12 +1,18 @@
-ghost use Rattle.std.specs.Prelude.{◌≡◌};
+ghost use Rattle.std.specs.Prelude.{◌≡◌, IfOk};
 ghost use Rattle.flow_table.specs.Causes.{cause_name};
+ghost use Rattle.flow_table.specs.declared.flow.FlowOp.TheVariants.{Balance, Copies, Frame, Output};
 
+use crate::exact::exact_op_clone;
+use crate::few::Few;
 use inet_packet::cube::Cube;
-use inet_packet::regs::Reg;
+use inet_packet::regs::{At, Reg};
 use ovn_base::address::{Backend, Ip4, Mac};
+use ovn_base::boxed::Boxed;
 use ovn_base::counted::Counted;
 use ovn_base::list::List;
+use ovn_base::memory::NoMemory;
 use ovn_base::name::Name;
+use std::alloc::Global;
 
 /// Why a packet is dropped. Most of them stand in flows. `Clash`, `Full`, `NoLiveBackend` and `NoFreePort` come of commits,
 /// `HopLimit` of passing into one more datapath, and a packet that no flow finds at home drops as `Unbound`.
@@ -121,8 +127,8 @@ pub struct Member {
     pub zone: u16,
 }
 
-/// What a flow does with a packet that it matches.
-#[derive(PartialEq, Eq, Hash, Clone, Debug, Drop)]
+/// What a flow does with a packet that it matches. Names and lists are shared by all copies, so that an operation is small.
+#[derive(PartialEq, Eq, Hash, Clone, Debug, Default, Drop)]
 pub enum FlowOp {
     /// Sets a register, or a flag to 0 or 1.
     Set {
@@ -130,6 +136,7 @@ pub enum FlowOp {
         value: u32,
     },
     /// Sets the port to which the packet goes to that of entry.
+    #[default]
     OutIsIn,
     /// Looks for the packet's connection in the zone, sets the state and the flag `blocked`, and remembers the entry.
     Find(ZoneOf),
@@ -160,7 +167,7 @@ pub enum FlowOp {
         zone: ZoneOf,
         vip: Backend,
         /// Those that are online, in the order in which they are listed.
-        backends: List<Backend>,
+        backends: Counted<List<Backend>>,
     },
     /// Turns an ARP request into the reply that the IPv4 address is at the Ethernet address.
     ArpReply {
@@ -184,11 +191,11 @@ pub enum FlowOp {
     /// Sets the datapath and the two ports from the tunnel header, if the packet came from a tunnel.
     Header,
     /// Sends the packet as a frame to the chassis.
-    Frame(Name),
+    Frame(Counted<Name>),
     /// Makes a copy for each member but the port of entry, which goes on to that member.
-    Copies(List<Member>),
+    Copies(Counted<List<Member>>),
     /// Gives the packet out of the port.
-    Output(Name),
+    Output(Counted<Name>),
     /// Passes the packet into another datapath: clears all registers, sets these, and goes on at the first table of the
     /// ingress pipeline.
     Patch {
@@ -200,15 +207,86 @@ pub enum FlowOp {
     },
 }
 
-/// A row of a table: what it matches, and what it does. Both are shared by all copies of it, on whatever chassis.
-#[derive(PartialEq, Eq, Hash, Clone, Debug, Drop)]
+impl FlowOp {
+    /// Sends the packet as a frame to the chassis.
+    pub fn frame(alloc: Global, chassis: Name) -> Result<FlowOp, NoMemory>
+        ensures { IfOk result (λ op. op ≡ Frame chassis) }
+    {
+        Ok(FlowOp::Frame(Counted::new(alloc, chassis)?))
+    }
+
+    /// Adds the packet's connection to the zone, with one of the backends of the virtual address as its destination.
+    pub fn balance(
+        alloc: Global,
+        zone: ZoneOf,
+        vip: Backend,
+        backends: &[Backend],
+    ) -> Result<FlowOp, NoMemory>
+        ensures { IfOk result (λ op. op ≡ Balance zone vip backends.now) }
+    {
+        let backends = List::from_slice(alloc, backends)?;
+        Ok(FlowOp::Balance {
+            zone,
+            vip,
+            backends: Counted::new(alloc, backends)?,
+        })
+    }
+
+    /// Makes a copy for each of the members but the port of entry.
+    pub fn copies(alloc: Global, members: &[Member]) -> Result<FlowOp, NoMemory>
+        ensures { IfOk result (λ op. op ≡ Copies members.now) }
+    {
+        let members = List::from_slice(alloc, members)?;
+        Ok(FlowOp::Copies(Counted::new(alloc, members)?))
+    }
+
+    /// Gives the packet out of the port.
+    pub fn output(alloc: Global, port: Name) -> Result<FlowOp, NoMemory>
+        ensures { IfOk result (λ op. op ≡ Output port) }
+    {
+        Ok(FlowOp::Output(Counted::new(alloc, port)?))
+    }
+}
+
+/// A row of a table: what it matches, and what it does. A few operations stand in it; the cube, which a look-up by masks doesn't
+/// read, has memory of its own.
+#[derive(PartialEq, Eq, Hash, Debug, Drop)]
 pub struct Flow {
     pub table: u8,
     /// Of the flows that match, one of the greatest priority is taken.
     pub priority: u16,
     /// Of those, one of the greatest rank.
     pub rank: u8,
-    pub cube: Counted<Cube>,
-    pub ops: Counted<List<FlowOp>>,
+    pub cube: Boxed<Cube>,
+    pub ops: Few<FlowOp>,
     pub cookie: u64,
+}
+
+/// A flow that is shared, not copied, where it is passed on: to the chassis, in what comes and goes, and to the steps of walks.
+pub type SharedFlow = Counted<Flow>;
+
+impl Flow {
+    /// The flow with the cookie 0, to be shared.
+    pub fn shared(
+        alloc: Global,
+        table: u8,
+        priority: u16,
+        rank: u8,
+        cube: Cube,
+        ops: &[FlowOp],
+    ) -> Result<SharedFlow, NoMemory>
+        ensures { IfOk result (λ f. f ≡ record { table = table; priority = priority; rank = rank; cube = cube; ops = ops.now; cookie = 0 }) }
+    {
+        exact_op_clone();
+        let _entry: &Option<At> = &cube.at;
+        let flow = Flow {
+            table,
+            priority,
+            rank,
+            cube: Boxed::new(alloc, cube)?,
+            ops: Few::from_slice(alloc, ops)?,
+            cookie: 0,
+        };
+        Counted::new(alloc, flow)
+    }
 }

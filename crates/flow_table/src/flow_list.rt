@@ -7,14 +7,14 @@ ghost use Rattle.flow_table.specs.declared.flow.Flow.{Flow};
 ghost use Rattle.flow_table.specs.Matching.{IsBest, NoneMatches};
 
 use crate::exact::exact_flow;
-use crate::flow::Flow;
+use crate::flow::SharedFlow;
 use crate::matching::{beats, matches};
 use inet_packet::packet::Packet;
 use inet_packet::regs::Regs;
 use ovn_base::list::List;
 
 // Takes the flows that go out of the flows.
-pub(crate) fn take_out(flows: &mut Vec<Flow>, gone: &List<Flow>)
+pub(crate) fn take_out(flows: &mut Vec<SharedFlow>, gone: &List<SharedFlow>)
     ensures kept { (f : Flow) → Among f flows.new.items ↔ (Among f flows.old.items × ¬ Among f gone.now) }
     ensures once { EachOnce flows.old.items → EachOnce flows.new.items }
     ensures len { vec_len flows.new ≤ vec_len flows.old }
@@ -29,15 +29,15 @@ pub(crate) fn take_out(flows: &mut Vec<Flow>, gone: &List<Flow>)
 
 // The first of the flows that match and are beaten by no other.
 pub(crate) fn best_of<'a>(
-    flows: &'a [Flow],
+    flows: &'a [SharedFlow],
     table: u8,
     regs: &Regs,
     packet: &Packet,
-) -> Option<&'a Flow>
+) -> Option<&'a SharedFlow>
     ensures found { IfSome result (λ f. IsBest flows.now table regs.now packet.now f.now) }
     ensures none { IfNone result (NoneMatches flows.now table regs.now packet.now) }
 {
-    let mut best: Option<&'a Flow> = None;
+    let mut best: Option<&'a SharedFlow> = None;
     for flow in flows {
         if matches(flow, table, regs, packet) {
             best = match best {

@@ -2,6 +2,7 @@
 #![tactic(auto)]
 
 pub mod exact;
+pub mod few;
 pub mod flow;
 mod flow_list;
 pub mod lookup;

@@ -6,7 +6,7 @@ ghost use Rattle.flow_table.specs.Matching.{IsBest, NoneMatches};
 ghost use Rattle.ovn_base.specs.lists.Once.{EachOnce};
 ghost use Rattle.flow_table.specs.Change.{IsDeltaOf, IsReplaced};
 
-use crate::flow::Flow;
+use crate::flow::SharedFlow;
 use inet_packet::packet::Packet;
 use inet_packet::regs::Regs;
 use ovn_base::delta::Delta;
@@ -21,23 +21,23 @@ pub trait Lookup {
     ghost ready: { Self → Delta Flow → Type 0 };
 
     /// An unbeaten flow of the table that matches; `None` exactly where none matches. No memory is taken.
-    fn lookup(&self, table: u8, regs: &Regs, packet: &Packet) -> Option<&Flow>
+    fn lookup(&self, table: u8, regs: &Regs, packet: &Packet) -> Option<&SharedFlow>
         ensures found { IfSome result (λ f. IsBest (flows self.now) table regs.now packet.now f.now) }
         ensures none { IfNone result (NoneMatches (flows self.now) table regs.now packet.now) };
 
     /// Makes ready for the delta. The flows that are held stay, also without memory.
-    fn prepare(&mut self, delta: &Delta<Flow>) -> Result<(), NoMemory>
+    fn prepare(&mut self, delta: &Delta<SharedFlow>) -> Result<(), NoMemory>
         requires { IsDeltaOf (flows self.old) delta.now }
         ensures same { flows self.new ≡ flows self.old }
         ensures ready { OnOk result (ready self.new delta.now) };
 
     /// Takes flows out and puts others in. No memory is taken.
-    fn replace(&mut self, delta: Delta<Flow>)
+    fn replace(&mut self, delta: Delta<SharedFlow>)
         requires { ready self.old delta }
         ensures { IsReplaced (flows self.old) delta (flows self.new) };
 
     /// Each held flow at exactly one index below their number; `None` past the last. No memory is taken.
-    fn flow(&self, index: usize) -> Option<&Flow>
+    fn flow(&self, index: usize) -> Option<&SharedFlow>
         ensures flow { option_copied result ≡ slice_get (flows self.now) index }
         ensures once { EachOnce (flows self.now) };
 }

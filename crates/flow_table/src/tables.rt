@@ -2,7 +2,7 @@
 ghost use Rattle.std.specs.Prelude.{◌≡◌, ◌↔◌, IfOk, IsTrue, [], length};
 ghost use Rattle.flow_table.specs.HeldFlows.{IsReady};
 
-use crate::flow::Flow;
+use crate::flow::SharedFlow;
 use crate::flow_list::{best_of, take_out};
 use crate::lookup::Lookup;
 use inet_packet::packet::Packet;
@@ -15,7 +15,7 @@ use std::marker::Model;
 /// Flows in a list, each once. A look-up reads all of them.
 #[derive(Drop)]
 pub struct Tables {
-    flows: Vec<Flow>,
+    flows: Vec<SharedFlow>,
 }
 
 impl Model for Tables {
@@ -61,16 +61,16 @@ impl Lookup for Tables {
 
     ghost ready = { IsReady };
 
-    fn lookup(&self, table: u8, regs: &Regs, packet: &Packet) -> Option<&Flow> {
+    fn lookup(&self, table: u8, regs: &Regs, packet: &Packet) -> Option<&SharedFlow> {
         best_of(&self.flows, table, regs, packet)
     }
 
-    fn prepare(&mut self, delta: &Delta<Flow>) -> Result<(), NoMemory> {
+    fn prepare(&mut self, delta: &Delta<SharedFlow>) -> Result<(), NoMemory> {
         self.flows.reserve(delta.added.len())?;
         Ok(())
     }
 
-    fn replace(&mut self, delta: Delta<Flow>) {
+    fn replace(&mut self, delta: Delta<SharedFlow>) {
         let Delta { added, removed } = delta;
         take_out(&mut self.flows, &removed);
         let mut added = added.into_vec();
@@ -80,7 +80,7 @@ impl Lookup for Tables {
         }
     }
 
-    fn flow(&self, index: usize) -> Option<&Flow> {
+    fn flow(&self, index: usize) -> Option<&SharedFlow> {
         self.flows.get(index)
     }
 }

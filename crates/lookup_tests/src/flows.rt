@@ -1,12 +1,11 @@
 //! Flows of a few masks, packets that they may match, and what a classifier does with both.
 
-use flow_table::flow::Flow;
+use flow_table::flow::{Flow, FlowOp, SharedFlow, ZoneOf};
 use flow_table::lookup::Lookup;
 use inet_packet::cube::{Bits, Cube};
 use inet_packet::packet::{Body, Ip4Packet, Packet, Part};
 use inet_packet::regs::{At, RegFlags, Regs};
-use ovn_base::address::{Ip4, Mac};
-use ovn_base::counted::Counted;
+use ovn_base::address::{Backend, Ip4, Mac};
 use ovn_base::delta::Delta;
 use ovn_base::list::List;
 use ovn_base::memory::NoMemory;
@@ -63,17 +62,21 @@ fn cube(asks: u32, wants: u32) -> Cube {
 }
 
 /// The flow of the row.
-pub fn flow(alloc: Global, row: &Row) -> Result<Flow, NoMemory> {
+pub fn flow(alloc: Global, row: &Row) -> Result<SharedFlow, NoMemory> {
     let cube = cube(row.asks, row.wants);
-    let _entry: &Option<At> = &cube.at;
-    Ok(Flow {
-        table: row.table,
-        priority: row.priority,
-        rank: row.rank,
-        cube: Counted::new(alloc, cube)?,
-        ops: Counted::new(alloc, List::new(alloc))?,
-        cookie: 0,
-    })
+    Flow::shared(alloc, row.table, row.priority, row.rank, cube, &[])
+}
+
+/// Whether an operation with a list is equal to its copy, and so is a flow that has it.
+pub fn are_copied(alloc: Global) -> Result<bool, NoMemory> {
+    let vip = Backend {
+        ip: Ip4(0x0a00_0007),
+        port: 80,
+    };
+    let balance = FlowOp::balance(alloc, ZoneOf::In, vip, &[vip])?;
+    let same = balance.copy()? == balance;
+    let flow = Flow::shared(alloc, 8, 100, 1, cube(1, 7), &[balance])?;
+    Ok(same && flow.get().copy()? == *flow.get())
 }
 
 // Registers with the number in all fields that flows ask for.
@@ -123,10 +126,14 @@ pub fn packet(alloc: Global, number: u8) -> Packet {
 }
 
 /// The flow comes, and the others go. It is named among them too: so the delta is one of any flows.
-pub fn change<T: Lookup>(held: &mut T, comes: Flow, goes: List<Flow>) -> Result<(), NoMemory> {
+pub fn change<T: Lookup>(
+    held: &mut T,
+    comes: SharedFlow,
+    goes: List<SharedFlow>,
+) -> Result<(), NoMemory> {
     let mut removed = goes;
-    removed.push(comes.copy()?)?;
-    let mut added = List::new(comes.ops.get().allocator());
+    removed.push(comes.share()?)?;
+    let mut added = List::new(comes.get().ops.allocator());
     added.push(comes)?;
     let delta = Delta { added, removed };
     held.prepare(&delta)?;
@@ -135,8 +142,8 @@ pub fn change<T: Lookup>(held: &mut T, comes: Flow, goes: List<Flow>) -> Result<
 }
 
 /// The flow goes.
-pub fn remove<T: Lookup>(held: &mut T, goes: Flow) -> Result<(), NoMemory> {
-    let alloc = goes.ops.get().allocator();
+pub fn remove<T: Lookup>(held: &mut T, goes: SharedFlow) -> Result<(), NoMemory> {
+    let alloc = goes.get().ops.allocator();
     let mut removed = List::new(alloc);
     removed.push(goes)?;
     let delta = Delta {
@@ -150,7 +157,7 @@ pub fn remove<T: Lookup>(held: &mut T, goes: Flow) -> Result<(), NoMemory> {
 
 /// The priority and the rank of the flow that the packet takes, with registers that have the number.
 pub fn taken<T: Lookup>(held: &T, table: u8, number: u32, packet: &Packet) -> Option<(u16, u8)> {
-    let flow = held.lookup(table, &regs(number), packet)?;
+    let flow = held.lookup(table, &regs(number), packet)?.get();
     Some((flow.priority, flow.rank))
 }
 

@@ -1,5 +1,5 @@
-use crate::flows::{Row, change, count, flow, packet, remove, taken};
-use flow_table::flow::Flow;
+use crate::flows::{Row, are_copied, change, count, flow, packet, remove, taken};
+use flow_table::flow::SharedFlow;
 use flow_table::lookup::Lookup;
 use flow_table::tables::Tables;
 use ovn_base::list::List;
@@ -23,7 +23,7 @@ impl Dice {
     }
 
     // A flow of one of so many masks.
-    fn flow(&mut self, alloc: Global, masks: u32) -> Result<Flow, NoMemory> {
+    fn flow(&mut self, alloc: Global, masks: u32) -> Result<SharedFlow, NoMemory> {
         let table = self.table();
         let priority = if self.throw(2) == 0 { 100 } else { 200 };
         let rank = if self.throw(2) == 0 { 0 } else { 1 };
@@ -39,7 +39,12 @@ impl Dice {
         flow(alloc, &row)
     }
 
-    fn flows(&mut self, alloc: Global, masks: u32, many: usize) -> Result<List<Flow>, NoMemory> {
+    fn flows(
+        &mut self,
+        alloc: Global,
+        masks: u32,
+        many: usize,
+    ) -> Result<List<SharedFlow>, NoMemory> {
         let mut flows = List::new(alloc);
         for _ in 0..many {
             flows.push(self.flow(alloc, masks)?)?;
@@ -68,7 +73,7 @@ fn run<T: Lookup>(alloc: Global, held: &mut T, masks: u32, rounds: u32) -> Resul
 }
 
 // A flow of table 8 that asks for the datapath, or for nothing.
-fn asking(alloc: Global, asks: u32, priority: u16, rank: u8) -> Result<Flow, NoMemory> {
+fn asking(alloc: Global, asks: u32, priority: u16, rank: u8) -> Result<SharedFlow, NoMemory> {
     let row = Row {
         table: 8,
         priority,
@@ -120,6 +125,12 @@ fn among_many_masks_the_classifier_answers_as_the_list(rt: HostRuntime) -> Resul
     let mut masks = TupleSpace::new(rt.alloc())?;
     let same = run(rt.alloc(), &mut masks, 14, 600)?;
     assert_eq!(rt; (same, count(&masks, 200)), (told, count(&list, 200)));
+    Ok(())
+}
+
+#[test]
+fn operations_and_flows_are_copied(rt: HostRuntime) -> Result<(), Fail> {
+    assert!(rt; are_copied(rt.alloc())?);
     Ok(())
 }
 

@@ -1,7 +1,7 @@
 //! The list of all flows, which chassis of tests hold.
 
 use crate::flows::{Row, change, count, flow, packet, taken};
-use flow_table::flow::Flow;
+use flow_table::flow::SharedFlow;
 use flow_table::tables::Tables;
 use ovn_base::list::List;
 use ovn_base::memory::NoMemory;
@@ -9,7 +9,7 @@ use std::alloc::Global;
 use std::test::Fail;
 
 // A flow for the packets of the datapath of the key 1.
-fn on_one(alloc: Global, table: u8, priority: u16, rank: u8) -> Result<Flow, NoMemory> {
+fn on_one(alloc: Global, table: u8, priority: u16, rank: u8) -> Result<SharedFlow, NoMemory> {
     let row = Row {
         table,
         priority,

@@ -7,7 +7,7 @@ ghost use Rattle.match_cubes.specs.Suited.{are_suited};
 ghost use Rattle.match_cubes.specs.Width.{width_of};
 
 use flow_lowering::lower::lower;
-use flow_table::flow::Flow;
+use flow_table::flow::SharedFlow;
 use key_tests::register::Register;
 use logical_flows::action::Action;
 use logical_flows::flow::{LFlow, RegIs};
@@ -118,7 +118,7 @@ pub(crate) fn flows(
     text: &[u8],
     regs: &[RegIs],
     steps: &mut Steps<Lowerings>,
-) -> Result<List<Flow>, NoMemory> {
+) -> Result<List<SharedFlow>, NoMemory> {
     let (s0, p2) = (name(b"s0")?, name(b"p2")?);
     if !has_datapath(keys, &s0) || !has_port(keys, &p2) {
         return Err(NoMemory);

@@ -1,12 +1,11 @@
 //! Flows of matches and registers are as the formats of tables have them.
 use crate::rows::{Lowerings, flows, some_keys};
-use flow_table::flow::{Flow, FlowOp};
+use flow_table::flow::{Flow, FlowOp, SharedFlow};
 use flow_table::matching::matches;
 use inet_packet::cube::{Bits, Cube};
 use inet_packet::decode::decode;
 use inet_packet::regs::{At, Reg, RegFlags, Regs};
 use logical_flows::flow::RegIs;
-use ovn_base::counted::Counted;
 use ovn_base::list::List;
 use ovn_base::memory::NoMemory;
 use ovn_base::steps::Steps;
@@ -33,7 +32,7 @@ fn on(dp: u32) -> Regs {
 }
 
 // How many of the flows match the frame in the stage's table, on the datapath of this key.
-fn count(alloc: Global, flows: &[Flow], dp: u32, frame: &[u8]) -> Result<usize, NoMemory> {
+fn count(alloc: Global, flows: &[SharedFlow], dp: u32, frame: &[u8]) -> Result<usize, NoMemory> {
     let Ok(packet) = decode(alloc, frame) else {
         return Err(NoMemory);
     };
@@ -55,7 +54,7 @@ const TO_1023: &[u8] =
     b"\x0a\x00\x00\x00\x00\x02\x0a\x00\x00\x00\x00\x01\x08\x00\x45\x00\x00\x28\x00\x01\x00\x00\x40\x06\x66\xcd\x0a\x00\x00\x01\x0a\x00\x00\x02\x13\x88\x03\xff\x00\x00\x00\x00\x00\x00\x00\x00\x50\x02\xff\xff\x00\x00\x00\x00";
 
 // How many of the flows match each of the frames.
-fn count_each(alloc: Global, flows: &[Flow], dp: u32) -> Result<[usize; 3], NoMemory> {
+fn count_each(alloc: Global, flows: &[SharedFlow], dp: u32) -> Result<[usize; 3], NoMemory> {
     Ok([
         count(alloc, flows, dp, UDP)?,
         count(alloc, flows, dp, TO_1024)?,
@@ -99,7 +98,7 @@ fn widths(rt: HostRuntime) -> Result<(), Fail> {
 }
 
 // The flows on the packets between the ports of a reply that is not blocked.
-fn of_replies(alloc: Global) -> Result<List<Flow>, NoMemory> {
+fn of_replies(alloc: Global) -> Result<List<SharedFlow>, NoMemory> {
     let register = some_keys(alloc)?;
     let is = |reg, value| RegIs { reg, value };
     let regs = [is(Reg::Tracked, 1), is(Reg::State, 3), is(Reg::Blocked, 0)];
@@ -119,23 +118,14 @@ fn cube_of_replies() -> Cube {
 }
 
 // The one flow that they are to be.
-fn flow_of_replies(alloc: Global) -> Result<Flow, NoMemory> {
+fn flow_of_replies(alloc: Global) -> Result<SharedFlow, NoMemory> {
     let mut ops = List::new(alloc);
     ops.push(FlowOp::Set {
         reg: Reg::OutPort,
         value: 2,
     })?;
     ops.push(FlowOp::Go(12))?;
-    let cube = cube_of_replies();
-    let _entry: &Option<At> = &cube.at;
-    Ok(Flow {
-        table: 11,
-        priority: 2000,
-        rank: 6,
-        cube: Counted::new(alloc, cube)?,
-        ops: Counted::new(alloc, ops)?,
-        cookie: 0,
-    })
+    Flow::shared(alloc, 11, 2000, 6, cube_of_replies(), ops.as_slice())
 }
 
 #[test]

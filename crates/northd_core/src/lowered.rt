@@ -16,7 +16,7 @@ use crate::units::units_in;
 use flow_refs::patch::Patch;
 use flow_refs::shared::Shared;
 use flow_table::exact::{exact_flow, exact_flow_clone};
-use flow_table::flow::Flow;
+use flow_table::flow::SharedFlow;
 use logical_flows::exact::exact_unit_clone;
 use logical_flows::unit::UnitId;
 use nb_edits::plan::EditPlan;
@@ -33,7 +33,7 @@ use tunnel_keys::store::KeyStore;
 #[derive(Drop)]
 pub struct LoweredFlows {
     alloc: Global,
-    flows: Shared<Flow, UnitId>,
+    flows: Shared<SharedFlow, UnitId>,
 }
 
 impl Model for LoweredFlows {
@@ -49,7 +49,7 @@ impl Model for LoweredFlows {
 /// What an edit makes of the lowered flows, told before it is applied.
 #[derive(Drop)]
 pub struct LoweredPlan {
-    flows: Patch<Flow, UnitId>,
+    flows: Patch<SharedFlow, UnitId>,
 }
 
 impl Model for LoweredPlan {
@@ -64,7 +64,7 @@ impl Model for LoweredPlan {
 
 impl LoweredPlan {
     /// The flows that come and that go: the delta that `apply` will answer.
-    pub fn delta(&self) -> &Delta<Flow>
+    pub fn delta(&self) -> &Delta<SharedFlow>
         ensures { result.now ≡ self.now.delta }
     {
         self.flows.delta()
@@ -132,7 +132,7 @@ impl LoweredFlows {
     }
 
     /// The flows of the plan, which was prepared for what is held. Answers the flows that come and that go. It takes no memory.
-    pub fn apply(&mut self, plan: LoweredPlan) -> Delta<Flow>
+    pub fn apply(&mut self, plan: LoweredPlan) -> Delta<SharedFlow>
         requires { IsPreparedFor same_lowered unit_order self.old plan }
         ensures leads { (before after : Lowering) → IsLoweredPlan before after self.old plan → HaveLowered after self.new }
         ensures shown { result ≡ plan.delta }
@@ -142,7 +142,7 @@ impl LoweredFlows {
     }
 
     /// The held flow at the index, counted from 0; `None` past the last.
-    pub fn flow(&self, index: usize) -> Option<&Flow>
+    pub fn flow(&self, index: usize) -> Option<&SharedFlow>
         ensures flow { option_copied result ≡ slice_get (keys_of self.now.counts) index }
         ensures each { (l : Lowering) → CanCompile l → HaveLowered l self.now → ListsEach (IsLoweredIn l) (keys_of self.now.counts) }
     {

@@ -11,7 +11,7 @@ use crate::laws::sets_are_of_records;
 use crate::rows::{unit_datapath, unit_rows};
 use address_sets::expand::expand;
 use flow_lowering::lower::lower;
-use flow_table::flow::Flow;
+use flow_table::flow::SharedFlow;
 use logical_flows::flow::LFlow;
 use logical_flows::unit::UnitId;
 use match_cubes::sets::Sets;
@@ -34,7 +34,7 @@ fn lower_rows<L>(
     keys: &KeyStore,
     sets: &Sets,
     steps: &mut Steps<L>,
-) -> Result<List<Flow>, NoMemory>
+) -> Result<List<SharedFlow>, NoMemory>
     requires { AllByRecursion (IsLowerable keys.now sets.now datapath.now) rows.now }
     ensures flows { IfOk result (λ flows. flows ≡ flows_of_rows keys.now sets.now rows.now datapath.now) }
     ensures steps { HasCountedOn steps.old steps.new }
@@ -54,7 +54,7 @@ fn lower_unit<L>(
     keys: &KeyStore,
     sets: &Sets,
     steps: &mut Steps<L>,
-) -> Result<List<Flow>, NoMemory>
+) -> Result<List<SharedFlow>, NoMemory>
     requires can { CanCompile (record { net = records.now; keys = keys.now }) }
     requires sets { sets.now ≡ sets_of records.now }
     ensures flows { IfOk result (λ flows. flows ≡ lowered_of (record { net = records.now; keys = keys.now }) unit.now) }
@@ -79,7 +79,7 @@ pub fn list_lowered<L>(
     units: &BTreeSet<UnitId>,
     keys: &KeyStore,
     steps: &mut Steps<L>,
-) -> Result<List<(UnitId, List<Flow>)>, NoMemory>
+) -> Result<List<(UnitId, List<SharedFlow>)>, NoMemory>
     requires { CanCompile (record { net = records.now; keys = keys.now }) }
     ensures order { IfOk result (λ _. IsStrictlySortedBy unit_order units.now.keys) }
     ensures steps { HasCountedOn steps.old steps.new }

@@ -26,7 +26,7 @@ use crate::unit::FlowUnit;
 use conn_zones::homes::Homes;
 use conn_zones::numbers::ZoneNumbers;
 use flow_table::exact::exact_flow_clone;
-use flow_table::flow::{Flow, Member};
+use flow_table::flow::{Member, SharedFlow};
 use nb_records::addresses::{router_port_behind, takes_unknown};
 use nb_records::records::Records;
 use nb_records::references::{is_given, is_named};
@@ -191,7 +191,7 @@ impl Maps<'_> {
         dp: u32,
         group: Group,
         ports: &[Placed],
-        flows: &mut List<Flow>,
+        flows: &mut List<SharedFlow>,
     ) -> Result<(), NoMemory>
         ensures { OnOk result (flows.new ≡ flows.old ++ rows_placed (basis_of self.now) dp group ports.now) }
     {
@@ -215,7 +215,7 @@ impl Maps<'_> {
         &self,
         alloc: Global,
         name: &Name,
-        flows: &mut List<Flow>,
+        flows: &mut List<SharedFlow>,
     ) -> Result<(), NoMemory>
         requires sorted { IsByName (basis_of self.now).net.switch_ports }
         requires named { ArePortsNamed (basis_of self.now).net }
@@ -242,7 +242,7 @@ impl Maps<'_> {
         &self,
         alloc: Global,
         name: &Name,
-        flows: &mut List<Flow>,
+        flows: &mut List<SharedFlow>,
     ) -> Result<(), NoMemory>
         ensures { OnOk result (flows.new ≡ flows.old ++ around_everywhere (basis_of self.now) (unit.Port name.now)) }
     {
@@ -263,7 +263,7 @@ impl Maps<'_> {
         &self,
         alloc: Global,
         name: &Name,
-        flows: &mut List<Flow>,
+        flows: &mut List<SharedFlow>,
     ) -> Result<(), NoMemory>
         ensures { OnOk result (flows.new ≡ flows.old ++ around_everywhere (basis_of self.now) (unit.RouterPort name.now)) }
     {
@@ -284,7 +284,7 @@ impl Maps<'_> {
         &self,
         alloc: Global,
         name: &Name,
-        flows: &mut List<Flow>,
+        flows: &mut List<SharedFlow>,
     ) -> Result<(), NoMemory>
         ensures { OnOk result (flows.new ≡ flows.old ++ rows_here (basis_of self.now) (unit.Port name.now)) }
     {
@@ -306,7 +306,7 @@ impl Maps<'_> {
         &self,
         alloc: Global,
         name: &Name,
-        flows: &mut List<Flow>,
+        flows: &mut List<SharedFlow>,
     ) -> Result<(), NoMemory>
         ensures { OnOk result (flows.new ≡ flows.old ++ rows_here (basis_of self.now) (unit.RouterPort name.now)) }
     {
@@ -330,7 +330,7 @@ impl Maps<'_> {
         dp: u32,
         port: &SwitchPort,
         key: u16,
-        flows: &mut List<Flow>,
+        flows: &mut List<SharedFlow>,
     ) -> Result<(), NoMemory>
         ensures { OnOk result (flows.new ≡ flows.old ++ patch_rows_if (is_virtual port.now) (basis_of self.now) (switch_patch (basis_of self.now) port.now dp key)) }
     {
@@ -350,7 +350,7 @@ impl Maps<'_> {
         dp: u32,
         key: u16,
         place: Place,
-        flows: &mut List<Flow>,
+        flows: &mut List<SharedFlow>,
     ) -> Result<(), NoMemory>
         ensures { OnOk result (flows.new ≡ flows.old ++ homed_rows (basis_of self.now).chassis (home_at place) dp key) }
     {
@@ -374,7 +374,7 @@ impl Maps<'_> {
         dp: u32,
         key: u16,
         to: Option<Beyond>,
-        flows: &mut List<Flow>,
+        flows: &mut List<SharedFlow>,
     ) -> Result<(), NoMemory>
         ensures { OnOk result (flows.new ≡ flows.old ++ way_row dp key to ∷ []) }
     {
@@ -445,7 +445,7 @@ impl Maps<'_> {
         dp: u32,
         name: &Name,
         key: u16,
-        flows: &mut List<Flow>,
+        flows: &mut List<SharedFlow>,
     ) -> Result<(), NoMemory>
         ensures { OnOk result (flows.new ≡ flows.old ++ bound_rows (basis_of self.now).chassis
             (at (basis_of self.now).bindings name.now) (zone_of (basis_of self.now) name.now) dp name.now key) }
@@ -463,7 +463,7 @@ impl Maps<'_> {
     }
 
     // The rows around the pipelines that a unit has on every chassis.
-    fn rows_around(&self, alloc: Global, unit: &FlowUnit) -> Result<List<Flow>, NoMemory>
+    fn rows_around(&self, alloc: Global, unit: &FlowUnit) -> Result<List<SharedFlow>, NoMemory>
         ensures { IfOk result (λ rows. rows ≡ around_everywhere (basis_of self.now) unit.now) }
     {
         let mut rows = List::new(alloc);
@@ -481,7 +481,7 @@ impl Maps<'_> {
         &self,
         alloc: Global,
         units: &[FlowUnit],
-    ) -> Result<List<(FlowUnit, List<Flow>)>, NoMemory>
+    ) -> Result<List<(FlowUnit, List<SharedFlow>)>, NoMemory>
         ensures { IfOk result (λ rows. rows ≡ map (λ u. (u, around_everywhere (basis_of self.now) u)) units.now) }
     {
         let mut rows = List::new(alloc);
@@ -496,8 +496,8 @@ impl Maps<'_> {
         &self,
         alloc: Global,
         unit: &FlowUnit,
-        everywhere: &List<Flow>,
-    ) -> Result<List<Flow>, NoMemory>
+        everywhere: &List<SharedFlow>,
+    ) -> Result<List<SharedFlow>, NoMemory>
         requires sorted { IsByName (basis_of self.now).net.switch_ports }
         requires named { ArePortsNamed (basis_of self.now).net }
         requires keys { HaveKeys (basis_of self.now).net (basis_of self.now).keys }

@@ -9,11 +9,10 @@ ghost use Rattle.physical_flows.specs.TableList.{group_rows, local_rows, common_
 
 use crate::beyond::Beyond;
 use crate::priorities::{BASE_PRIORITY, PHYSICAL_PRIORITY};
-use flow_table::flow::{Cause, Flow, FlowOp, Member};
+use flow_table::flow::{Cause, Flow, FlowOp, Member, SharedFlow};
 use inet_packet::cube::{Bits, Cube};
 use inet_packet::regs::{At, Reg};
 use net_model::crossing::Group;
-use ovn_base::counted::Counted;
 use ovn_base::limits::{FLOOD_KEY, UNKNOWN_KEY};
 use ovn_base::list::List;
 use ovn_base::memory::NoMemory;
@@ -103,22 +102,12 @@ fn push_flow(
     priority: u16,
     cube: Cube,
     ops: List<FlowOp>,
-    flows: &mut List<Flow>,
+    flows: &mut List<SharedFlow>,
 ) -> Result<(), NoMemory>
     ensures { OnOk result (flows.new ≡ flows.old ++ flow_of table priority cube ops ∷ []) }
 {
-    let _entry: &Option<At> = &cube.at;
-    let alloc = flows.allocator();
-    let ops = Counted::new(alloc, ops)?;
-    let cube = Counted::new(alloc, cube)?;
-    flows.push(Flow {
-        table,
-        priority,
-        rank: 0,
-        cube,
-        ops,
-        cookie: 0,
-    })
+    let flow = Flow::shared(flows.allocator(), table, priority, 0, cube, ops.as_slice())?;
+    flows.push(flow)
 }
 
 // Adds a flow with one action.
@@ -128,7 +117,7 @@ fn push_one(
     priority: u16,
     cube: Cube,
     op: FlowOp,
-    flows: &mut List<Flow>,
+    flows: &mut List<SharedFlow>,
 ) -> Result<(), NoMemory>
     ensures { OnOk result (flows.new ≡ flows.old ++ flow_of table priority cube (op ∷ []) ∷ []) }
 {
@@ -149,7 +138,7 @@ fn frames_to(alloc: Global, homes: &[Name]) -> Result<List<FlowOp>, NoMemory>
 {
     let mut ops = List::new(alloc);
     'homes: for home in homes {
-        ops.push(FlowOp::Frame(*home))?;
+        ops.push(FlowOp::frame(alloc, *home)?)?;
     }
     Ok(ops)
 }
@@ -160,7 +149,7 @@ fn push_spread(
     dp: u32,
     group: Group,
     homes: &[Name],
-    flows: &mut List<Flow>,
+    flows: &mut List<SharedFlow>,
 ) -> Result<(), NoMemory>
     ensures { OnOk result (flows.new ≡ flows.old ++ spread_row dp group homes.now ∷ []) }
 {
@@ -182,11 +171,11 @@ fn push_copies(
     group: Group,
     arrived: bool,
     members: &[Member],
-    flows: &mut List<Flow>,
+    flows: &mut List<SharedFlow>,
 ) -> Result<(), NoMemory>
     ensures { OnOk result (flows.new ≡ flows.old ++ copies_row dp group arrived members.now ∷ []) }
 {
-    let copies = FlowOp::Copies(List::from_slice(alloc, members)?);
+    let copies = FlowOp::copies(alloc, members)?;
     push_one(
         alloc,
         LOCAL_TABLE,
@@ -206,7 +195,7 @@ pub fn push_group(
     homes: &[Name],
     members: &[Member],
     reached: &[Member],
-    flows: &mut List<Flow>,
+    flows: &mut List<SharedFlow>,
 ) -> Result<(), NoMemory>
     ensures { OnOk result (flows.new ≡ flows.old ++ group_rows dp group homes.now members.now reached.now) }
 {
@@ -222,7 +211,7 @@ pub fn push_exits(
     dp: u32,
     name: Name,
     key: u16,
-    flows: &mut List<Flow>,
+    flows: &mut List<SharedFlow>,
 ) -> Result<(), NoMemory>
     ensures { OnOk result (flows.new ≡ flows.old ++ exit_rows virtual_port dp name key) }
 {
@@ -234,7 +223,12 @@ pub fn push_exits(
 }
 
 // Adds the row by which no packet goes back to where it came from.
-fn push_return(alloc: Global, dp: u32, key: u16, flows: &mut List<Flow>) -> Result<(), NoMemory>
+fn push_return(
+    alloc: Global,
+    dp: u32,
+    key: u16,
+    flows: &mut List<SharedFlow>,
+) -> Result<(), NoMemory>
     ensures { OnOk result (flows.new ≡ flows.old ++ return_row dp key ∷ []) }
 {
     let drop = FlowOp::Drop(Cause::Loopback);
@@ -254,7 +248,7 @@ fn push_output(
     dp: u32,
     name: Name,
     key: u16,
-    flows: &mut List<Flow>,
+    flows: &mut List<SharedFlow>,
 ) -> Result<(), NoMemory>
     ensures { OnOk result (flows.new ≡ flows.old ++ output_row dp name key ∷ []) }
 {
@@ -263,7 +257,7 @@ fn push_output(
         OUTPUT_TABLE,
         PHYSICAL_PRIORITY,
         exit_cube(dp, key),
-        FlowOp::Output(name),
+        FlowOp::output(alloc, name)?,
         flows,
     )
 }
@@ -274,7 +268,7 @@ pub fn push_patch(
     dp: u32,
     key: u16,
     to: Beyond,
-    flows: &mut List<Flow>,
+    flows: &mut List<SharedFlow>,
 ) -> Result<(), NoMemory>
     ensures { OnOk result (flows.new ≡ flows.old ++ patch_row dp key to ∷ []) }
 {
@@ -299,7 +293,7 @@ pub fn push_no_peer(
     alloc: Global,
     dp: u32,
     key: u16,
-    flows: &mut List<Flow>,
+    flows: &mut List<SharedFlow>,
 ) -> Result<(), NoMemory>
     ensures { OnOk result (flows.new ≡ flows.old ++ no_peer_row dp key ∷ []) }
 {
@@ -314,7 +308,12 @@ pub fn push_no_peer(
 }
 
 /// Adds the row of a port that leads into another datapath, where it is at home on this chassis alone.
-pub fn push_pass(alloc: Global, dp: u32, key: u16, flows: &mut List<Flow>) -> Result<(), NoMemory>
+pub fn push_pass(
+    alloc: Global,
+    dp: u32,
+    key: u16,
+    flows: &mut List<SharedFlow>,
+) -> Result<(), NoMemory>
     ensures { OnOk result (flows.new ≡ flows.old ++ pass_row dp key ∷ []) }
 {
     push_one(
@@ -328,7 +327,12 @@ pub fn push_pass(alloc: Global, dp: u32, key: u16, flows: &mut List<Flow>) -> Re
 }
 
 /// Adds the row of a port that leads into another datapath, where it is at home on every chassis.
-pub fn push_enter(alloc: Global, dp: u32, key: u16, flows: &mut List<Flow>) -> Result<(), NoMemory>
+pub fn push_enter(
+    alloc: Global,
+    dp: u32,
+    key: u16,
+    flows: &mut List<SharedFlow>,
+) -> Result<(), NoMemory>
     ensures { OnOk result (flows.new ≡ flows.old ++ enter_row dp key ∷ []) }
 {
     push_one(
@@ -347,7 +351,7 @@ pub fn push_remote(
     dp: u32,
     key: u16,
     home: Name,
-    flows: &mut List<Flow>,
+    flows: &mut List<SharedFlow>,
 ) -> Result<(), NoMemory>
     ensures { OnOk result (flows.new ≡ flows.old ++ remote_row dp key home ∷ []) }
 {
@@ -356,7 +360,7 @@ pub fn push_remote(
         REMOTE_TABLE,
         PHYSICAL_PRIORITY,
         exit_cube(dp, key),
-        FlowOp::Frame(home),
+        FlowOp::frame(alloc, home)?,
         flows,
     )
 }
@@ -368,7 +372,7 @@ pub fn push_local(
     name: Name,
     key: u16,
     zone: u16,
-    flows: &mut List<Flow>,
+    flows: &mut List<SharedFlow>,
 ) -> Result<(), NoMemory>
     ensures { OnOk result (flows.new ≡ flows.old ++ local_rows dp name key zone) }
 {
@@ -396,7 +400,7 @@ pub fn push_local(
 }
 
 /// Adds the rows that are no unit's.
-pub fn push_common(alloc: Global, flows: &mut List<Flow>) -> Result<(), NoMemory>
+pub fn push_common(alloc: Global, flows: &mut List<SharedFlow>) -> Result<(), NoMemory>
     ensures { OnOk result (flows.new ≡ flows.old ++ common_rows) }
 {
     let on = FlowOp::Go(LOCAL_TABLE);

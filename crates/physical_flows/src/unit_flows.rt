@@ -20,7 +20,7 @@ use crate::unit::{FlowUnit, exact_unit};
 use flow_refs::patch::Patch;
 use flow_refs::shared::Shared;
 use flow_table::exact::{exact_flow, exact_flow_clone};
-use flow_table::flow::Flow;
+use flow_table::flow::SharedFlow;
 use ovn_base::delta::Delta;
 use ovn_base::list::List;
 use ovn_base::memory::NoMemory;
@@ -30,7 +30,7 @@ use std::marker::Model;
 /// The flows of one chassis, each with the units that have it.
 #[derive(Drop)]
 pub struct UnitFlows {
-    store: Shared<Flow, FlowUnit>,
+    store: Shared<SharedFlow, FlowUnit>,
 }
 
 impl Model for UnitFlows {
@@ -44,7 +44,7 @@ impl Model for UnitFlows {
 /// New rows of some units on one chassis, made by [`UnitFlows::prepare_around`] and put into force by [`UnitFlows::apply`].
 #[derive(Drop)]
 pub struct TablePatch {
-    patch: Patch<Flow, FlowUnit>,
+    patch: Patch<SharedFlow, FlowUnit>,
 }
 
 impl Model for TablePatch {
@@ -59,7 +59,7 @@ impl Model for TablePatch {
 
 impl TablePatch {
     /// The flows that come and that go: the delta that `apply` will answer.
-    pub fn delta(&self) -> &Delta<Flow>
+    pub fn delta(&self) -> &Delta<SharedFlow>
         ensures { result.now ≡ self.now.delta }
     {
         self.patch.delta()
@@ -82,7 +82,7 @@ impl UnitFlows {
         &mut self,
         alloc: Global,
         maps: &Maps<'_>,
-        given: &[(FlowUnit, List<Flow>)],
+        given: &[(FlowUnit, List<SharedFlow>)],
     ) -> Result<TablePatch, NoMemory>
         requires sorted { IsByName (basis_of maps.now).net.switch_ports }
         requires named { ArePortsNamed (basis_of maps.now).net }
@@ -112,7 +112,7 @@ impl UnitFlows {
         &mut self,
         alloc: Global,
         maps: &Maps<'_>,
-        around: &[(FlowUnit, List<Flow>)],
+        around: &[(FlowUnit, List<SharedFlow>)],
     ) -> Result<TablePatch, NoMemory>
         requires keyed { IsKeyed (basis_of maps.now).net (basis_of maps.now).keys }
         requires once { EachOnce (keys_of around.now) }
@@ -127,7 +127,7 @@ impl UnitFlows {
 
     /// Gives the units of a patch their rows, which was prepared for what is held. Answers the flows that come and that go. It
     /// takes no memory.
-    pub fn apply(&mut self, patch: TablePatch) -> Delta<Flow>
+    pub fn apply(&mut self, patch: TablePatch) -> Delta<SharedFlow>
         requires { IsPreparedFor same_flow unit_order self.old patch }
         ensures leads { (before after : FlowUnit → List Flow) → IsTablePatch before after self.old patch → HaveRows after (rows_held self.new) }
         ensures shown { result ≡ patch.delta }

@@ -22,11 +22,12 @@ const PONG: &str =
 // A packet is routed: new Ethernet addresses, and one less to live.
 #[test]
 fn routes(rt: HostRuntime) -> Result<(), Fail> {
+    let gives = FlowOp::output(rt.alloc(), name("p2")?)?;
     let ops = [
         FlowOp::DecTtl,
         FlowOp::EthSrc(Mac([10, 0, 0, 0, 1, 0xfe])),
         FlowOp::EthDst(Mac([10, 0, 0, 0, 1, 9])),
-        FlowOp::Output(name("p2")?),
+        gives,
     ];
     let rows = [row(rt.alloc(), 0, all(), ops)];
     let told = shows(rt.alloc(), rows, &[enters(ASKED, leaves(ROUTED), 1)]);
@@ -37,13 +38,8 @@ fn routes(rt: HostRuntime) -> Result<(), Fail> {
 // The Ethernet addresses stay, since what follows sets them.
 #[test]
 fn answers_echo(rt: HostRuntime) -> Result<(), Fail> {
-    let p2 = name("p2")?;
-    let rows = [row(
-        rt.alloc(),
-        0,
-        all(),
-        [FlowOp::EchoReply, FlowOp::Output(p2)],
-    )];
+    let gives = FlowOp::output(rt.alloc(), name("p2")?)?;
+    let rows = [row(rt.alloc(), 0, all(), [FlowOp::EchoReply, gives])];
     let told = shows(rt.alloc(), rows, &[enters(PING, leaves(PONG), 1)]);
     assert_eq!(rt; told, Ok(true));
     Ok(())
@@ -52,10 +48,10 @@ fn answers_echo(rt: HostRuntime) -> Result<(), Fail> {
 // The next hop is the destination, and table 1 knows it.
 #[test]
 fn next_hop(rt: HostRuntime) -> Result<(), Fail> {
-    let p2 = name("p2")?;
+    let gives = FlowOp::output(rt.alloc(), name("p2")?)?;
     let rows = [
         row(rt.alloc(), 0, all(), [FlowOp::NextDst, FlowOp::Go(1)]),
-        row(rt.alloc(), 1, next_to(0x0a00_0002), [FlowOp::Output(p2)]),
+        row(rt.alloc(), 1, next_to(0x0a00_0002), [gives]),
     ];
     let told = shows(rt.alloc(), rows, &[enters(ASKED, leaves(ASKED), 2)]);
     assert_eq!(rt; told, Ok(true));
@@ -65,7 +61,7 @@ fn next_hop(rt: HostRuntime) -> Result<(), Fail> {
 // A packet passes into the datapath of the key 4 at its port of the key 2: table 8 knows both.
 #[test]
 fn passes_into_a_datapath(rt: HostRuntime) -> Result<(), Fail> {
-    let p2 = name("p2")?;
+    let gives = FlowOp::output(rt.alloc(), name("p2")?)?;
     let patch = FlowOp::Patch {
         dp: 4,
         in_port: 2,
@@ -75,7 +71,7 @@ fn passes_into_a_datapath(rt: HostRuntime) -> Result<(), Fail> {
     let rows = [
         row(rt.alloc(), 0, all(), [FlowOp::Go(64)]),
         row(rt.alloc(), 64, all(), [patch]),
-        row(rt.alloc(), 8, on(4, 2), [FlowOp::Output(p2)]),
+        row(rt.alloc(), 8, on(4, 2), [gives]),
     ];
     let told = shows(rt.alloc(), rows, &[enters(ASKED, leaves(ASKED), 3)]);
     assert_eq!(rt; told, Ok(true));

@@ -4,10 +4,10 @@ use crate::cubes::{all, from, new_from, seen};
 use crate::sims::{Comes, Step, enters, leaves, name, shows};
 use engine_tests::packets::{ANSWERED, ASKED};
 use engine_tests::rows::row;
-use flow_table::flow::{Cause, Flow, FlowOp, ZoneOf};
+use flow_table::flow::{Cause, FlowOp, SharedFlow, ZoneOf};
+use inet_packet::cube::Cube;
 use inet_packet::regs::Reg;
 use ovn_base::address::{Backend, Ip4};
-use ovn_base::list::List;
 use ovn_base::memory::NoMemory;
 use ovn_base::name::Name;
 use std::alloc::Global;
@@ -35,7 +35,7 @@ const OTHER_HIDDEN: &str =
     "0a00000000020a000000000308004500001c000100004011c3c0ac1000fe0a0000020400138900080000";
 
 // The flow of table 0, which looks for the connection of every packet in zone 5.
-fn looks(alloc: Global) -> Result<Flow, NoMemory> {
+fn looks(alloc: Global) -> Result<SharedFlow, NoMemory> {
     let zone = FlowOp::Set {
         reg: Reg::ZIn,
         value: 5,
@@ -49,8 +49,15 @@ fn looks(alloc: Global) -> Result<Flow, NoMemory> {
 }
 
 // The flow of table 1 that does the one action with what the zone says so of, and gives it out of p2.
-fn does(alloc: Global, state: u64, blocked: u64, op: FlowOp, p2: Name) -> Result<Flow, NoMemory> {
-    row(alloc, 1, seen(state, blocked), [op, FlowOp::Output(p2)])
+fn does(
+    alloc: Global,
+    state: u64,
+    blocked: u64,
+    op: FlowOp,
+    p2: Name,
+) -> Result<SharedFlow, NoMemory> {
+    let gives = FlowOp::output(alloc, p2)?;
+    row(alloc, 1, seen(state, blocked), [op, gives])
 }
 
 // The destination of a connection becomes another, and its answer comes back from where it was sent.
@@ -75,16 +82,22 @@ fn destination_nat(rt: HostRuntime) -> Result<(), Fail> {
 }
 
 // What comes from the address has the source 172.16.0.254 from then on.
-fn hides(alloc: Global, ip: u64, p2: Name) -> Result<Flow, NoMemory> {
+fn hides(alloc: Global, ip: u64, p2: Name) -> Result<SharedFlow, NoMemory> {
     let hide = FlowOp::Snat {
         zone: ZoneOf::Snat,
         ip: Ip4(0xac10_00fe),
     };
-    row(alloc, 1, from(ip), [hide, FlowOp::Output(p2)])
+    let gives = FlowOp::output(alloc, p2)?;
+    row(alloc, 1, from(ip), [hide, gives])
+}
+
+// What meets the cube in table 1 goes out of p2.
+fn gives(alloc: Global, cube: Cube, p2: Name) -> Result<SharedFlow, NoMemory> {
+    row(alloc, 1, cube, [FlowOp::output(alloc, p2)?])
 }
 
 // What leaves 10.0.0.1 or 10.0.0.3 is hidden, and what comes back of 10.0.0.2 is for the source as it was.
-fn hiding(alloc: Global, p2: Name) -> [Result<Flow, NoMemory>; 4] {
+fn hiding(alloc: Global, p2: Name) -> [Result<SharedFlow, NoMemory>; 4] {
     let zone = FlowOp::Set {
         reg: Reg::ZSnat,
         value: 5,
@@ -92,7 +105,7 @@ fn hiding(alloc: Global, p2: Name) -> [Result<Flow, NoMemory>; 4] {
     [
         row(alloc, 0, all(), [zone, FlowOp::Undo, FlowOp::Go(1)]),
         hides(alloc, 0x0a00_0001, p2),
-        row(alloc, 1, from(0x0a00_0002), [FlowOp::Output(p2)]),
+        gives(alloc, from(0x0a00_0002), p2),
         hides(alloc, 0x0a00_0003, p2),
     ]
 }
@@ -133,12 +146,8 @@ fn at_port(ip: u32) -> Backend {
 }
 
 // A new connection goes to one of the backends of 10.0.0.7.
-fn balances(alloc: Global, backends: &[Backend], p2: Name) -> Result<Flow, NoMemory> {
-    let balance = FlowOp::Balance {
-        zone: ZoneOf::In,
-        vip: at_port(0x0a00_0007),
-        backends: List::from_slice(alloc, backends)?,
-    };
+fn balances(alloc: Global, backends: &[Backend], p2: Name) -> Result<SharedFlow, NoMemory> {
+    let balance = FlowOp::balance(alloc, ZoneOf::In, at_port(0x0a00_0007), backends)?;
     does(alloc, 1, 0, balance, p2)
 }
 
@@ -189,7 +198,7 @@ fn blocks_and_unblocks(rt: HostRuntime) -> Result<(), Fail> {
             [FlowOp::Block, FlowOp::Drop(Cause::Acl)],
         ),
         does(alloc, 2, 4, FlowOp::Unblock, p2),
-        row(alloc, 1, seen(3, 0), [FlowOp::Output(p2)]),
+        gives(alloc, seen(3, 0), p2),
         row(alloc, 1, seen(3, 4), [FlowOp::Drop(Cause::Blocked)]),
     ];
     let steps = [
@@ -214,6 +223,12 @@ fn enters_at_59(frame: &'static str, comes: Comes, steps: usize) -> Step {
     }
 }
 
+// What is new and comes from the address begins a connection and goes out of p2.
+fn begins(alloc: Global, ip: u64, p2: Name) -> Result<SharedFlow, NoMemory> {
+    let gives = FlowOp::output(alloc, p2)?;
+    row(alloc, 1, new_from(ip), [FlowOp::Commit(ZoneOf::In), gives])
+}
+
 // A use keeps a connection of UDP for 60 seconds more: one that begins at 0 and is used at 59 is there at 118, and not at 119.
 #[test]
 fn touches(rt: HostRuntime) -> Result<(), Fail> {
@@ -221,14 +236,9 @@ fn touches(rt: HostRuntime) -> Result<(), Fail> {
     let p2 = name("p2")?;
     let rows = [
         looks(alloc),
-        row(
-            alloc,
-            1,
-            new_from(0x0a00_0001),
-            [FlowOp::Commit(ZoneOf::In), FlowOp::Output(p2)],
-        ),
+        begins(alloc, 0x0a00_0001, p2),
         does(alloc, 2, 0, FlowOp::Touch, p2),
-        row(alloc, 1, seen(3, 0), [FlowOp::Output(p2)]),
+        gives(alloc, seen(3, 0), p2),
     ];
     let steps = [
         enters(ASKED, leaves(ASKED), 2),

@@ -5,7 +5,7 @@ use crate::sims::{FRAME, chassis, come, entered, is_all, leaves, name};
 use chassis_sim::out::{SimFault, SimOut};
 use chassis_sim::sim::Sim;
 use engine_tests::rows::row;
-use flow_table::flow::{Flow, FlowOp};
+use flow_table::flow::{FlowOp, SharedFlow};
 use flow_table::tables::Tables;
 use inet_packet::regs::{At, Reg};
 use ovn_base::memory::NoMemory;
@@ -14,8 +14,9 @@ use std::test::Fail;
 use switch_engine::walk::Start;
 
 // The flow of hv1 that sends what enters at p1 as a frame to hv2, from the port of the key 1 of the datapath 1 to that of the key 2.
-fn sends(alloc: Global) -> Result<Flow, NoMemory> {
+fn sends(alloc: Global) -> Result<SharedFlow, NoMemory> {
     let (p1, hv2) = (name("p1")?, name("hv2")?);
+    let send = FlowOp::frame(alloc, hv2)?;
     let ops = [
         FlowOp::Set {
             reg: Reg::Dp,
@@ -29,7 +30,7 @@ fn sends(alloc: Global) -> Result<Flow, NoMemory> {
             reg: Reg::OutPort,
             value: 2,
         },
-        FlowOp::Frame(hv2),
+        send,
     ];
     row(alloc, 0, at(At::Local(p1)), ops)
 }
@@ -45,7 +46,7 @@ fn arrived(alloc: Global, sim: &mut Sim<Tables>, frame: u128) -> Result<SimOut, 
 
 // hv2 comes, and gives what comes from tunnels out of p2.
 fn second_chassis(alloc: Global, sim: &mut Sim<Tables>) -> Result<(), NoMemory> {
-    let ops = [FlowOp::Output(name("p2")?)];
+    let ops = [FlowOp::output(alloc, name("p2")?)?];
     let gives = row(alloc, 0, at(At::Tunnel), ops);
     come(alloc, sim, "hv2", [gives], "p2")
 }

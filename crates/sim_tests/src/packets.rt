@@ -9,7 +9,7 @@ use chassis_sim::out::SimFault;
 use chassis_sim::sim::Sim;
 use engine_tests::proper::is_proper;
 use engine_tests::rows::row;
-use flow_table::flow::{Cause, Flow, FlowOp};
+use flow_table::flow::{Cause, FlowOp, SharedFlow};
 use flow_table::tables::Tables;
 use inet_packet::regs::At;
 use ovn_base::delta::Delta;
@@ -20,11 +20,15 @@ use std::alloc::Global;
 use std::test::Fail;
 
 // The flow comes, and the other goes. The first is named among those that go too: so the delta is one of any flows.
-fn exchange(alloc: Global, comes: Flow, goes: Flow) -> Result<Delta<Flow>, NoMemory>
+fn exchange(
+    alloc: Global,
+    comes: SharedFlow,
+    goes: SharedFlow,
+) -> Result<Delta<SharedFlow>, NoMemory>
     ensures added { IfOk result (λ d. d.added ≡ comes ∷ []) }
     ensures removed { IfOk result (λ d. d.removed ≡ comes ∷ goes ∷ []) }
 {
-    let mut removed = one(alloc, comes.copy()?)?;
+    let mut removed = one(alloc, comes.share()?)?;
     removed.push(goes)?;
     let added = one(alloc, comes)?;
     Ok(Delta { added, removed })
@@ -35,8 +39,8 @@ fn replace(
     alloc: Global,
     sim: &mut Sim<Tables>,
     chassis: Name,
-    comes: Flow,
-    goes: Flow,
+    comes: SharedFlow,
+    goes: SharedFlow,
 ) -> Result<(), NoMemory>
     requires { IsProperFlow comes }
 {
@@ -55,13 +59,14 @@ fn replace(
 }
 
 // The one flow of the chassis, which does this with what enters at p1.
-fn does(alloc: Global, op: FlowOp) -> Result<Flow, NoMemory> {
+fn does(alloc: Global, op: FlowOp) -> Result<SharedFlow, NoMemory> {
     row(alloc, 0, at(At::Local(name("p1")?)), [op])
 }
 
 #[test]
 fn sim_without_records(rt: HostRuntime) -> Result<(), Fail> {
-    let rows = [does(rt.alloc(), FlowOp::Output(name("p2")?))];
+    let gives = FlowOp::output(rt.alloc(), name("p2")?)?;
+    let rows = [does(rt.alloc(), gives)];
     let told = shows(rt.alloc(), rows, &[enters(FRAME, leaves(FRAME), 1)]);
     assert_eq!(rt; told, Ok(true));
     Ok(())
@@ -70,7 +75,7 @@ fn sim_without_records(rt: HostRuntime) -> Result<(), Fail> {
 // The flow that gave is replaced by one that drops.
 fn replaced(alloc: Global, sim: &mut Sim<Tables>) -> Result<bool, SimFault> {
     let (hv1, p2) = (name("hv1")?, name("p2")?);
-    let gave = does(alloc, FlowOp::Output(p2))?;
+    let gave = does(alloc, FlowOp::output(alloc, p2)?)?;
     let drops = does(alloc, FlowOp::Drop(Cause::Vlan))?;
     if !is_proper(&drops) {
         return Ok(false);
@@ -81,7 +86,8 @@ fn replaced(alloc: Global, sim: &mut Sim<Tables>) -> Result<bool, SimFault> {
 
 // Whether it is so where the chassis came with the first.
 fn is_replaced(alloc: Global) -> Result<bool, SimFault> {
-    let mut sim = chassis(alloc, [does(alloc, FlowOp::Output(name("p2")?))])?;
+    let gives = FlowOp::output(alloc, name("p2")?)?;
+    let mut sim = chassis(alloc, [does(alloc, gives)])?;
     replaced(alloc, &mut sim)
 }
 

@@ -7,7 +7,7 @@ use chassis_sim::out::{SimFault, SimOut};
 use chassis_sim::sim::Sim;
 use engine_tests::packets::read;
 use engine_tests::rows::put_all;
-use flow_table::flow::{Cause, Flow};
+use flow_table::flow::{Cause, SharedFlow};
 use flow_table::tables::Tables;
 use ovn_base::address::Backend;
 use ovn_base::list::List;
@@ -137,7 +137,7 @@ fn settle(
 }
 
 // Those of the flows whose actions may stand in their tables.
-fn tables_of(alloc: Global, rows: Vec<Result<Flow, NoMemory>>) -> Result<Tables, NoMemory>
+fn tables_of(alloc: Global, rows: Vec<Result<SharedFlow, NoMemory>>) -> Result<Tables, NoMemory>
     ensures { IfOk result (λ t. IsProper t.flows) }
 {
     let flows = rows.into_iter().try_collect(alloc)?;
@@ -149,7 +149,7 @@ pub fn come<const N: usize>(
     alloc: Global,
     sim: &mut Sim<Tables>,
     chassis: &str,
-    rows: [Result<Flow, NoMemory>; N],
+    rows: [Result<SharedFlow, NoMemory>; N],
     port: &str,
 ) -> Result<(), NoMemory> {
     let tables = tables_of(alloc, Vec::from_array(alloc, rows)?)?;
@@ -171,7 +171,7 @@ fn empty(alloc: Global, sim: &mut Sim<Tables>) -> Result<(), NoMemory> {
 /// The chassis hv1 with these flows, an empty zone 5, and the port p1.
 pub fn chassis<const N: usize>(
     alloc: Global,
-    rows: [Result<Flow, NoMemory>; N],
+    rows: [Result<SharedFlow, NoMemory>; N],
 ) -> Result<Sim<Tables>, NoMemory> {
     let mut sim = Sim::new(alloc)?;
     come(alloc, &mut sim, "hv1", rows, "p1")?;
@@ -311,7 +311,7 @@ pub fn are_so(alloc: Global, sim: &mut Sim<Tables>, steps: &[Step]) -> Result<bo
 /// Whether each step is so on a chassis with these flows.
 pub fn shows<const N: usize>(
     alloc: Global,
-    rows: [Result<Flow, NoMemory>; N],
+    rows: [Result<SharedFlow, NoMemory>; N],
     steps: &[Step],
 ) -> Result<bool, SimFault> {
     let mut sim = chassis(alloc, rows)?;

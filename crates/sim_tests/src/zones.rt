@@ -5,7 +5,7 @@ use crate::sims::{Comes, Step, are_so, bind, chassis, enters, leaves, name};
 use chassis_sim::out::SimFault;
 use engine_tests::packets::{ANSWERED, ASKED};
 use engine_tests::rows::row;
-use flow_table::flow::{Flow, FlowOp, ZoneOf};
+use flow_table::flow::{FlowOp, SharedFlow, ZoneOf};
 use inet_packet::regs::{At, Reg};
 use ovn_base::memory::NoMemory;
 use ovn_base::name::Name;
@@ -21,18 +21,19 @@ fn zone() -> FlowOp {
 }
 
 // What enters at the port begins a connection in the zone and goes out of the other.
-fn begins(alloc: Global, port: Name, other: Name) -> Result<Flow, NoMemory> {
+fn begins(alloc: Global, port: Name, other: Name) -> Result<SharedFlow, NoMemory> {
+    let leaves = FlowOp::output(alloc, other)?;
     let ops = [
         zone(),
         FlowOp::Find(ZoneOf::In),
         FlowOp::Commit(ZoneOf::In),
-        FlowOp::Output(other),
+        leaves,
     ];
     row(alloc, 0, at(At::Local(port)), ops)
 }
 
 // What enters at the port is looked for in the zone.
-fn looks(alloc: Global, port: Name) -> Result<Flow, NoMemory> {
+fn looks(alloc: Global, port: Name) -> Result<SharedFlow, NoMemory> {
     let ops = [zone(), FlowOp::Find(ZoneOf::In), FlowOp::Go(1)];
     row(alloc, 0, at(At::Local(port)), ops)
 }
@@ -41,10 +42,11 @@ fn looks(alloc: Global, port: Name) -> Result<Flow, NoMemory> {
 // what enters at p2 the answers go out of p1.
 fn are_so_on_both_ports(alloc: Global, steps: &[Step]) -> Result<bool, SimFault> {
     let (p1, p2) = (name("p1")?, name("p2")?);
+    let gives = FlowOp::output(alloc, p1)?;
     let rows = [
         begins(alloc, p1, p2),
         looks(alloc, p2),
-        row(alloc, 1, seen(3, 0), [FlowOp::Output(p1)]),
+        row(alloc, 1, seen(3, 0), [gives]),
     ];
     let mut sim = chassis(alloc, rows)?;
     bind(alloc, &mut sim, "p2")?;

@@ -224,7 +224,15 @@ fn begin(
             backends,
         } => {
             let number = zone_number(*zone, &copy.regs);
-            let turn = balance(zones, number, *vip, backends.as_slice(), now, copy, effects)?;
+            let turn = balance(
+                zones,
+                number,
+                *vip,
+                backends.get().as_slice(),
+                now,
+                copy,
+                effects,
+            )?;
             Ok(turn)
         }
         _ => unreachable!(),
@@ -263,16 +271,16 @@ fn act(
             Ok(Turn::Ends)
         }
         FlowOp::Frame(chassis) => {
-            effects.push(framed(*chassis, copy)?)?;
+            effects.push(framed(*chassis.get(), copy)?)?;
             Ok(Turn::Next)
         }
         FlowOp::Copies(members) => {
-            copy_to(members.as_slice(), copy, made)?;
+            copy_to(members.get().as_slice(), copy, made)?;
             Ok(Turn::Next)
         }
         FlowOp::Output(port) => {
             effects.push(Effect::Out {
-                port: *port,
+                port: *port.get(),
                 packet: copy.packet.copy()?,
             })?;
             Ok(Turn::Next)

@@ -101,7 +101,7 @@ fn advance<T: Lookup>(
     let goes_on = run_ops(
         entry,
         now,
-        flow.ops.get().as_slice(),
+        flow.get().ops.as_slice(),
         copy,
         zones,
         &mut out.effects,

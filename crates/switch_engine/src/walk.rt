@@ -2,7 +2,7 @@
 ghost use Rattle.std.specs.Prelude.{◌≡◌, ◌++◌, ◌∷◌, [], IfOk, OnOk, OnErr};
 
 use crate::effect::Effect;
-use flow_table::flow::Flow;
+use flow_table::flow::SharedFlow;
 use ovn_base::list::List;
 use ovn_base::memory::NoMemory;
 use ovn_base::name::Name;
@@ -12,31 +12,31 @@ use std::alloc::Global;
 #[derive(PartialEq, Eq, Debug, Drop)]
 pub struct Step {
     pub table: u8,
-    pub flow: Flow,
+    pub flow: SharedFlow,
 }
 
 impl Step {
-    /// An equal step, which shares what its flow matches and does.
+    /// An equal step, which shares its flow.
     pub fn copy(&self) -> Result<Self, NoMemory>
         ensures { IfOk result (λ s. s ≡ self.now) }
     {
         Ok(Step {
             table: self.table,
-            flow: self.flow.copy()?,
+            flow: self.flow.share()?,
         })
     }
 }
 
 // Adds the step that matched the flow in the table.
-pub(crate) fn add_step(table: u8, flow: &Flow, steps: &mut List<Step>) -> Result<(), NoMemory>
+pub(crate) fn add_step(table: u8, flow: &SharedFlow, steps: &mut List<Step>) -> Result<(), NoMemory>
     ensures ok { OnOk result (steps.new ≡ steps.old ++ record { table = table; flow = flow.now } ∷ []) }
     ensures err { OnErr result (steps.new ≡ steps.old) }
 {
-    let flow = flow.copy()?;
+    let flow = flow.share()?;
     steps.push(Step { table, flow })
 }
 
-// Equal steps, which share what their flows match and do.
+// Equal steps, which share their flows.
 fn copy_steps(steps: &List<Step>) -> Result<List<Step>, NoMemory>
     ensures { IfOk result (λ s. s ≡ steps.now) }
 {
@@ -65,7 +65,7 @@ pub struct Walk {
 }
 
 impl Walk {
-    /// An equal walk, whose steps share what their flows match and do.
+    /// An equal walk, whose steps share their flows.
     pub fn copy(&self) -> Result<Self, NoMemory>
         ensures { IfOk result (λ w. w ≡ self.now) }
     {

@@ -15,7 +15,7 @@ use crate::masks::Masks;
 use crate::number::note_in;
 use crate::sieve::Sieve;
 use flow_table::exact::exact_flow;
-use flow_table::flow::Flow;
+use flow_table::flow::SharedFlow;
 use flow_table::matching::beats;
 use ovn_base::memory::NoMemory;
 use std::alloc::Global;
@@ -40,7 +40,7 @@ impl Model for Bucket {
 }
 
 // Where the flow belongs among those that fall: before the first that it beats.
-fn place_of(flows: &Line, flow: &Flow) -> usize
+fn place_of(flows: &Line, flow: &SharedFlow) -> usize
     ensures within { result ≤ length flows.now.flows }
     ensures before { (g : Flow) → Among g (take result flows.now.flows) → ¬ Beats flow.now g }
     ensures behind { IsFalling flows.now.flows → (g : Flow) → Among g (drop result flows.now.flows) → ¬ Beats g flow.now }
@@ -78,7 +78,7 @@ impl Bucket {
     }
 
     /// The flow at the index, counted from 0; `None` past the last.
-    pub fn get(&self, index: usize) -> Option<&Flow>
+    pub fn get(&self, index: usize) -> Option<&SharedFlow>
         ensures { option_copied result ≡ slice_get self.now.flows index }
     {
         self.flows.get(index)
@@ -120,7 +120,7 @@ impl Bucket {
     }
 
     /// Puts a flow in, where room was promised. No memory is taken.
-    pub fn put(&mut self, flow: Flow)
+    pub fn put(&mut self, flow: SharedFlow)
         requires { 0 < self.old.promised }
         ensures held { (f : Flow) → Among f self.new.flows ↔ ((f ≡ flow) ⊎ Among f self.old.flows) }
         ensures once { EachOnce self.old.flows → ¬ Among flow self.old.flows → EachOnce self.new.flows }
@@ -133,7 +133,7 @@ impl Bucket {
     }
 
     /// Takes the flow out, if it is there. No memory is taken, and no room is lost.
-    pub fn take_out(&mut self, flow: &Flow)
+    pub fn take_out(&mut self, flow: &SharedFlow)
         ensures kept { (f : Flow) → Among f self.new.flows ↔ (Among f self.old.flows × ¬ (f ≡ flow.now)) }
         ensures once { EachOnce self.old.flows → EachOnce self.new.flows }
         ensures falls { IsFalling self.old.flows → IsFalling self.new.flows }

@@ -14,7 +14,7 @@ use crate::bucket::Bucket;
 use crate::masks::Masks;
 use crate::place::{Numbers, Place};
 use crate::sieve::Sieve;
-use flow_table::flow::Flow;
+use flow_table::flow::SharedFlow;
 use indexmap::IndexMap;
 use ovn_base::memory::NoMemory;
 use std::alloc::Global;
@@ -38,7 +38,7 @@ impl Model for Buckets {
 }
 
 // The flow at the index, bucket by bucket.
-fn flow_in(places: &IndexMap<Place, Bucket>, index: usize) -> Option<&Flow>
+fn flow_in(places: &IndexMap<Place, Bucket>, index: usize) -> Option<&SharedFlow>
     ensures { option_copied result ≡ slice_get (flows_in places.now.entries) index }
 {
     let mut left = index;
@@ -74,7 +74,7 @@ impl Buckets {
     }
 
     /// The best of the flows at the key.
-    pub fn first(&self, key: &[u64]) -> Option<&Flow>
+    pub fn first(&self, key: &[u64]) -> Option<&SharedFlow>
         ensures { option_copied result ≡ slice_get (flows_under self.now key.now) 0 }
     {
         match self.places.get(Numbers { numbers: key }) {
@@ -84,7 +84,7 @@ impl Buckets {
     }
 
     /// The flow at the index, counted from 0; `None` past the last.
-    pub fn flow(&self, index: usize) -> Option<&Flow>
+    pub fn flow(&self, index: usize) -> Option<&SharedFlow>
         ensures { option_copied result ≡ slice_get (flows_in self.now) index }
     {
         flow_in(&self.places, index)
@@ -119,7 +119,7 @@ impl Buckets {
     }
 
     /// Puts a flow in, where room was promised. No memory is taken.
-    pub fn put(&mut self, key: &[u64], flow: Flow)
+    pub fn put(&mut self, key: &[u64], flow: SharedFlow)
         requires room { 0 < promised_under self.old key.now }
         requires fresh { ¬ Among flow (flows_under self.old key.now) }
         ensures held { (k : List ℕ) (f : Flow) → Among f (flows_under self.new k) ↔ (((k ≡ key.now) × (f ≡ flow)) ⊎ Among f (flows_under self.old k)) }
@@ -132,7 +132,7 @@ impl Buckets {
     }
 
     // Takes the flow out at a key that has a bucket.
-    fn take_out_there(&mut self, key: &[u64], flow: &Flow)
+    fn take_out_there(&mut self, key: &[u64], flow: &SharedFlow)
         requires { IsSome (lookup (pointwise nat_eq key.now) self.old) }
         ensures kept { (k : List ℕ) (f : Flow) → Among f (flows_under self.new k) ↔ (Among f (flows_under self.old k) × ¬ ((k ≡ key.now) × (f ≡ flow.now))) }
         ensures promised { (k : List ℕ) → promised_under self.new k ≡ promised_under self.old k }
@@ -224,7 +224,7 @@ impl Buckets {
     }
 
     /// Takes the flow out, if it is there, and its bucket, if nothing is left in it. No memory is taken, and no room is lost.
-    pub fn take_out(&mut self, key: &[u64], flow: &Flow)
+    pub fn take_out(&mut self, key: &[u64], flow: &SharedFlow)
         ensures kept { (k : List ℕ) (f : Flow) → Among f (flows_under self.new k) ↔ (Among f (flows_under self.old k) × ¬ ((k ≡ key.now) × (f ≡ flow.now))) }
         ensures promised { (k : List ℕ) → promised_under self.new k ≡ promised_under self.old k }
     {

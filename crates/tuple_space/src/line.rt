@@ -3,7 +3,7 @@ ghost use Rattle.std.specs.Prelude.{◌≡◌, ◌+◌, ◌<◌, ◌≤◌, [], 
 ghost use Rattle.std.specs.Option.{option_copied};
 ghost use Rattle.tuple_space.specs.Lines.{in_line, passes_first};
 
-use flow_table::flow::Flow;
+use flow_table::flow::{Flow, SharedFlow};
 use ovn_base::memory::NoMemory;
 use std::alloc::Global;
 use std::marker::Model;
@@ -11,8 +11,8 @@ use std::marker::Model;
 /// Flows in order. The first stands in place: most lines have no other.
 #[derive(Drop)]
 pub struct Line {
-    first: Option<Flow>,
-    rest: Vec<Flow>,
+    first: Option<SharedFlow>,
+    rest: Vec<SharedFlow>,
 }
 
 impl Model for Line {
@@ -27,7 +27,7 @@ impl Model for Line {
 }
 
 // Puts the flow in where there is room.
-fn put_at(rest: &mut Vec<Flow>, place: usize, flow: Flow)
+fn put_at(rest: &mut Vec<SharedFlow>, place: usize, flow: SharedFlow)
     requires place { place ≤ length rest.old.items }
     requires room { length rest.old.items < vec_capacity rest.old }
     ensures items { rest.new.items ≡ insert rest.old.items place flow }
@@ -41,7 +41,7 @@ fn put_at(rest: &mut Vec<Flow>, place: usize, flow: Flow)
 }
 
 // Whether the flow is the first.
-fn is_first(first: &Option<Flow>, flow: &Flow) -> bool
+fn is_first(first: &Option<SharedFlow>, flow: &SharedFlow) -> bool
     ensures { result ≡ passes_first (λ f. ⟦<Flow as PartialEq>⟧.eq f flow.now) first.now }
 {
     match first {
@@ -51,7 +51,7 @@ fn is_first(first: &Option<Flow>, flow: &Flow) -> bool
 }
 
 // Takes the first flow out, if there is one.
-fn take_first(rest: &mut Vec<Flow>) -> Option<Flow>
+fn take_first(rest: &mut Vec<SharedFlow>) -> Option<SharedFlow>
     ensures items { rest.old.items ≡ in_line result rest.new.items }
     ensures none { IfNone result (rest.new.items ≡ []) }
     ensures capacity { vec_capacity rest.new ≡ vec_capacity rest.old }
@@ -86,7 +86,7 @@ impl Line {
     }
 
     /// The flow at the index, counted from 0; `None` past the last.
-    pub fn get(&self, index: usize) -> Option<&Flow>
+    pub fn get(&self, index: usize) -> Option<&SharedFlow>
         ensures { option_copied result ≡ slice_get self.now.flows index }
     {
         if index == 0 {
@@ -111,7 +111,7 @@ impl Line {
     }
 
     /// Puts the flow in at the place, where there is room. No memory is taken.
-    pub fn insert(&mut self, place: usize, flow: Flow)
+    pub fn insert(&mut self, place: usize, flow: SharedFlow)
         requires place { place ≤ length self.old.flows }
         requires room { 0 < self.old.room }
         ensures flows { self.new.flows ≡ insert self.old.flows place flow }
@@ -125,7 +125,7 @@ impl Line {
     }
 
     /// Takes the flow out wherever it is. No memory is taken, and no room is lost.
-    pub fn take_out(&mut self, flow: &Flow)
+    pub fn take_out(&mut self, flow: &SharedFlow)
         ensures flows { self.new.flows ≡ filter (λ z. not (⟦<Flow as PartialEq>⟧.eq z flow.now)) self.old.flows }
         ensures room { self.old.room ≤ self.new.room }
     {

@@ -22,7 +22,7 @@ use crate::number::write_key;
 use crate::sieve::Sieve;
 use crate::sieves::Sieves;
 use crate::turns::Turns;
-use flow_table::flow::Flow;
+use flow_table::flow::SharedFlow;
 use flow_table::lookup::Lookup;
 use flow_table::matching::beats;
 use inet_packet::packet::Packet;
@@ -69,21 +69,21 @@ impl TupleSpace {
     }
 
     // Gives the flow's mask a number, and a turn in the flow's table.
-    fn serve(&mut self, flow: &Flow) -> Result<(), NoMemory>
+    fn serve(&mut self, flow: &SharedFlow) -> Result<(), NoMemory>
         ensures served { OnOk result (IsServed self.new.masks self.new.turns flow.now 0 0) }
         ensures stays { (f : Flow) (p r : ℕ) → IsServed self.old.masks self.old.turns f p r → IsServed self.new.masks self.new.turns f p r }
         ensures bunches { self.new.bunches ≡ self.old.bunches }
     {
-        let bits = bits_of(flow.cube.get());
+        let row = flow.get();
+        let cube = row.cube.get();
+        let bits = bits_of(cube);
         let asks = asks_of(&bits);
-        let number = self
-            .masks
-            .number_for(asks.as_slice(), flow.cube.get().at.is_some())?;
-        self.turns.add(flow.table, number)
+        let number = self.masks.number_for(asks.as_slice(), cube.at.is_some())?;
+        self.turns.add(row.table, number)
     }
 
     // Makes room for the flow.
-    fn promise(&mut self, flow: &Flow) -> Result<(), NoMemory>
+    fn promise(&mut self, flow: &SharedFlow) -> Result<(), NoMemory>
         ensures masks { self.new.masks ≡ self.old.masks }
         ensures turns { self.new.turns ≡ self.old.turns }
         ensures flows { flows_in self.new.bunches ≡ flows_in self.old.bunches }
@@ -95,7 +95,7 @@ impl TupleSpace {
     }
 
     // Takes the flow out, if it is held.
-    fn take_out(&mut self, flow: &Flow)
+    fn take_out(&mut self, flow: &SharedFlow)
         ensures masks { self.new.masks ≡ self.old.masks }
         ensures turns { self.new.turns ≡ self.old.turns }
         ensures kept { (f : Flow) → Among f (flows_in self.new.bunches) ↔ (Among f (flows_in self.old.bunches) × ¬ (f ≡ flow.now)) }
@@ -135,7 +135,7 @@ impl TupleSpace {
     }
 
     // Puts a flow in whose mask has a number and a turn, where room was promised.
-    fn put(&mut self, flow: Flow)
+    fn put(&mut self, flow: SharedFlow)
         requires served { IsServed self.old.masks self.old.turns flow 0 0 }
         requires room { 0 < promised_under self.old.bunches (key_in self.old.masks flow) }
         requires fresh { ¬ Among flow (flows_in self.old.bunches) }
@@ -147,10 +147,10 @@ impl TupleSpace {
         let mut key = Key::new();
         let number = write_key(&self.masks, &flow, &mut key);
         self.buckets.hold();
-        self.turns
-            .raise(flow.table, number, flow.priority, flow.rank);
+        let row = flow.get();
+        self.turns.raise(row.table, number, row.priority, row.rank);
         self.sieves
-            .note(flow.table, number, &bits_of(flow.cube.get()));
+            .note(row.table, number, &bits_of(row.cube.get()));
         self.buckets.put(key.as_slice(), flow);
         self.buckets.hold();
     }
@@ -165,7 +165,7 @@ impl TupleSpace {
         values: &[u64; 30],
         passed: u128,
         key: &mut Key,
-    ) -> Option<&Flow>
+    ) -> Option<&SharedFlow>
         requires values { values.now ≡ field_values regs.now packet.now }
         requires passed { (bit : ℕ) → bit < 128 → IsLetIn self.now.sieves table values.now bit → HasBit passed bit }
         ensures { option_copied result ≡ first_under self.now.masks self.now.bunches table number regs.now packet.now }
@@ -195,7 +195,7 @@ impl TupleSpace {
     }
 
     // The best of the flows that match.
-    fn best(&self, table: u8, regs: &Regs, packet: &Packet) -> Option<&Flow>
+    fn best(&self, table: u8, regs: &Regs, packet: &Packet) -> Option<&SharedFlow>
         ensures found { IfSome result (λ f. IsBest (flows_in self.now.bunches) table regs.now packet.now f.now) }
         ensures none { IfNone result (NoneMatches (flows_in self.now.bunches) table regs.now packet.now) }
     {
@@ -204,7 +204,7 @@ impl TupleSpace {
         let turns = self.turns.of(table);
         let passed = self.passed(table, turns.len(), &values);
         let mut key = Key::new();
-        let mut best: Option<&Flow> = None;
+        let mut best: Option<&SharedFlow> = None;
         for turn in turns {
             if let Some(held) = best {
                 if !turn.is_above(held) {
@@ -226,7 +226,7 @@ fn mask_at(masks: &[Mask], number: usize) -> Option<&Mask>
 }
 
 // The first of the two, unless the second beats it.
-fn better<'a>(best: Option<&'a Flow>, found: Option<&'a Flow>) -> Option<&'a Flow>
+fn better<'a>(best: Option<&'a SharedFlow>, found: Option<&'a SharedFlow>) -> Option<&'a SharedFlow>
     ensures { IsBetter (option_copied best.entry) (option_copied found.entry) (option_copied result) }
 {
     match best {
@@ -243,23 +243,23 @@ impl Lookup for TupleSpace {
 
     ghost ready = { IsSpaceReady };
 
-    fn lookup(&self, table: u8, regs: &Regs, packet: &Packet) -> Option<&Flow> {
+    fn lookup(&self, table: u8, regs: &Regs, packet: &Packet) -> Option<&SharedFlow> {
         self.best(table, regs, packet)
     }
 
-    fn prepare(&mut self, delta: &Delta<Flow>) -> Result<(), NoMemory> {
+    fn prepare(&mut self, delta: &Delta<SharedFlow>) -> Result<(), NoMemory> {
         self.serve_each(delta.added.as_slice())?;
         self.promise_each(delta.added.as_slice())?;
         self.sift_each(delta.added.as_slice())
     }
 
-    fn replace(&mut self, delta: Delta<Flow>) {
+    fn replace(&mut self, delta: Delta<SharedFlow>) {
         let Delta { added, removed } = delta;
         self.take_out_each(removed.as_slice());
         self.put_each(added);
     }
 
-    fn flow(&self, index: usize) -> Option<&Flow> {
+    fn flow(&self, index: usize) -> Option<&SharedFlow> {
         self.buckets.hold();
         self.buckets.flow(index)
     }

@@ -5,7 +5,7 @@ ghost use Rattle.tuple_space.specs.declared.turn.Turn.{Turn};
 ghost use Rattle.tuple_space.specs.Turns.{IsUnder, IsByBound, HasTurn, turns_of};
 ghost use Rattle.flow_table.specs.declared.flow.Flow.{Flow};
 
-use flow_table::flow::Flow;
+use flow_table::flow::SharedFlow;
 
 /// The turn of a mask: its number, and a bound of the priority and then the rank of its flows.
 #[derive(Clone, Copy, PartialEq, Eq, Debug)]
@@ -17,9 +17,10 @@ pub struct Turn {
 
 impl Turn {
     /// Whether a flow of this turn may beat the flow.
-    pub fn is_above(&self, flow: &Flow) -> bool
+    pub fn is_above(&self, flow: &SharedFlow) -> bool
         ensures { IsTrue result ↔ ((flow.now.priority < self.now.priority) ⊎ ((flow.now.priority ≡ self.now.priority) × (flow.now.rank < self.now.rank))) }
     {
+        let flow = flow.get();
         flow.priority < self.priority || flow.priority == self.priority && flow.rank < self.rank
     }
 

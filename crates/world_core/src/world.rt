@@ -136,7 +136,10 @@ impl World {
         ensures flow { option_copied result ≡ flow_at self.now.sim chassis.now index }
         ensures once { (flows : List Flow) → at_name self.now.sim.chassis chassis.now ≡ Some flows → EachOnce flows }
     {
-        self.sim.flow(chassis, index)
+        match self.sim.flow(chassis, index) {
+            Some(flow) => Some(flow.get()),
+            None => None,
+        }
     }
 
     /// The simulated chassis, over what holds the flows of each.

@@ -3,7 +3,7 @@ ghost use Rattle.ovn_base.specs.lists.Once.{EachOnce};
 ghost use Rattle.std.specs.Prelude.{IfOk};
 ghost use Rattle.world_setup.specs.Holding.{HaveSame};
 
-use flow_table::flow::Flow;
+use flow_table::flow::SharedFlow;
 use flow_table::lookup::Lookup;
 use ovn_base::delta::Delta;
 use ovn_base::list::List;
@@ -15,7 +15,7 @@ use tuple_space::space::TupleSpace;
 pub type Held = TupleSpace;
 
 // A classifier that holds these flows.
-pub(crate) fn holding(alloc: Global, flows: List<Flow>) -> Result<Held, NoMemory>
+pub(crate) fn holding(alloc: Global, flows: List<SharedFlow>) -> Result<Held, NoMemory>
     requires { EachOnce flows }
     ensures { IfOk result (λ held. HaveSame flows (⟦<Held as Lookup>⟧.flows held)) }
 {

@@ -49,8 +49,7 @@ use crate::turn_event::TurnEvent;
 use chassis_sim::change::SimChange;
 use conn_zones::change::HomeChange;
 use event_lines::refusal::{Refusal, StepFault};
-use flow_table::exact::exact_flow_clone;
-use flow_table::flow::Flow;
+use flow_table::flow::SharedFlow;
 use indexmap::IndexMap;
 use nb_edits::edit::plan;
 use nb_edits::plan::{EditFault, EditPlan};
@@ -125,14 +124,13 @@ pub struct Turn {
 }
 
 // All flows that every chassis has.
-fn all_lowered(alloc: Global, lowered: &LoweredFlows) -> Result<List<Flow>, NoMemory>
+fn all_lowered(alloc: Global, lowered: &LoweredFlows) -> Result<List<SharedFlow>, NoMemory>
     ensures shown { IfOk result (λ flows. flows ≡ keys_of lowered.now.counts) }
     ensures listed { IfOk result (λ flows. (l : Lowering) → CanCompile l → HaveLowered l lowered.now → ListsEach (IsLoweredIn l) flows) }
 {
-    exact_flow_clone();
     let mut flows = List::new(alloc);
     'flows: while let Some(flow) = lowered.flow(flows.len()) {
-        flows.push(flow.copy()?)?;
+        flows.push(flow.share()?)?;
     }
     Ok(flows)
 }
@@ -161,7 +159,7 @@ fn tables_of(
 }
 
 // Nothing comes and nothing goes.
-fn no_delta(alloc: Global) -> Delta<Flow>
+fn no_delta(alloc: Global) -> Delta<SharedFlow>
     ensures { result ≡ record { added = []; removed = [] } }
 {
     Delta {
@@ -175,7 +173,7 @@ fn all_deltas(
     alloc: Global,
     lowered: &Option<LoweredPlan>,
     patches: &[(Name, TablePatch)],
-) -> Result<List<(Name, Delta<Flow>)>, NoMemory>
+) -> Result<List<(Name, Delta<SharedFlow>)>, NoMemory>
     ensures { IfOk result (λ deltas. deltas ≡ map (λ p. (p.0, both_deltas (every_delta lowered.now) p.1.delta)) patches.now) }
 {
     match lowered {

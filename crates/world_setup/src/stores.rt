@@ -20,7 +20,7 @@ ghost use Rattle.world_setup.specs.Setup.{ArePatches, HaveStores, HasRowsAt, Has
 
 use crate::ground::{Ground, GroundChange};
 use flow_table::exact::exact_flow_clone;
-use flow_table::flow::Flow;
+use flow_table::flow::SharedFlow;
 use indexmap::IndexMap;
 use ovn_base::delta::Delta;
 use ovn_base::list::List;
@@ -39,7 +39,7 @@ fn prepare_one(
     alloc: Global,
     stores: &mut Stores,
     maps: &Maps<'_>,
-    everywhere: &[(FlowUnit, List<Flow>)],
+    everywhere: &[(FlowUnit, List<SharedFlow>)],
 ) -> Result<Option<TablePatch>, NoMemory>
     requires keyed { IsKeyed (basis_of maps.now).net (basis_of maps.now).keys }
     requires once { EachOnce (keys_of everywhere.now) }
@@ -90,7 +90,7 @@ pub(crate) fn prepare_each(
 }
 
 // One delta and then the other.
-fn joined(one: &Delta<Flow>, other: &Delta<Flow>) -> Result<Delta<Flow>, NoMemory>
+fn joined(one: &Delta<SharedFlow>, other: &Delta<SharedFlow>) -> Result<Delta<SharedFlow>, NoMemory>
     ensures { IfOk result (λ both. both ≡ both_deltas one.now other.now) }
 {
     exact_flow_clone();
@@ -103,9 +103,9 @@ fn joined(one: &Delta<Flow>, other: &Delta<Flow>) -> Result<Delta<Flow>, NoMemor
 /// What comes to each chassis and goes: to every one the same, and then what its own patch says.
 pub(crate) fn deltas_of(
     alloc: Global,
-    every: &Delta<Flow>,
+    every: &Delta<SharedFlow>,
     patches: &[(Name, TablePatch)],
-) -> Result<List<(Name, Delta<Flow>)>, NoMemory>
+) -> Result<List<(Name, Delta<SharedFlow>)>, NoMemory>
     ensures { IfOk result (λ deltas. deltas ≡ map (λ p. (p.0, both_deltas every.now p.1.delta)) patches.now) }
 {
     let mut deltas = List::new(alloc);

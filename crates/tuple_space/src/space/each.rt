@@ -7,15 +7,15 @@ ghost use Rattle.tuple_space.specs.Bunches.{flows_in, promised_under};
 ghost use Rattle.tuple_space.specs.Space.{IsServed, count_under};
 
 use crate::space::TupleSpace;
-use flow_table::flow::Flow;
+use flow_table::flow::SharedFlow;
 use ovn_base::list::List;
 use ovn_base::memory::NoMemory;
 
 // How many of the flows each table has.
-fn tables_of(flows: &[Flow]) -> [usize; 256] {
+fn tables_of(flows: &[SharedFlow]) -> [usize; 256] {
     let mut many: [usize; 256] = [0; 256];
     for flow in flows {
-        let table = usize::from(flow.table);
+        let table = usize::from(flow.get().table);
         many[table] = many[table].saturating_add(1);
     }
     many
@@ -23,7 +23,7 @@ fn tables_of(flows: &[Flow]) -> [usize; 256] {
 
 impl TupleSpace {
     // Gives the mask of each flow a number and a turn.
-    pub(super) fn serve_each(&mut self, flows: &[Flow]) -> Result<(), NoMemory>
+    pub(super) fn serve_each(&mut self, flows: &[SharedFlow]) -> Result<(), NoMemory>
         ensures served { OnOk result ((f : Flow) → Among f flows.now → IsServed self.new.masks self.new.turns f 0 0) }
         ensures bunches { self.new.bunches ≡ self.old.bunches }
     {
@@ -34,7 +34,7 @@ impl TupleSpace {
     }
 
     // Makes room for each flow.
-    pub(super) fn promise_each(&mut self, flows: &[Flow]) -> Result<(), NoMemory>
+    pub(super) fn promise_each(&mut self, flows: &[SharedFlow]) -> Result<(), NoMemory>
         ensures masks { self.new.masks ≡ self.old.masks }
         ensures turns { self.new.turns ≡ self.old.turns }
         ensures flows { flows_in self.new.bunches ≡ flows_in self.old.bunches }
@@ -47,7 +47,7 @@ impl TupleSpace {
     }
 
     // Takes the flows out.
-    pub(super) fn take_out_each(&mut self, flows: &[Flow])
+    pub(super) fn take_out_each(&mut self, flows: &[SharedFlow])
         ensures masks { self.new.masks ≡ self.old.masks }
         ensures turns { self.new.turns ≡ self.old.turns }
         ensures kept { (f : Flow) → Among f (flows_in self.new.bunches) ↔ (Among f (flows_in self.old.bunches) × ¬ Among f flows.now) }
@@ -59,7 +59,7 @@ impl TupleSpace {
     }
 
     // Puts flows in that aren't held, and for which all is ready.
-    pub(super) fn put_each(&mut self, flows: List<Flow>)
+    pub(super) fn put_each(&mut self, flows: List<SharedFlow>)
         requires once { EachOnce flows }
         requires served { (f : Flow) → Among f flows → IsServed self.old.masks self.old.turns f 0 0 }
         requires room { (k : List ℕ) → count_under self.old.masks k flows ≤ promised_under self.old.bunches k }
@@ -72,7 +72,7 @@ impl TupleSpace {
     }
 
     // Makes the sieves anew that are too small for the flows.
-    pub(super) fn sift_each(&mut self, flows: &[Flow]) -> Result<(), NoMemory>
+    pub(super) fn sift_each(&mut self, flows: &[SharedFlow]) -> Result<(), NoMemory>
         ensures masks { self.new.masks ≡ self.old.masks }
         ensures turns { self.new.turns ≡ self.old.turns }
         ensures bunches { self.new.bunches ≡ self.old.bunches }

@@ -18,7 +18,7 @@ returns-in_err-prepare c = subst IsProper (sym c.prepare.ensures.same) c.require
 
 pub prepare-requires : goal.prepare-requires
 prepare-requires c =
-    let goes : c.push.new.self ≡ c.args.flow ∷ [] = c.in_ok-push.ensures.ok ∙ ap (λ l. l ++ c.in_ok-copy.field-0 ∷ []) c.new-removed.ensures ∙ ap (λ f. f ∷ []) c.in_ok-copy.ensures in
+    let goes : c.push.new.self ≡ c.args.flow ∷ [] = c.in_ok-push.ensures.ok ∙ ap (λ l. l ++ c.in_ok-share.field-0 ∷ []) c.new-removed.ensures ∙ ap (λ f. f ∷ []) c.in_ok-share.ensures in
     delta_of_any _ _ c.args.flow (c.in_ok-push-2.ensures.ok ∙ ap (λ l. l ++ c.args.flow ∷ []) c.new-added.ensures) (subst (λ l. Among c.args.flow l) (sym goes) here)
 
 pub returns : goal.returns

@@ -7,4 +7,4 @@ use Rattle.lookup_tests.proofs.flows.change.Goals as goal
 pub prepare-requires : goal.prepare-requires
 prepare-requires g c =
     let named : Among c.args.comes (c.args.goes ++ c.args.comes ∷ []) = among_right c.args.comes c.args.goes (c.args.comes ∷ []) here in
-    delta_of_any _ _ c.args.comes (c.in_ok-push-2.ensures.ok ∙ ap (λ l. l ++ c.args.comes ∷ []) c.new-added.ensures) (subst (λ l. Among c.args.comes l) (sym (c.in_ok-push.ensures.ok ∙ ap (λ f. c.args.goes ++ f ∷ []) c.in_ok-copy.ensures)) named)
+    delta_of_any _ _ c.args.comes (c.in_ok-push-2.ensures.ok ∙ ap (λ l. l ++ c.args.comes ∷ []) c.new-added.ensures) (subst (λ l. Among c.args.comes l) (sym (c.in_ok-push.ensures.ok ∙ ap (λ f. c.args.goes ++ f ∷ []) c.in_ok-share.ensures)) named)

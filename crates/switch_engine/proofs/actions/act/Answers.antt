@@ -1,5 +1,6 @@
 use Rattle.std.proofs.Common.{[], ◌∷◌, ◌++◌, ap, ◌∙◌, rules, refl}
 use Rattle.switch_engine.specs.declared.effect.Effect.TheVariants as effect
+use Rattle.switch_engine.specs.Actions.{frame_to}
 use Rattle.switch_engine.proofs.Doings.{does_drop, does_all, by_op, does_go, does_frame, does_output, does_patch}
 use Rattle.switch_engine.proofs.actions.act.Goals as goal
 
@@ -17,11 +18,11 @@ returns-in_ok-drop_copy-in-Drop-clause-does c =
     by_op c.args.entry.now c.args.now c.in-Drop.is c.requires.in_range (does_drop c.in-Drop.cause c.in_ok-drop_copy-in-Drop.ensures.effects (λ rest. refl))
 
 pub returns-in_ok-push-in-Frame-clause-does : goal.returns-in_ok-push-in-Frame-clause-does
-returns-in_ok-push-in-Frame-clause-does c = by_op c.args.entry.now c.args.now c.in-Frame.is c.requires.in_range (does_frame c.args.entry.now c.args.now c.in-Frame.chassis c.requires.in_range.0 (c.in_ok-push-in-Frame.ensures.ok ∙ ap (λ e. c.args.effects.now ++ e ∷ []) c.in_ok-framed-in-Frame.ensures))
+returns-in_ok-push-in-Frame-clause-does c = by_op c.args.entry.now c.args.now c.in-Frame.is c.requires.in_range (does_frame c.args.entry.now c.args.now c.in-Frame.chassis c.requires.in_range.0 (c.in_ok-push-in-Frame.ensures.ok ∙ ap (λ e. c.args.effects.now ++ e ∷ []) (c.in_ok-framed-in-Frame.ensures ∙ ap (λ name. frame_to name c.args.copy.now) c.get.ensures)))
 
 pub returns-in_ok-push-in-Output-clause-does : goal.returns-in_ok-push-in-Output-clause-does
 returns-in_ok-push-in-Output-clause-does c =
-    by_op c.args.entry.now c.args.now c.in-Output.is c.requires.in_range (does_output c.args.entry.now c.args.now c.in-Output.port (c.in_ok-push-in-Output.ensures.ok ∙ ap (λ packet. c.args.effects.now ++ effect.Out c.in-Output.port packet ∷ []) c.in_ok-copy-in-Output.ensures))
+    by_op c.args.entry.now c.args.now c.in-Output.is c.requires.in_range (does_output c.args.entry.now c.args.now c.in-Output.port (c.in_ok-push-in-Output.ensures.ok ∙ ap (λ packet. c.args.effects.now ++ effect.Out c.get-in-Output.result.now packet ∷ []) c.in_ok-copy-in-Output.ensures ∙ ap (λ port. c.args.effects.now ++ effect.Out port c.args.copy.now.packet ∷ []) c.get-in-Output.ensures))
 
 pub returns-in_ok-turn-in-Patch-clause-does : goal.returns-in_ok-turn-in-Patch-clause-does
 returns-in_ok-turn-in-Patch-clause-does c =

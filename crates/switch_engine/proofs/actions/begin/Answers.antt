@@ -1,4 +1,4 @@
-use Rattle.std.proofs.Common.{sym, ap}
+use Rattle.std.proofs.Common.{sym, ap, ◌∙◌}
 use Rattle.switch_engine.specs.Commits.{begins, balances}
 use Rattle.switch_engine.proofs.Doings.{does_same, of_op, by_zone}
 use Rattle.switch_engine.proofs.actions.begin.Goals as goal
@@ -14,4 +14,4 @@ returns-in_ok-turn-in-Snat-clause-does c = λ entry. of_op entry c.args.now c.in
 
 pub returns-in_ok-turn-in-Balance-clause-does : goal.returns-in_ok-turn-in-Balance-clause-does
 returns-in_ok-turn-in-Balance-clause-does c = λ entry. of_op entry c.args.now c.in-Balance.is (by_zone c.in-Balance.zone c.zone_number-number-in-Balance.result c.zone_number-number-in-Balance.ensures
-    (does_same (λ d x z. ap (λ bs. begins c.zone_number-number-in-Balance.result (balances c.args.now c.in-Balance.vip bs) d) (sym c.as_slice.ensures)) c.in_ok-turn-in-Balance.ensures.does))
+    (does_same (λ d x z. ap (λ bs. begins c.zone_number-number-in-Balance.result (balances c.args.now c.in-Balance.vip bs) d) (sym (c.as_slice.ensures ∙ c.get.ensures))) c.in_ok-turn-in-Balance.ensures.does))

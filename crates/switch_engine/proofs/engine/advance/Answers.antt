@@ -1,7 +1,8 @@
-use Rattle.std.proofs.Common.{[], ◌∷◌, ◌++◌, reverse, sym, ◌∙◌, subst, append-nil}
+use Rattle.std.proofs.Common.{[], ◌∷◌, ◌++◌, reverse, sym, ap, ◌∙◌, subst, append-nil}
 use Rattle.std.specs.Prelude.{List, Option, Some, None, cond}
 use Rattle.std.proofs.lemmas.Result.{err_from_is_err_and}
 use Rattle.std.specs.List.{AllByRecursion}
+use Rattle.flow_table.specs.declared.flow.Flow.{Flow}
 use Rattle.switch_engine.specs.declared.carried.Carried.{Carried}
 use Rattle.switch_engine.specs.Advance.{Brings, IsCarriedInRange}
 use Rattle.switch_engine.specs.Proper.{Sets}
@@ -21,7 +22,7 @@ returns-in_err-add_step-clause-err g c =
     rw failed.1 (keeps_both c.args.out.now c.add_step.new.steps [] c.args.out.now.effects (c.in_err-add_step.ensures.err ∙ sym (append-nil c.args.out.now.walk)) (record { more = []; all_effects = sym (append-nil c.args.out.now.effects) }))
 
 pub run_ops-requires-clause-sets : goal.run_ops-requires-clause-sets
-run_ops-requires-clause-sets g c = subst (AllByRecursion Sets) (sym (c.as_slice.ensures ∙ c.get.ensures)) (proper_sets c.in-Some.flow.now (c.requires.proper c.in-Some.flow.now c.in-Some.ensures.found.held))
+run_ops-requires-clause-sets g c = subst (AllByRecursion Sets) (sym (c.as_slice.ensures ∙ ap (λ (f : Flow). f.ops) c.get.ensures)) (proper_sets c.in-Some.flow.now (c.requires.proper c.in-Some.flow.now c.in-Some.ensures.found.held))
 
 pub run_ops-requires-clause-in_range : goal.run_ops-requires-clause-in_range
 run_ops-requires-clause-in_range g c = (c.requires.in_range, subst (AllByRecursion IsCarriedInRange) (sym c.new-made.ensures) tt)
@@ -29,7 +30,7 @@ run_ops-requires-clause-in_range g c = (c.requires.in_range, subst (AllByRecursi
 pub returns-clause-ok : goal.returns-clause-ok
 returns-clause-ok g c =
     let itself : Option Carried = cond c.in_ok-goes_on.goes_on (Some c.run_ops.new.copy) None in
-    advanced c.in-Some.flow.now c.in-Some.ensures.found c.as_slice.result.now (c.as_slice.ensures ∙ c.get.ensures) c.args.out.now c.add_step.new.steps c.run_ops.new.effects itself c.run_ops.new.made
+    advanced c.in-Some.flow.now c.in-Some.ensures.found c.as_slice.result.now (c.as_slice.ensures ∙ ap (λ (f : Flow). f.ops) c.get.ensures) c.args.out.now c.add_step.new.steps c.run_ops.new.effects itself c.run_ops.new.made
     (subst (λ (made : List Carried). Brings c.args.entry.now c.args.now c.as_slice.result.now c.args.copy.now itself c.args.zones.now.entries c.run_ops.new.zones.entries c.args.out.now.effects c.run_ops.new.effects made c.run_ops.new.made)
     c.new-made.ensures c.in_ok-goes_on.ensures.brings)
     (reverse c.args.pending.now) (cond c.in_ok-goes_on.goes_on (c.run_ops.new.copy ∷ []) [] ++ reverse c.put_all.new.pending)

@@ -10,14 +10,14 @@ use Rattle.world_setup.proofs.setup.all_lowered.Goals as goal
 pub flows-smaller : goal.flows-smaller
 flows-smaller c =
     let all = keys_of c.args.lowered.now.counts in
-    let longer : c.push.new.self ≡ c.flows.flows ++ c.in_ok-copy.field-0 ∷ [] = c.in_ok-push.ensures.ok in
-    let more : length c.push.new.self ≡ length (c.flows.flows ++ c.in_ok-copy.field-0 ∷ []) = ap length longer in
-    let one = length-append c.flows.flows (c.in_ok-copy.field-0 ∷ []) in
+    let longer : c.push.new.self ≡ c.flows.flows ++ c.in_ok-share.field-0 ∷ [] = c.in_ok-push.ensures.ok in
+    let more : length c.push.new.self ≡ length (c.flows.flows ++ c.in_ok-share.field-0 ∷ []) = ap length longer in
+    let one = length-append c.flows.flows (c.in_ok-share.field-0 ∷ []) in
     let within = slice_get_within all (length c.flows.flows) c.in-Some.flow.now (search rules) in
     omega (arith, more, one, within)
 
 pub flows-preserved : goal.flows-preserved
-flows-preserved c = read_more (keys_of c.args.lowered.now.counts) c.flows.flows c.push.new.self c.in_ok-copy.field-0 c.flows.invariant (search rules) c.in_ok-push.ensures.ok
+flows-preserved c = read_more (keys_of c.args.lowered.now.counts) c.flows.flows c.push.new.self c.in_ok-share.field-0 c.flows.invariant (search rules) c.in_ok-push.ensures.ok
 
 pub returns-clause-shown : goal.returns-clause-shown
 returns-clause-shown c = read_all (keys_of c.args.lowered.now.counts) c.flows.flows c.flows.invariant (search rules)
