@@ -71,6 +71,10 @@ first_port = FIRST_PORT
 abbrev pub last_port : ℕ
 last_port = LAST_PORT
 
+-- how many there are from the first to the last
+abbrev pub ports_to_pick : ℕ
+ports_to_pick = suc (last_port - first_port)
+
 abbrev pub may_pick : ConnectionList → Tuple → ℕ → Bool
 may_pick list back n = nat_le first_port n && (nat_le n last_port && is_free_port list back n)
 
@@ -81,7 +85,7 @@ some_from test from (suc n) = elim (test from) [ true ↦ true | false ↦ some_
 
 -- there is a port that may be picked; a protocol without ports has none
 abbrev pub has_free_port : ConnectionList → Tuple → Bool
-has_free_port list back = cond (has_ports back.protocol) (some_from (is_free_port list back) first_port 64512) false
+has_free_port list back = cond (has_ports back.protocol) (some_from (is_free_port list back) first_port ports_to_pick) false
 
 -- ---- how a program picks
 

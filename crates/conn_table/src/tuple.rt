@@ -70,8 +70,8 @@ impl Protocol {
         }
     }
 
-    // Whether its packets have ports, or an identifier.
-    pub(crate) fn has_ports(self) -> bool
+    /// Whether its packets have ports, or an identifier.
+    pub fn has_ports(self) -> bool
         ensures { result ≡ has_ports self }
     {
         match self {

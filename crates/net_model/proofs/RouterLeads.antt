@@ -2,7 +2,7 @@
 use Rattle.std.specs.Prelude.{◌≡◌, ℕ, Bool, true, false, Option, Some, None, cond, refl}
 use Rattle.std.proofs.lemmas.Bool.{false≢true}
 use Rattle.conn_table.specs.Connections.{ConnectionList, is_free}
-use Rattle.conn_table.specs.Picks.{to_address, with_port, is_free_port, first_port, may_pick, some_from, has_free_port, from_address, Chosen, choose_port}
+use Rattle.conn_table.specs.Picks.{to_address, with_port, is_free_port, first_port, ports_to_pick, may_pick, some_from, has_free_port, from_address, Chosen, choose_port}
 use Rattle.conn_table.specs.Tracking.{Seen, forward, reply, invalid, new, seen}
 use Rattle.conn_table.specs.Tuples.{reversed, reversed_protocol, with_tuple, has_ports}
 use Rattle.conn_table.specs.declared.tuple.Tuple.{Tuple}
@@ -85,7 +85,7 @@ pick_leads false d router r tuple t p h has = tells (drop_end cause.NoFreePort d
 free_has_ports : (list : ConnectionList) (back : Tuple) → has_free_port list back ≡ true → has_ports back.protocol ≡ true
 free_has_ports list back h = by (has_ports back.protocol) h
   where
-    by : (b : Bool) → cond b (some_from (is_free_port list back) first_port 64512) false ≡ true → b ≡ true
+    by : (b : Bool) → cond b (some_from (is_free_port list back) first_port ports_to_pick) false ≡ true → b ≡ true
     by true g = refl
     by false g = absurd (false≢true g)
 

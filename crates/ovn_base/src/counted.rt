@@ -3,7 +3,6 @@ ghost use Rattle.std.specs.Prelude.{◌≡◌, IfOk};
 
 use crate::memory::NoMemory;
 use std::alloc::{AllocError, Global};
-use std::cmp::Ordering;
 use std::fmt;
 use std::hash::{Hash, Hasher};
 use std::marker::Model;
@@ -43,7 +42,8 @@ impl<T: Drop> Counted<T> {
         })
     }
 
-    /// The same value, with one owner more. `NoMemory` only where there are more owners than can be counted.
+    /// The same value, with one owner more. `NoMemory` only where there are more owners than can be counted; no clause promises
+    /// that it isn't answered.
     pub fn share(&self) -> Result<Self, NoMemory>
         ensures { IfOk result (λ c. c ≡ self.now) }
     {

@@ -14,7 +14,7 @@ pub struct Delta<F> {
 }
 
 impl<F: Clone> Delta<F> {
-    /// An equal delta in memory of its own.
+    /// An equal delta, whose two lists are in memory of their own. What its values share with others they go on sharing.
     pub fn copy(&self) -> Result<Self, NoMemory>
         requires clones { (x y : F) → F.is_clone x y → y ≡ x }
         ensures { IfOk result (λ d. d ≡ self.now) }

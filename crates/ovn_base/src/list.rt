@@ -198,7 +198,7 @@ impl<T: Copy> List<T> {
 }
 
 impl<T: Clone> List<T> {
-    /// An equal list in memory of its own.
+    /// An equal list in memory of its own. What its elements share with others they go on sharing.
     pub fn copy(&self) -> Result<Self, NoMemory>
         requires clones { (x y : T) → T.is_clone x y → y ≡ x }
         ensures { IfOk result (λ l. l ≡ self.now) }

@@ -6,7 +6,7 @@ ghost use Rattle.conn_table.specs.declared.connection.State.TheVariants.{New};
 ghost use Rattle.conn_table.specs.Connections.{committed, IsPair};
 ghost use Rattle.conn_table.specs.Picks.{towards, is_free_backend, backend_index};
 ghost use Rattle.conn_table.specs.Tracking.{with_option, seen, seen_tuple, state_of};
-ghost use Rattle.conn_table.specs.Tuples.{reversed, tuple_of, with_tuple, has_ports, CanBecome};
+ghost use Rattle.conn_table.specs.Tuples.{reversed, tuple_of, with_tuple, CanBecome};
 ghost use Rattle.switch_engine.specs.Advance.{ActionDoes, Extends, IsCarriedInRange};
 ghost use Rattle.switch_engine.specs.Beginning.{tuple_if_new, new_tuple, IsNewAt, commit_refusal, list_after, refusal_in, zones_after, backend_of, backend_in, IsSource, IsSourceIn};
 ghost use Rattle.switch_engine.specs.Commits.{Newcomer, newcomer, adds, begins, commits, translates_to, balances, hides_behind, is_balanced};
@@ -131,13 +131,6 @@ enum Source {
     NoneFree,
 }
 
-// Whether the tuple's packets have ports, or an identifier.
-fn has_ports(tuple: &Tuple) -> bool
-    ensures { result ≡ has_ports tuple.now.protocol }
-{
-    !matches!(tuple.protocol, Protocol::Other(_))
-}
-
 // From where a connection comes whose answers have the tuple, if the port is kept.
 fn source_in(zone: &mut Zone, back: &Tuple) -> Source
     ensures source { IsSource back.now result zone.old }
@@ -146,7 +139,7 @@ fn source_in(zone: &mut Zone, back: &Tuple) -> Source
     if zone.is_free(back) {
         return Source::Kept;
     }
-    if !has_ports(back) {
+    if !back.protocol.has_ports() {
         return Source::NoneFree;
     }
     match zone.least_port(back) {

@@ -4,7 +4,7 @@ use Rattle.std.proofs.Common.{sym, ◌∙◌, subst, arith, inl, inr}
 use Rattle.std.proofs.lemmas.Bool.{false≢true, and_parts}
 use Rattle.std.proofs.lemmas.Bool.Decides.{leb_tells}
 use Rattle.conn_table.specs.Connections.{ConnectionList, IsPair}
-use Rattle.conn_table.specs.Picks.{from_address, with_port_of, with_port, is_free_port, first_port, last_port, some_from, may_pick, has_free_port}
+use Rattle.conn_table.specs.Picks.{from_address, with_port_of, with_port, is_free_port, first_port, last_port, ports_to_pick, some_from, may_pick, has_free_port}
 use Rattle.conn_table.specs.Tuples.{reversed, reversed_protocol, is_echo_reply, has_ports, HasItsPorts}
 use Rattle.conn_table.specs.declared.tuple.Protocol.{Protocol}
 use Rattle.conn_table.specs.declared.tuple.Protocol.TheVariants as protocol
@@ -19,7 +19,7 @@ use Rattle.sim_laws.specs.pipelines.HeldLists.{IsTupleWithin}
 pub ports_there : (list : ConnectionList) (back : Tuple) → has_free_port list back ≡ true → has_ports back.protocol ≡ true
 ports_there list back = by (has_ports back.protocol)
   where
-    by : (b : Bool) → cond b (some_from (is_free_port list back) first_port 64512) false ≡ true → b ≡ true
+    by : (b : Bool) → cond b (some_from (is_free_port list back) first_port ports_to_pick) false ≡ true → b ≡ true
     by true h = refl
     by false h = absurd (false≢true h)
 
