@@ -21,6 +21,7 @@ use ovn_base::list::List;
 use ovn_base::memory::NoMemory;
 use ovn_base::name::Name;
 use ovn_base::steps::Steps;
+use stage_rows::priorities::RULE_PRIORITY;
 use stage_rows::rows::go_on;
 use std::alloc::Global;
 
@@ -81,7 +82,7 @@ pub(crate) fn rule_row(alloc: Global, rule: &Acl) -> Result<LFlow, NoMemory>
     Ok(LFlow {
         pipeline: stage.pipeline(),
         stage,
-        priority: 1000 + rule.priority,
+        priority: RULE_PRIORITY + rule.priority,
         rank: rule_rank(rule.action),
         regs: List::new(alloc),
         matching: rule.matching.copy()?,

@@ -16,6 +16,7 @@ use ovn_base::address::Backend;
 use ovn_base::list::List;
 use ovn_base::memory::NoMemory;
 use ovn_base::name::Name;
+use stage_rows::priorities::{ROUTER_VIP_PRIORITY, SWITCH_VIP_PRIORITY};
 use stage_rows::rows::{IS_NEW, go_on, tracked_row};
 use stage_rows::terms::{field_is, ip_is, only};
 use std::alloc::Global;
@@ -110,7 +111,7 @@ fn switch_vip_row(
     regs.push(IS_NEW)?;
     let terms = to_vip(alloc, protocol, vip.at)?;
     let actions = balance_actions(alloc, records, balancer, vip, ZoneOf::In, stage)?;
-    Ok(tracked_row(stage, 55, regs, terms, actions))
+    Ok(tracked_row(stage, SWITCH_VIP_PRIORITY, regs, terms, actions))
 }
 
 /// Adds the rows of the balancer of that name on a switch, one for each of its virtual addresses.
@@ -145,7 +146,7 @@ fn router_vip_row(
     let regs = only(alloc, IS_NEW)?;
     let terms = to_vip(alloc, protocol, vip.at)?;
     let actions = balance_actions(alloc, records, balancer, vip, ZoneOf::Dnat, stage)?;
-    Ok(tracked_row(stage, 90, regs, terms, actions))
+    Ok(tracked_row(stage, ROUTER_VIP_PRIORITY, regs, terms, actions))
 }
 
 /// Adds the rows of the balancer of that name on a router, one for each of its virtual addresses.

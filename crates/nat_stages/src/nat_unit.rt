@@ -7,6 +7,7 @@ ghost use Rattle.stage_rows.specs.NatRows as spec;
 ghost use Rattle.stage_rows.specs.Reads as reads;
 ghost use Rattle.stage_rows.specs.Rows as rows;
 ghost use Rattle.stage_rows.specs.Units.{rows_of};
+ghost use Rattle.stage_rows.specs.declared.priorities.TheConstants.{SNAT_PRIORITY};
 ghost use Rattle.nat_stages.specs.NatList.{nat_list};
 ghost use Rattle.nat_stages.specs.NatLaw.{nat_law};
 
@@ -22,6 +23,7 @@ use ovn_base::list::List;
 use ovn_base::memory::NoMemory;
 use ovn_base::name::Name;
 use ovn_base::steps::Steps;
+use stage_rows::priorities::{DNAT_PRIORITY, SNAT_PRIORITY};
 use stage_rows::rows::{IS_INVALID, IS_NEW, go_on, tracked_row};
 use stage_rows::terms::{ip_in, ip_is, only};
 use std::alloc::Global;
@@ -46,7 +48,7 @@ fn push_dnat(alloc: Global, nat: &Nat, out: &mut List<LFlow>) -> Result<(), NoMe
     };
     let mut actions = only(alloc, to_logical)?;
     actions.push(go_on(Stage::RouterDnat))?;
-    out.push(tracked_row(Stage::RouterDnat, 80, regs, terms, actions))
+    out.push(tracked_row(Stage::RouterDnat, DNAT_PRIORITY, regs, terms, actions))
 }
 
 // ---- r_snat
@@ -58,11 +60,11 @@ fn source_row(
     state: RegIs,
     actions: List<Action>,
 ) -> Result<LFlow, NoMemory>
-    ensures { IfOk result (λ r. r ≡ rows.tracked_row Stage.RouterSnat (100 + nat.now.logical_ip.len) (state ∷ []) (rows.ip_in Field.Ip4Src nat.now.logical_ip ∷ []) actions) }
+    ensures { IfOk result (λ r. r ≡ rows.tracked_row Stage.RouterSnat (SNAT_PRIORITY + nat.now.logical_ip.len) (state ∷ []) (rows.ip_in Field.Ip4Src nat.now.logical_ip ∷ []) actions) }
 {
     let regs = only(alloc, state)?;
     let terms = only(alloc, ip_in(alloc, Field::Ip4Src, nat.logical_ip)?)?;
-    let priority = 100 + u16::from(nat.logical_ip.len);
+    let priority = SNAT_PRIORITY + u16::from(nat.logical_ip.len);
     Ok(tracked_row(Stage::RouterSnat, priority, regs, terms, actions))
 }
 

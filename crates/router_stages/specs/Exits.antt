@@ -17,6 +17,7 @@ use Rattle.ovn_base.specs.declared.name.Name.{Name}
 use Rattle.ovn_base.specs.names.SameName.{same_name}
 use Rattle.router_stages.specs.declared.facts.exits.Exit.{Exit}
 use Rattle.stage_rows.specs.Rows.{ip_in, match_row, go_on}
+use Rattle.stage_rows.specs.declared.priorities.TheConstants.{ROUTE_PRIORITY}
 
 -- what a row needs of a way by a network
 abbrev pub exit_of : Way → Exit
@@ -57,5 +58,5 @@ exits_among ports router ip = flat_map (exits_by router ip) ports
 -- the row of a route that leaves by the exit
 abbrev pub route_row_by : Route → Exit → LFlow
 route_row_by r exit =
-    match_row stage.RouterRoute (100 + 2 * r.prefix.len) (ip_in f.Ip4Dst r.prefix ∷ [])
+    match_row stage.RouterRoute (ROUTE_PRIORITY + 2 * r.prefix.len) (ip_in f.Ip4Dst r.prefix ∷ [])
     (a.DecTtl ∷ a.Set reg.Next r.nexthop.0 ∷ a.SetOut exit.port ∷ a.EthSrc exit.mac ∷ a.Set reg.Loopback 1 ∷ go_on stage.RouterRoute ∷ [])

@@ -8,11 +8,12 @@ use Rattle.logical_flows.specs.declared.flow.LFlow.{LFlow}
 use Rattle.logical_flows.specs.declared.stage.Stage.TheVariants as stage
 use Rattle.stage_rows.specs.RouterRows.{from_or_to_unroutable}
 use Rattle.stage_rows.specs.Rows.{field_among, drop_row}
+use Rattle.stage_rows.specs.declared.priorities.TheConstants.{OTHER_ARP_PRIORITY, SPENT_PRIORITY, UNROUTABLE_PRIORITY}
 
 -- what no router passes on
 abbrev pub dropped_rows : List LFlow
 dropped_rows =
-    drop_row stage.RouterInput 90 (e.Is p.Arp ∷ []) cause.Arp
-    ∷ drop_row stage.RouterInput 80 (from_or_to_unroutable ∷ []) cause.BadIp
-    ∷ drop_row stage.RouterInput 60 (field_among f.IpTtl (0 ∷ 1 ∷ []) ∷ []) cause.Ttl
+    drop_row stage.RouterInput OTHER_ARP_PRIORITY (e.Is p.Arp ∷ []) cause.Arp
+    ∷ drop_row stage.RouterInput UNROUTABLE_PRIORITY (from_or_to_unroutable ∷ []) cause.BadIp
+    ∷ drop_row stage.RouterInput SPENT_PRIORITY (field_among f.IpTtl (0 ∷ 1 ∷ []) ∷ []) cause.Ttl
     ∷ []

@@ -17,6 +17,7 @@ use Rattle.flow_table.specs.declared.flow.ZoneOf.TheVariants as zone
 use Rattle.logical_flows.specs.declared.flow.LFlow.{LFlow}
 use Rattle.logical_flows.specs.declared.stage.Stage.TheVariants as stage
 use Rattle.stage_rows.specs.Rows.{reg_is, is_new, field_is, ip_is, tracked_row, go_on}
+use Rattle.stage_rows.specs.declared.priorities.TheConstants.{ROUTER_VIP_PRIORITY, SWITCH_VIP_PRIORITY}
 
 -- a packet of the protocol to the virtual address and its port
 abbrev pub to_vip : BalancerProtocol → Backend → List Expr
@@ -30,14 +31,14 @@ balance online v z = a.Balance z v.at (filter online v.backends)
 -- on a switch, where a connection begins at its port of entry
 abbrev pub switch_vip_row : (Backend → Bool) → BalancerProtocol → Vip → LFlow
 switch_vip_row online kind v =
-    tracked_row stage.SwitchStateIn 55 (reg_is reg.Tracked 1 ∷ is_new ∷ []) (to_vip kind v.at) (balance online v zone.In ∷ go_on stage.SwitchStateIn ∷ [])
+    tracked_row stage.SwitchStateIn SWITCH_VIP_PRIORITY (reg_is reg.Tracked 1 ∷ is_new ∷ []) (to_vip kind v.at) (balance online v zone.In ∷ go_on stage.SwitchStateIn ∷ [])
 
 abbrev pub switch_vips : (Backend → Bool) → LoadBalancer → List LFlow
 switch_vips online b = map (switch_vip_row online b.protocol) b.vips
 
 -- on a gateway router
 abbrev pub router_vip_row : (Backend → Bool) → BalancerProtocol → Vip → LFlow
-router_vip_row online kind v = tracked_row stage.RouterDnat 90 (is_new ∷ []) (to_vip kind v.at) (balance online v zone.Dnat ∷ go_on stage.RouterDnat ∷ [])
+router_vip_row online kind v = tracked_row stage.RouterDnat ROUTER_VIP_PRIORITY (is_new ∷ []) (to_vip kind v.at) (balance online v zone.Dnat ∷ go_on stage.RouterDnat ∷ [])
 
 abbrev pub router_vips : (Backend → Bool) → LoadBalancer → List LFlow
 router_vips online b = map (router_vip_row online b.protocol) b.vips

@@ -4,6 +4,7 @@ use Rattle.ovn_base.specs.declared.address.Cidr.{Cidr}
 use Rattle.ovn_base.specs.declared.address.Ip4.{Ip4}
 use Rattle.ovn_base.specs.declared.address.Mac.{Mac}
 use Rattle.ovn_base.specs.declared.name.Name.{Name}
+use Rattle.ovn_base.specs.declared.stages.TheConstants.{OUTPUT_TABLE, REMOTE_TABLE}
 use Rattle.flow_table.specs.declared.flow.Cause.{Cause}
 use Rattle.inet_packet.specs.declared.regs.Reg.{Reg}
 use Rattle.inet_packet.specs.declared.regs.Reg.TheVariants as reg
@@ -113,8 +114,8 @@ all_of (x ∷ y ∷ xs) = e.All (x ∷ y ∷ xs)
 
 -- the table behind the stage's; the last stages of egress are before the output
 abbrev pub table_behind : Stage → ℕ
-table_behind stage.SwitchSecurityOut = 64
-table_behind stage.RouterSnat = 64
+table_behind stage.SwitchSecurityOut = OUTPUT_TABLE
+table_behind stage.RouterSnat = OUTPUT_TABLE
 table_behind s = stage_table s + 1
 
 -- goes on behind the stage
@@ -123,7 +124,7 @@ go_on s = a.Go (table_behind s)
 
 -- goes on where the port or group has been found to which the packet goes
 abbrev pub deliver : Action
-deliver = a.Go 32
+deliver = a.Go REMOTE_TABLE
 
 -- a row of a priority and a rank
 abbrev pub ranked_row : Stage → ℕ → ℕ → List RegIs → Expr → List Action → LFlow

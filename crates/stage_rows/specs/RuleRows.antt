@@ -11,6 +11,7 @@ use Rattle.logical_flows.specs.declared.flow.LFlow.{LFlow}
 use Rattle.logical_flows.specs.declared.stage.Stage.{Stage}
 use Rattle.logical_flows.specs.declared.stage.Stage.TheVariants as stage
 use Rattle.stage_rows.specs.Rows.{ranked_row, go_on}
+use Rattle.stage_rows.specs.declared.priorities.TheConstants.{RULE_PRIORITY}
 
 -- of equal priority, the row of the greatest rank is taken
 abbrev pub rule_rank : RuleAction → ℕ
@@ -33,4 +34,4 @@ rule_stage FromLport = stage.SwitchAclIn
 rule_stage ToLport = stage.SwitchAclOut
 
 abbrev pub rule_row : Acl → LFlow
-rule_row r = ranked_row (rule_stage r.direction) (1000 + r.priority) (rule_rank r.action) [] r.matching (a.Set reg.Verdict (verdict_number r.action) ∷ go_on (rule_stage r.direction) ∷ [])
+rule_row r = ranked_row (rule_stage r.direction) (RULE_PRIORITY + r.priority) (rule_rank r.action) [] r.matching (a.Set reg.Verdict (verdict_number r.action) ∷ go_on (rule_stage r.direction) ∷ [])

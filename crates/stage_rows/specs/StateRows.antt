@@ -9,6 +9,7 @@ use Rattle.logical_flows.specs.declared.flow.LFlow.{LFlow}
 use Rattle.logical_flows.specs.declared.flow.RegIs.{RegIs}
 use Rattle.logical_flows.specs.declared.stage.Stage.{Stage}
 use Rattle.stage_rows.specs.Rows.{reg_is, is_new, is_forward, is_reply, is_invalid, tracked_row, go_on}
+use Rattle.stage_rows.specs.declared.priorities.TheConstants.{ALLOWED_PRIORITY, INVALID_PRIORITY, REFUSED_PRIORITY, REPLY_PRIORITY, UNTRACKED_PRIORITY, UNTRACKED_REFUSED_PRIORITY}
 
 -- ---- registers
 
@@ -49,23 +50,23 @@ refusals s priority state first =
 
 -- what belongs to no connection, on a stateful switch and on another
 abbrev pub invalid_rows : Bool → Stage → List LFlow
-invalid_rows true s = state_row s 80 (is_invalid ∷ []) (a.Drop cause.Invalid ∷ []) ∷ []
-invalid_rows false s = refusals s 80 is_invalid []
+invalid_rows true s = state_row s INVALID_PRIORITY (is_invalid ∷ []) (a.Drop cause.Invalid ∷ []) ∷ []
+invalid_rows false s = refusals s INVALID_PRIORITY is_invalid []
 
 -- the rows of a stage whose connections are in the zone
 abbrev pub state_rows : Bool → Stage → ZoneOf → List LFlow
 state_rows stateful s z =
-    refusals s 100 is_untracked []
-    ++ (state_row s 90 (is_untracked ∷ []) (go_on s ∷ [])
-    ∷ state_row s 90 (is_on_track ∷ says_stateless ∷ []) (go_on s ∷ [])
+    refusals s UNTRACKED_REFUSED_PRIORITY is_untracked []
+    ++ (state_row s UNTRACKED_PRIORITY (is_untracked ∷ []) (go_on s ∷ [])
+    ∷ state_row s UNTRACKED_PRIORITY (is_on_track ∷ says_stateless ∷ []) (go_on s ∷ [])
     ∷ [])
     ++ invalid_rows stateful s
-    ++ (state_row s 70 (is_reply ∷ is_blocked ∷ []) (a.Drop cause.Blocked ∷ [])
-    ∷ state_row s 70 (is_reply ∷ is_unblocked ∷ []) (a.Touch ∷ a.Translate ∷ go_on s ∷ [])
+    ++ (state_row s REPLY_PRIORITY (is_reply ∷ is_blocked ∷ []) (a.Drop cause.Blocked ∷ [])
+    ∷ state_row s REPLY_PRIORITY (is_reply ∷ is_unblocked ∷ []) (a.Touch ∷ a.Translate ∷ go_on s ∷ [])
     ∷ [])
-    ++ refusals s 60 is_forward (a.Block ∷ [])
-    ++ refusals s 60 is_new []
-    ++ (state_row s 50 (is_forward ∷ []) (a.Unblock ∷ a.Touch ∷ a.Translate ∷ go_on s ∷ [])
-    ∷ state_row s 50 (is_new ∷ []) (a.Commit z ∷ go_on s ∷ [])
+    ++ refusals s REFUSED_PRIORITY is_forward (a.Block ∷ [])
+    ++ refusals s REFUSED_PRIORITY is_new []
+    ++ (state_row s ALLOWED_PRIORITY (is_forward ∷ []) (a.Unblock ∷ a.Touch ∷ a.Translate ∷ go_on s ∷ [])
+    ∷ state_row s ALLOWED_PRIORITY (is_new ∷ []) (a.Commit z ∷ go_on s ∷ [])
     ∷ state_row s 0 [] (go_on s ∷ [])
     ∷ [])

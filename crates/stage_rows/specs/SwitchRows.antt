@@ -25,6 +25,7 @@ use Rattle.std.specs.List.{list_any}
 use Rattle.ovn_base.specs.declared.limits.TheConstants.{FLOOD_KEY, UNKNOWN_KEY}
 use Rattle.stage_rows.specs.Facts.{port_ips, answered_if}
 use Rattle.stage_rows.specs.Rows.{on_some, when, field_is, mac_is, ip_in, ip_in_some, in_is, out_is, unicast, asks_for, match_row, drop_row, pass_row, base_row, go_on, deliver}
+use Rattle.stage_rows.specs.declared.priorities.TheConstants.{ADDRESS_PRIORITY, ANSWERED_PRIORITY, DISABLED_PRIORITY, FLOOD_PRIORITY, GOT_BY_PRIORITY, GROUP_SOURCE_PRIORITY, MAY_GET_PRIORITY, MAY_SEND_PRIORITY, MULTICAST_PRIORITY, NOT_GOT_PRIORITY, NOT_SENT_PRIORITY, OTHER_SOURCE_PRIORITY, OTHER_TARGET_PRIORITY, OWN_REQUEST_PRIORITY, REQUEST_PRIORITY, SENT_BY_PRIORITY, TRACKS_PRIORITY, VLAN_PRIORITY}
 
 -- ---- s_admit
 
@@ -33,15 +34,15 @@ abbrev pub group_bit : ℕ
 group_bit = 2 ^ 40
 
 abbrev pub port_admit : SwitchPort → List LFlow
-port_admit q = when (not q.enabled) (drop_row stage.SwitchAdmit 120 (in_is q.name ∷ []) cause.Disabled ∷ [])
+port_admit q = when (not q.enabled) (drop_row stage.SwitchAdmit DISABLED_PRIORITY (in_is q.name ∷ []) cause.Disabled ∷ [])
 
 abbrev pub from_group : Expr
 from_group = e.Compare f.EthSrc Eq (v.Number group_bit group_bit ∷ [])
 
 abbrev pub switch_admit : List LFlow
 switch_admit =
-    drop_row stage.SwitchAdmit 110 (from_group ∷ []) cause.BadSource
-    ∷ drop_row stage.SwitchAdmit 100 (field_is f.EthType 0x8100 ∷ []) cause.Vlan
+    drop_row stage.SwitchAdmit GROUP_SOURCE_PRIORITY (from_group ∷ []) cause.BadSource
+    ∷ drop_row stage.SwitchAdmit VLAN_PRIORITY (field_is f.EthType 0x8100 ∷ []) cause.Vlan
     ∷ base_row stage.SwitchAdmit
     ∷ []
 
@@ -68,15 +69,15 @@ sent_by q x = in_is q.name ∷ mac_is f.EthSrc x.mac ∷ []
 
 abbrev pub entry_port_security : SwitchPort → SecurityEntry → List LFlow
 entry_port_security q x =
-    map (λ terms. pass_row stage.SwitchPortSecurity 90 (sent_by q x ++ terms)) (may_send x)
-    ++ drop_row stage.SwitchPortSecurity 85 (sent_by q x ++ e.Any (e.Is p.Ip4 ∷ e.Is p.Arp ∷ []) ∷ []) cause.PortSecurity
-    ∷ pass_row stage.SwitchPortSecurity 80 (sent_by q x)
+    map (λ terms. pass_row stage.SwitchPortSecurity MAY_SEND_PRIORITY (sent_by q x ++ terms)) (may_send x)
+    ++ drop_row stage.SwitchPortSecurity OTHER_SOURCE_PRIORITY (sent_by q x ++ e.Any (e.Is p.Ip4 ∷ e.Is p.Arp ∷ []) ∷ []) cause.PortSecurity
+    ∷ pass_row stage.SwitchPortSecurity SENT_BY_PRIORITY (sent_by q x)
     ∷ []
 
 abbrev pub port_port_security : SwitchPort → List LFlow
 port_port_security q =
     flat_map (entry_port_security q) q.port_security
-    ++ when (has_some q.port_security) (drop_row stage.SwitchPortSecurity 70 (in_is q.name ∷ []) cause.PortSecurity ∷ [])
+    ++ when (has_some q.port_security) (drop_row stage.SwitchPortSecurity NOT_SENT_PRIORITY (in_is q.name ∷ []) cause.PortSecurity ∷ [])
 
 abbrev pub switch_port_security : List LFlow
 switch_port_security = base_row stage.SwitchPortSecurity ∷ []
@@ -91,7 +92,7 @@ abbrev pub tracks : Expr → List Expr
 tracks port = port ∷ e.Is p.Ip4 ∷ unicast ∷ []
 
 abbrev pub port_track_row : SwitchPort → LFlow
-port_track_row q = match_row stage.SwitchTrack 100 (tracks (in_is q.name)) (a.Find zone.In ∷ a.Set reg.Tracked 1 ∷ go_on stage.SwitchTrack ∷ [])
+port_track_row q = match_row stage.SwitchTrack TRACKS_PRIORITY (tracks (in_is q.name)) (a.Find zone.In ∷ a.Set reg.Tracked 1 ∷ go_on stage.SwitchTrack ∷ [])
 
 abbrev pub port_track : Network → SwitchPort → List LFlow
 port_track net q = when (tracks_port net q) (port_track_row q ∷ [])
@@ -116,8 +117,8 @@ answer_actions mac ip = a.ArpReply mac ip ∷ a.OutIsIn ∷ a.Set reg.Loopback 1
 -- requests of the port itself go on; those of others are answered
 abbrev pub address_arp : SwitchPort → Ip4 → Mac → List LFlow
 address_arp q ip mac =
-    pass_row stage.SwitchArp 100 (in_is q.name ∷ asks_for ip)
-    ∷ match_row stage.SwitchArp 50 (asks_for ip) (answer_actions mac ip)
+    pass_row stage.SwitchArp OWN_REQUEST_PRIORITY (in_is q.name ∷ asks_for ip)
+    ∷ match_row stage.SwitchArp REQUEST_PRIORITY (asks_for ip) (answer_actions mac ip)
     ∷ []
 
 abbrev pub port_arp : SwitchPort → List LFlow
@@ -136,10 +137,10 @@ goes_to_group key = a.Set reg.OutPort key ∷ deliver ∷ []
 
 -- a request for an address that the router port behind the port answers
 abbrev pub answered_lookup : SwitchPort → Ip4 → LFlow
-answered_lookup q ip = match_row stage.SwitchLookup 80 (e.Is p.EthMcast ∷ asks_for ip) (goes_to_port q)
+answered_lookup q ip = match_row stage.SwitchLookup ANSWERED_PRIORITY (e.Is p.EthMcast ∷ asks_for ip) (goes_to_port q)
 
 abbrev pub address_lookup : SwitchPort → Mac → LFlow
-address_lookup q mac = match_row stage.SwitchLookup 50 (mac_is f.EthDst mac ∷ []) (goes_to_port q)
+address_lookup q mac = match_row stage.SwitchLookup ADDRESS_PRIORITY (mac_is f.EthDst mac ∷ []) (goes_to_port q)
 
 abbrev pub port_lookup : Network → SwitchPort → List LFlow
 port_lookup net q =
@@ -158,17 +159,17 @@ unknown_actions false = a.Drop cause.UnknownAddress ∷ []
 
 abbrev pub switch_lookup : Bool → List LFlow
 switch_lookup takes =
-    match_row stage.SwitchLookup 70 (e.Is p.EthMcast ∷ []) (goes_to_group FLOOD_KEY)
+    match_row stage.SwitchLookup FLOOD_PRIORITY (e.Is p.EthMcast ∷ []) (goes_to_group FLOOD_KEY)
     ∷ match_row stage.SwitchLookup 0 [] (unknown_actions takes)
     ∷ []
 
 -- ---- s_track_out
 
 abbrev pub port_disabled_out : SwitchPort → List LFlow
-port_disabled_out q = when (not q.enabled) (drop_row stage.SwitchTrackOut 120 (out_is q.name ∷ []) cause.Disabled ∷ [])
+port_disabled_out q = when (not q.enabled) (drop_row stage.SwitchTrackOut DISABLED_PRIORITY (out_is q.name ∷ []) cause.Disabled ∷ [])
 
 abbrev pub port_track_out_row : SwitchPort → LFlow
-port_track_out_row q = match_row stage.SwitchTrackOut 100 (tracks (out_is q.name)) (a.Find zone.Out ∷ a.Set reg.Tracked 1 ∷ go_on stage.SwitchTrackOut ∷ [])
+port_track_out_row q = match_row stage.SwitchTrackOut TRACKS_PRIORITY (tracks (out_is q.name)) (a.Find zone.Out ∷ a.Set reg.Tracked 1 ∷ go_on stage.SwitchTrackOut ∷ [])
 
 abbrev pub port_track_out : Network → SwitchPort → List LFlow
 port_track_out net q = port_disabled_out q ++ when (tracks_port net q) (port_track_out_row q ∷ [])
@@ -192,15 +193,15 @@ got_by q x = out_is q.name ∷ mac_is f.EthDst x.mac ∷ []
 
 abbrev pub entry_security_out : SwitchPort → SecurityEntry → List LFlow
 entry_security_out q x =
-    map (λ terms. pass_row stage.SwitchSecurityOut 80 (got_by q x ++ terms)) (may_get x)
-    ++ drop_row stage.SwitchSecurityOut 75 (got_by q x ++ e.Is p.Ip4 ∷ []) cause.PortSecurity
-    ∷ pass_row stage.SwitchSecurityOut 70 (got_by q x)
+    map (λ terms. pass_row stage.SwitchSecurityOut MAY_GET_PRIORITY (got_by q x ++ terms)) (may_get x)
+    ++ drop_row stage.SwitchSecurityOut OTHER_TARGET_PRIORITY (got_by q x ++ e.Is p.Ip4 ∷ []) cause.PortSecurity
+    ∷ pass_row stage.SwitchSecurityOut GOT_BY_PRIORITY (got_by q x)
     ∷ []
 
 abbrev pub around_security_out : SwitchPort → List LFlow
 around_security_out q =
-    pass_row stage.SwitchSecurityOut 90 (out_is q.name ∷ e.Is p.EthMcast ∷ [])
-    ∷ drop_row stage.SwitchSecurityOut 60 (out_is q.name ∷ []) cause.PortSecurity
+    pass_row stage.SwitchSecurityOut MULTICAST_PRIORITY (out_is q.name ∷ e.Is p.EthMcast ∷ [])
+    ∷ drop_row stage.SwitchSecurityOut NOT_GOT_PRIORITY (out_is q.name ∷ []) cause.PortSecurity
     ∷ []
 
 abbrev pub port_security_out : SwitchPort → List LFlow

@@ -5,5 +5,6 @@
 pub mod answered;
 pub mod balancers;
 pub mod laws;
+pub mod priorities;
 pub mod rows;
 pub mod terms;

@@ -14,7 +14,7 @@ use match_language::expr::Expr;
 use ovn_base::address::{Ip4, Mac};
 use ovn_base::list::List;
 use ovn_base::memory::NoMemory;
-use ovn_base::stages::REMOTE_TABLE;
+use ovn_base::stages::{OUTPUT_TABLE, REMOTE_TABLE};
 use std::alloc::Global;
 
 // ---- what the list of connections says of a packet
@@ -50,7 +50,7 @@ pub fn go_on(stage: Stage) -> Action
     ensures { result ≡ spec.go_on stage }
 {
     match stage {
-        Stage::SwitchSecurityOut | Stage::RouterSnat => Action::Go(64),
+        Stage::SwitchSecurityOut | Stage::RouterSnat => Action::Go(OUTPUT_TABLE),
         _ => Action::Go(stage.table() + 1),
     }
 }

@@ -10,6 +10,7 @@ use match_language::field::{Field, Predicate};
 use nb_records::router::RouterPort;
 use ovn_base::list::List;
 use ovn_base::memory::NoMemory;
+use stage_rows::priorities::ROUTER_ADMIT_PRIORITY;
 use stage_rows::rows::{drop_row, pass_row};
 use stage_rows::terms::{in_is, mac_is, only};
 use std::alloc::Global;
@@ -24,11 +25,11 @@ pub(crate) fn push_port_admit(
 {
     let mut own = only(alloc, in_is(alloc, &port.name)?)?;
     own.push(mac_is(alloc, Field::EthDst, port.mac)?)?;
-    out.push(pass_row(alloc, Stage::RouterAdmit, 50, own)?)?;
+    out.push(pass_row(alloc, Stage::RouterAdmit, ROUTER_ADMIT_PRIORITY, own)?)?;
     let mut arp = only(alloc, in_is(alloc, &port.name)?)?;
     arp.push(Expr::Is(Predicate::EthMcast))?;
     arp.push(Expr::Is(Predicate::Arp))?;
-    out.push(pass_row(alloc, Stage::RouterAdmit, 50, arp)?)
+    out.push(pass_row(alloc, Stage::RouterAdmit, ROUTER_ADMIT_PRIORITY, arp)?)
 }
 
 /// Adds the row of a router: all else drops.

@@ -1,5 +1,6 @@
 //! The rows of r_input: answers to ARP and echo requests, and what no router passes on.
 ghost use Rattle.std.specs.Prelude.{◌≡◌, ◌++◌, ◌∷◌, [], map, IfOk, OnOk};
+ghost use Rattle.ovn_base.specs.declared.stages.TheConstants.{ROUTER_ROUTE_TABLE};
 ghost use Rattle.stage_rows.specs.Facts.{own_ips};
 ghost use Rattle.stage_rows.specs.RouterRows as spec;
 ghost use Rattle.stage_rows.specs.Rows as rows;
@@ -18,6 +19,10 @@ use ovn_base::address::{Cidr, Ip4};
 use ovn_base::list::List;
 use ovn_base::memory::NoMemory;
 use stage_rows::answered::answered_ips;
+use stage_rows::priorities::{
+    ECHO_PRIORITY, OTHER_ARP_PRIORITY, ROUTED_PRIORITY, ROUTER_REQUEST_PRIORITY, SPENT_PRIORITY,
+    UNROUTABLE_PRIORITY,
+};
 use stage_rows::rows::{answer_actions, drop_row, match_row, pass_row};
 use stage_rows::terms::{asks_for, field_among, field_is, in_is, ip_in_some, ip_is, only};
 use std::alloc::Global;
@@ -51,7 +56,13 @@ fn answered_input(alloc: Global, port: &RouterPort, ip: Ip4) -> Result<LFlow, No
     let mut terms = only(alloc, in_is(alloc, &port.name)?)?;
     terms.append(asks_for(alloc, ip)?)?;
     let actions = answer_actions(alloc, port.mac, ip)?;
-    Ok(match_row(alloc, Stage::RouterInput, 100, terms, actions))
+    Ok(match_row(
+        alloc,
+        Stage::RouterInput,
+        ROUTER_REQUEST_PRIORITY,
+        terms,
+        actions,
+    ))
 }
 
 // Adds the rows of these answered addresses.
@@ -81,7 +92,7 @@ fn asks_for_echo(alloc: Global, ip: Ip4) -> Result<List<Expr>, NoMemory>
 
 // Makes the answer, says that it is the router's own, and routes it: it is never translated.
 fn echo_actions(alloc: Global) -> Result<List<Action>, NoMemory>
-    ensures { IfOk result (λ l. l ≡ Action.EchoReply ∷ Action.Set Reg.Own 1 ∷ Action.Go 13 ∷ []) }
+    ensures { IfOk result (λ l. l ≡ Action.EchoReply ∷ Action.Set Reg.Own 1 ∷ Action.Go ROUTER_ROUTE_TABLE ∷ []) }
 {
     let mut actions = only(alloc, Action::EchoReply)?;
     actions.push(Action::Set {
@@ -98,7 +109,7 @@ fn echo_input(alloc: Global, ip: Ip4) -> Result<LFlow, NoMemory>
 {
     let terms = asks_for_echo(alloc, ip)?;
     let actions = echo_actions(alloc)?;
-    Ok(match_row(alloc, Stage::RouterInput, 70, terms, actions))
+    Ok(match_row(alloc, Stage::RouterInput, ECHO_PRIORITY, terms, actions))
 }
 
 // Adds the rows for echo requests for the port's own addresses.
@@ -154,11 +165,11 @@ fn push_dropped(alloc: Global, out: &mut List<LFlow>) -> Result<(), NoMemory>
     ensures { OnOk result (out.new ≡ out.old ++ dropped_rows) }
 {
     let arp = only(alloc, Expr::Is(Predicate::Arp))?;
-    push_drop(alloc, 90, arp, Cause::Arp, out)?;
+    push_drop(alloc, OTHER_ARP_PRIORITY, arp, Cause::Arp, out)?;
     let unroutable = only(alloc, from_or_to_unroutable(alloc)?)?;
-    push_drop(alloc, 80, unroutable, Cause::BadIp, out)?;
+    push_drop(alloc, UNROUTABLE_PRIORITY, unroutable, Cause::BadIp, out)?;
     let spent = only(alloc, field_among(alloc, Field::IpTtl, &[0, 1])?)?;
-    push_drop(alloc, 60, spent, Cause::Ttl, out)
+    push_drop(alloc, SPENT_PRIORITY, spent, Cause::Ttl, out)
 }
 
 /// Adds the rows of a router: other ARP, unroutable addresses and a time to live that is spent drop, and what is not of IPv4.
@@ -167,6 +178,6 @@ pub(crate) fn push_router_input(alloc: Global, out: &mut List<LFlow>) -> Result<
 {
     push_dropped(alloc, out)?;
     let ip4 = only(alloc, Expr::Is(Predicate::Ip4))?;
-    out.push(pass_row(alloc, Stage::RouterInput, 50, ip4)?)?;
+    out.push(pass_row(alloc, Stage::RouterInput, ROUTED_PRIORITY, ip4)?)?;
     push_drop(alloc, 0, List::new(alloc), Cause::NotIp4, out)
 }

@@ -11,6 +11,7 @@ use ovn_base::address::{Ip4, Mac};
 use ovn_base::list::List;
 use ovn_base::memory::NoMemory;
 use ovn_base::name::Name;
+use stage_rows::priorities::NEIGHBOUR_PRIORITY;
 use stage_rows::rows::{deliver, drop_row, tracked_row};
 use stage_rows::terms::{only, out_is};
 use std::alloc::Global;
@@ -32,7 +33,13 @@ pub(crate) fn neighbour_row(
     let terms = only(alloc, out_is(alloc, port)?)?;
     let mut actions = only(alloc, Action::EthDst(mac))?;
     actions.push(deliver())?;
-    Ok(tracked_row(Stage::RouterNeighbour, 100, regs, terms, actions))
+    Ok(tracked_row(
+        Stage::RouterNeighbour,
+        NEIGHBOUR_PRIORITY,
+        regs,
+        terms,
+        actions,
+    ))
 }
 
 /// Adds the row of a router: it drops what goes to a next hop without a known Ethernet address.

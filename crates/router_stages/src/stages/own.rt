@@ -10,6 +10,7 @@ use nb_records::router::RouterPort;
 use ovn_base::address::Ip4;
 use ovn_base::list::List;
 use ovn_base::memory::NoMemory;
+use stage_rows::priorities::ROUTER_OWN_PRIORITY;
 use stage_rows::rows::drop_row;
 use stage_rows::terms::{ip_is, only};
 use std::alloc::Global;
@@ -19,7 +20,13 @@ fn own_row(alloc: Global, ip: Ip4) -> Result<LFlow, NoMemory>
     ensures { IfOk result (λ r. r ≡ spec.own_row ip) }
 {
     let terms = only(alloc, ip_is(alloc, Field::Ip4Dst, ip)?)?;
-    drop_row(alloc, Stage::RouterOwn, 100, terms, Cause::ForRouter)
+    drop_row(
+        alloc,
+        Stage::RouterOwn,
+        ROUTER_OWN_PRIORITY,
+        terms,
+        Cause::ForRouter,
+    )
 }
 
 /// Adds the rows of a port, one for each of its addresses.

@@ -16,6 +16,7 @@ use ovn_base::address::{Cidr, Mac};
 use ovn_base::list::List;
 use ovn_base::memory::NoMemory;
 use ovn_base::name::Name;
+use stage_rows::priorities::ROUTE_PRIORITY;
 use stage_rows::rows::{drop_row, go_on, match_row};
 use stage_rows::terms::{ip_in, only};
 use std::alloc::Global;
@@ -44,7 +45,7 @@ fn network_row(alloc: Global, port: &RouterPort, network: Cidr) -> Result<LFlow,
 {
     let terms = only(alloc, ip_in(alloc, Field::Ip4Dst, network)?)?;
     let actions = routed_by(alloc, port.name, port.mac, Action::NextDst)?;
-    let priority = 100 + 2 * u16::from(network.len) + 1;
+    let priority = ROUTE_PRIORITY + 2 * u16::from(network.len) + 1;
     Ok(match_row(alloc, Stage::RouterRoute, priority, terms, actions))
 }
 
@@ -74,7 +75,7 @@ pub(crate) fn route_row(alloc: Global, route: &Route, exit: &Exit) -> Result<LFl
         value: route.nexthop.0,
     };
     let actions = routed_by(alloc, exit.port, exit.mac, next)?;
-    let priority = 100 + 2 * u16::from(route.prefix.len);
+    let priority = ROUTE_PRIORITY + 2 * u16::from(route.prefix.len);
     Ok(match_row(alloc, Stage::RouterRoute, priority, terms, actions))
 }
 

@@ -2,6 +2,7 @@
 ghost use Rattle.std.specs.Prelude.{◌≡◌, ◌++◌, ◌∷◌, [], IfOk, OnOk};
 ghost use Rattle.stage_rows.specs.RouterRows as spec;
 ghost use Rattle.stage_rows.specs.Rows as rows;
+ghost use Rattle.stage_rows.specs.declared.priorities.TheConstants.{FIND_PRIORITY, UNDO_PRIORITY};
 
 use inet_packet::regs::Reg;
 use logical_flows::action::{Action, ZoneOf};
@@ -11,6 +12,9 @@ use match_language::expr::Expr;
 use match_language::field::Predicate;
 use ovn_base::list::List;
 use ovn_base::memory::NoMemory;
+use stage_rows::priorities::{
+    FIND_PRIORITY, KNOWN_DNAT_PRIORITY, KNOWN_SNAT_PRIORITY, UNDO_PRIORITY,
+};
 use stage_rows::rows::{
     IS_FORWARD, IS_REPLY, go_on, known_actions, match_row, push_base, state_row, tracked_row,
 };
@@ -27,13 +31,13 @@ const IS_PASSING: RegIs = RegIs {
 
 // Undoes the translation of sources, looks for the connection of destinations, and goes on.
 fn undo_row(alloc: Global) -> Result<LFlow, NoMemory>
-    ensures { IfOk result (λ r. r ≡ rows.match_row Stage.RouterUndo 100 (Expr.Is Predicate.Ip4 ∷ []) (Action.Undo ∷ Action.Find ZoneOf.Dnat ∷ rows.go_on Stage.RouterUndo ∷ [])) }
+    ensures { IfOk result (λ r. r ≡ rows.match_row Stage.RouterUndo UNDO_PRIORITY (Expr.Is Predicate.Ip4 ∷ []) (Action.Undo ∷ Action.Find ZoneOf.Dnat ∷ rows.go_on Stage.RouterUndo ∷ [])) }
 {
     let terms = only(alloc, Expr::Is(Predicate::Ip4))?;
     let mut actions = only(alloc, Action::Undo)?;
     actions.push(Action::Find(ZoneOf::Dnat))?;
     actions.push(go_on(Stage::RouterUndo))?;
-    Ok(match_row(alloc, Stage::RouterUndo, 100, terms, actions))
+    Ok(match_row(alloc, Stage::RouterUndo, UNDO_PRIORITY, terms, actions))
 }
 
 /// Adds the rows of r_undo of a router that translates or doesn't.
@@ -70,8 +74,14 @@ fn push_known(
 pub(crate) fn push_router_dnat(alloc: Global, out: &mut List<LFlow>) -> Result<(), NoMemory>
     ensures { OnOk result (out.new ≡ out.old ++ spec.router_dnat) }
 {
-    push_known(alloc, Stage::RouterDnat, 100, IS_FORWARD, out)?;
-    push_known(alloc, Stage::RouterDnat, 100, IS_REPLY, out)?;
+    push_known(
+        alloc,
+        Stage::RouterDnat,
+        KNOWN_DNAT_PRIORITY,
+        IS_FORWARD,
+        out,
+    )?;
+    push_known(alloc, Stage::RouterDnat, KNOWN_DNAT_PRIORITY, IS_REPLY, out)?;
     push_base(alloc, Stage::RouterDnat, out)
 }
 
@@ -79,7 +89,13 @@ pub(crate) fn push_router_dnat(alloc: Global, out: &mut List<LFlow>) -> Result<(
 pub(crate) fn push_router_snat(alloc: Global, out: &mut List<LFlow>) -> Result<(), NoMemory>
     ensures { OnOk result (out.new ≡ out.old ++ spec.router_snat) }
 {
-    push_known(alloc, Stage::RouterSnat, 200, IS_FORWARD, out)?;
+    push_known(
+        alloc,
+        Stage::RouterSnat,
+        KNOWN_SNAT_PRIORITY,
+        IS_FORWARD,
+        out,
+    )?;
     push_base(alloc, Stage::RouterSnat, out)
 }
 
@@ -87,13 +103,13 @@ pub(crate) fn push_router_snat(alloc: Global, out: &mut List<LFlow>) -> Result<(
 
 // Looks for the connection of sources, unless the packet is the router's own answer, and goes on.
 fn find_row(alloc: Global) -> Result<LFlow, NoMemory>
-    ensures { IfOk result (λ r. r ≡ rows.tracked_row Stage.RouterFind 100 (rows.reg_is Reg.Own 0 ∷ []) (Expr.Is Predicate.Ip4 ∷ []) (Action.Find ZoneOf.Snat ∷ rows.go_on Stage.RouterFind ∷ [])) }
+    ensures { IfOk result (λ r. r ≡ rows.tracked_row Stage.RouterFind FIND_PRIORITY (rows.reg_is Reg.Own 0 ∷ []) (Expr.Is Predicate.Ip4 ∷ []) (Action.Find ZoneOf.Snat ∷ rows.go_on Stage.RouterFind ∷ [])) }
 {
     let regs = only(alloc, IS_PASSING)?;
     let terms = only(alloc, Expr::Is(Predicate::Ip4))?;
     let mut actions = only(alloc, Action::Find(ZoneOf::Snat))?;
     actions.push(go_on(Stage::RouterFind))?;
-    Ok(tracked_row(Stage::RouterFind, 100, regs, terms, actions))
+    Ok(tracked_row(Stage::RouterFind, FIND_PRIORITY, regs, terms, actions))
 }
 
 /// Adds the rows of r_find of a router that translates or doesn't.

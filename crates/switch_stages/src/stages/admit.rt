@@ -10,6 +10,7 @@ use match_language::field::Field;
 use nb_records::switch::SwitchPort;
 use ovn_base::list::List;
 use ovn_base::memory::NoMemory;
+use stage_rows::priorities::{DISABLED_PRIORITY, GROUP_SOURCE_PRIORITY, VLAN_PRIORITY};
 use stage_rows::rows::{drop_row, push_base};
 use stage_rows::terms::{field_is, has_bit, in_is, only};
 use std::alloc::Global;
@@ -29,7 +30,13 @@ pub(crate) fn push_port_admit(
         return Ok(());
     }
     let terms = only(alloc, in_is(alloc, &port.name)?)?;
-    let row = drop_row(alloc, Stage::SwitchAdmit, 120, terms, Cause::Disabled)?;
+    let row = drop_row(
+        alloc,
+        Stage::SwitchAdmit,
+        DISABLED_PRIORITY,
+        terms,
+        Cause::Disabled,
+    )?;
     out.push(row)
 }
 
@@ -45,10 +52,16 @@ pub(crate) fn push_switch_admit(alloc: Global, out: &mut List<LFlow>) -> Result<
     ensures { OnOk result (out.new ≡ out.old ++ spec.switch_admit) }
 {
     let terms = only(alloc, from_group(alloc)?)?;
-    let row = drop_row(alloc, Stage::SwitchAdmit, 110, terms, Cause::BadSource)?;
+    let row = drop_row(
+        alloc,
+        Stage::SwitchAdmit,
+        GROUP_SOURCE_PRIORITY,
+        terms,
+        Cause::BadSource,
+    )?;
     out.push(row)?;
     let terms = only(alloc, field_is(alloc, Field::EthType, 0x8100)?)?;
-    let row = drop_row(alloc, Stage::SwitchAdmit, 100, terms, Cause::Vlan)?;
+    let row = drop_row(alloc, Stage::SwitchAdmit, VLAN_PRIORITY, terms, Cause::Vlan)?;
     out.push(row)?;
     push_base(alloc, Stage::SwitchAdmit, out)
 }

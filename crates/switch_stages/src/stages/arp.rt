@@ -11,6 +11,7 @@ use nb_records::switch::SwitchPort;
 use ovn_base::address::{Ip4, Mac};
 use ovn_base::list::List;
 use ovn_base::memory::NoMemory;
+use stage_rows::priorities::{OWN_REQUEST_PRIORITY, REQUEST_PRIORITY};
 use stage_rows::rows::{answer_actions, match_row, pass_row};
 use stage_rows::terms::{asks_for, in_is, only};
 use std::alloc::Global;
@@ -27,10 +28,10 @@ fn push_address(
 {
     let mut own = only(alloc, in_is(alloc, &port.name)?)?;
     own.append(asks_for(alloc, ip)?)?;
-    out.push(pass_row(alloc, Stage::SwitchArp, 100, own)?)?;
+    out.push(pass_row(alloc, Stage::SwitchArp, OWN_REQUEST_PRIORITY, own)?)?;
     let asks = asks_for(alloc, ip)?;
     let answer = answer_actions(alloc, mac, ip)?;
-    out.push(match_row(alloc, Stage::SwitchArp, 50, asks, answer))
+    out.push(match_row(alloc, Stage::SwitchArp, REQUEST_PRIORITY, asks, answer))
 }
 
 // Adds the rows of the address, if the port holds it.

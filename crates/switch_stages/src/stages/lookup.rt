@@ -20,6 +20,7 @@ use ovn_base::limits::{FLOOD_KEY, UNKNOWN_KEY};
 use ovn_base::list::List;
 use ovn_base::memory::NoMemory;
 use stage_rows::answered::answered_behind;
+use stage_rows::priorities::{ADDRESS_PRIORITY, ANSWERED_PRIORITY, FLOOD_PRIORITY};
 use stage_rows::rows::{deliver, match_row};
 use stage_rows::terms::{asks_for, mac_is, only};
 use std::alloc::Global;
@@ -42,7 +43,13 @@ fn answered_lookup(alloc: Global, port: &SwitchPort, ip: Ip4) -> Result<LFlow, N
     let mut terms = only(alloc, Expr::Is(Predicate::EthMcast))?;
     terms.append(asks_for(alloc, ip)?)?;
     let actions = goes_to_port(alloc, port)?;
-    Ok(match_row(alloc, Stage::SwitchLookup, 80, terms, actions))
+    Ok(match_row(
+        alloc,
+        Stage::SwitchLookup,
+        ANSWERED_PRIORITY,
+        terms,
+        actions,
+    ))
 }
 
 // The row for what goes to the Ethernet address.
@@ -51,7 +58,7 @@ fn address_lookup(alloc: Global, port: &SwitchPort, mac: Mac) -> Result<LFlow, N
 {
     let terms = only(alloc, mac_is(alloc, Field::EthDst, mac)?)?;
     let actions = goes_to_port(alloc, port)?;
-    Ok(match_row(alloc, Stage::SwitchLookup, 50, terms, actions))
+    Ok(match_row(alloc, Stage::SwitchLookup, ADDRESS_PRIORITY, terms, actions))
 }
 
 // Adds the rows of these answered addresses.
@@ -156,7 +163,7 @@ pub(crate) fn push_switch_lookup(
 {
     let terms = only(alloc, Expr::Is(Predicate::EthMcast))?;
     let flood = goes_to_group(alloc, FLOOD_KEY)?;
-    out.push(match_row(alloc, Stage::SwitchLookup, 70, terms, flood))?;
+    out.push(match_row(alloc, Stage::SwitchLookup, FLOOD_PRIORITY, terms, flood))?;
     let rest = unknown_actions(alloc, takes)?;
     out.push(match_row(alloc, Stage::SwitchLookup, 0, List::new(alloc), rest))
 }

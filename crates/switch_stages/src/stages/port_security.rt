@@ -13,6 +13,9 @@ use nb_records::switch::{SecurityEntry, SwitchPort};
 use ovn_base::address::Cidr;
 use ovn_base::list::List;
 use ovn_base::memory::NoMemory;
+use stage_rows::priorities::{
+    MAY_SEND_PRIORITY, NOT_SENT_PRIORITY, OTHER_SOURCE_PRIORITY, SENT_BY_PRIORITY,
+};
 use stage_rows::rows::{drop_row, pass_row};
 use stage_rows::terms::{field_is, in_is, ip_in, mac_is, only};
 use std::alloc::Global;
@@ -38,7 +41,7 @@ fn push_send(
 {
     let mut terms = sent_by(alloc, port, entry)?;
     terms.append(more)?;
-    out.push(pass_row(alloc, Stage::SwitchPortSecurity, 90, terms)?)
+    out.push(pass_row(alloc, Stage::SwitchPortSecurity, MAY_SEND_PRIORITY, terms)?)
 }
 
 // ARP in the name of the entry's Ethernet address.
@@ -147,13 +150,13 @@ fn push_other_sends(
     let row = drop_row(
         alloc,
         Stage::SwitchPortSecurity,
-        85,
+        OTHER_SOURCE_PRIORITY,
         terms,
         Cause::PortSecurity,
     )?;
     out.push(row)?;
     let terms = sent_by(alloc, port, entry)?;
-    out.push(pass_row(alloc, Stage::SwitchPortSecurity, 80, terms)?)
+    out.push(pass_row(alloc, Stage::SwitchPortSecurity, SENT_BY_PRIORITY, terms)?)
 }
 
 // Adds the rows of the entry.
@@ -200,7 +203,7 @@ pub(crate) fn push_port_security(
     let row = drop_row(
         alloc,
         Stage::SwitchPortSecurity,
-        70,
+        NOT_SENT_PRIORITY,
         terms,
         Cause::PortSecurity,
     )?;

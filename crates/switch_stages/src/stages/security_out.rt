@@ -13,6 +13,9 @@ use nb_records::switch::{SecurityEntry, SwitchPort};
 use ovn_base::address::{Cidr, Ip4};
 use ovn_base::list::List;
 use ovn_base::memory::NoMemory;
+use stage_rows::priorities::{
+    GOT_BY_PRIORITY, MAY_GET_PRIORITY, MULTICAST_PRIORITY, NOT_GOT_PRIORITY, OTHER_TARGET_PRIORITY,
+};
 use stage_rows::rows::{drop_row, pass_row};
 use stage_rows::terms::{ip_in, ip_in_some, mac_is, only, out_is};
 use std::alloc::Global;
@@ -50,7 +53,7 @@ fn push_get(
 {
     let mut terms = got_by(alloc, port, entry)?;
     terms.append(more)?;
-    out.push(pass_row(alloc, Stage::SwitchSecurityOut, 80, terms)?)
+    out.push(pass_row(alloc, Stage::SwitchSecurityOut, MAY_GET_PRIORITY, terms)?)
 }
 
 // Adds the rows of these IPv4 addresses of the entry.
@@ -108,13 +111,13 @@ fn push_other_gets(
     let row = drop_row(
         alloc,
         Stage::SwitchSecurityOut,
-        75,
+        OTHER_TARGET_PRIORITY,
         terms,
         Cause::PortSecurity,
     )?;
     out.push(row)?;
     let terms = got_by(alloc, port, entry)?;
-    out.push(pass_row(alloc, Stage::SwitchSecurityOut, 70, terms)?)
+    out.push(pass_row(alloc, Stage::SwitchSecurityOut, GOT_BY_PRIORITY, terms)?)
 }
 
 // Adds the rows of the entry.
@@ -151,12 +154,12 @@ fn push_around(alloc: Global, port: &SwitchPort, out: &mut List<LFlow>) -> Resul
 {
     let mut terms = only(alloc, out_is(alloc, &port.name)?)?;
     terms.push(Expr::Is(Predicate::EthMcast))?;
-    out.push(pass_row(alloc, Stage::SwitchSecurityOut, 90, terms)?)?;
+    out.push(pass_row(alloc, Stage::SwitchSecurityOut, MULTICAST_PRIORITY, terms)?)?;
     let terms = only(alloc, out_is(alloc, &port.name)?)?;
     let row = drop_row(
         alloc,
         Stage::SwitchSecurityOut,
-        60,
+        NOT_GOT_PRIORITY,
         terms,
         Cause::PortSecurity,
     )?;

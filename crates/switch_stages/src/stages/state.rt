@@ -12,6 +12,10 @@ use logical_flows::flow::{LFlow, RegIs};
 use logical_flows::stage::Stage;
 use ovn_base::list::List;
 use ovn_base::memory::NoMemory;
+use stage_rows::priorities::{
+    ALLOWED_PRIORITY, INVALID_PRIORITY, REFUSED_PRIORITY, REPLY_PRIORITY, UNTRACKED_PRIORITY,
+    UNTRACKED_REFUSED_PRIORITY,
+};
 use stage_rows::rows::{IS_FORWARD, IS_INVALID, IS_NEW, IS_REPLY, go_on, known_actions, state_row};
 use stage_rows::terms::only;
 use std::alloc::Global;
@@ -123,9 +127,22 @@ fn push_pass(
 fn push_untracked(alloc: Global, stage: Stage, out: &mut List<LFlow>) -> Result<(), NoMemory>
     ensures { OnOk result (out.new ≡ out.old ++ untracked_rows stage) }
 {
-    push_refusals(alloc, stage, 100, IS_UNTRACKED, false, out)?;
-    push_pass(alloc, stage, 90, &[IS_UNTRACKED], out)?;
-    push_pass(alloc, stage, 90, &[IS_ON_TRACK, SAYS_STATELESS], out)
+    push_refusals(
+        alloc,
+        stage,
+        UNTRACKED_REFUSED_PRIORITY,
+        IS_UNTRACKED,
+        false,
+        out,
+    )?;
+    push_pass(alloc, stage, UNTRACKED_PRIORITY, &[IS_UNTRACKED], out)?;
+    push_pass(
+        alloc,
+        stage,
+        UNTRACKED_PRIORITY,
+        &[IS_ON_TRACK, SAYS_STATELESS],
+        out,
+    )
 }
 
 // Adds the rows for what belongs to no connection and can't begin one.
@@ -138,10 +155,10 @@ fn push_invalid(
     ensures { OnOk result (out.new ≡ out.old ++ spec.invalid_rows stateful stage) }
 {
     if !stateful {
-        return push_refusals(alloc, stage, 80, IS_INVALID, false, out);
+        return push_refusals(alloc, stage, INVALID_PRIORITY, IS_INVALID, false, out);
     }
     let actions = only(alloc, Action::Drop(Cause::Invalid))?;
-    out.push(state_row(alloc, stage, 80, &[IS_INVALID], actions)?)
+    out.push(state_row(alloc, stage, INVALID_PRIORITY, &[IS_INVALID], actions)?)
 }
 
 // Adds the rows for replies.
@@ -149,10 +166,16 @@ fn push_replies(alloc: Global, stage: Stage, out: &mut List<LFlow>) -> Result<()
     ensures { OnOk result (out.new ≡ out.old ++ reply_rows stage) }
 {
     let drop = only(alloc, Action::Drop(Cause::Blocked))?;
-    let row = state_row(alloc, stage, 70, &[IS_REPLY, IS_BLOCKED], drop)?;
+    let row = state_row(alloc, stage, REPLY_PRIORITY, &[IS_REPLY, IS_BLOCKED], drop)?;
     out.push(row)?;
     let pass = known_actions(alloc, stage)?;
-    let row = state_row(alloc, stage, 70, &[IS_REPLY, IS_UNBLOCKED], pass)?;
+    let row = state_row(
+        alloc,
+        stage,
+        REPLY_PRIORITY,
+        &[IS_REPLY, IS_UNBLOCKED],
+        pass,
+    )?;
     out.push(row)
 }
 
@@ -184,9 +207,9 @@ fn push_allowed(
     ensures { OnOk result (out.new ≡ out.old ++ allowed_rows stage zone) }
 {
     let forward = forward_actions(alloc, stage)?;
-    out.push(state_row(alloc, stage, 50, &[IS_FORWARD], forward)?)?;
+    out.push(state_row(alloc, stage, ALLOWED_PRIORITY, &[IS_FORWARD], forward)?)?;
     let new = new_actions(alloc, stage, zone)?;
-    out.push(state_row(alloc, stage, 50, &[IS_NEW], new)?)?;
+    out.push(state_row(alloc, stage, ALLOWED_PRIORITY, &[IS_NEW], new)?)?;
     push_pass(alloc, stage, 0, &[], out)
 }
 
@@ -203,8 +226,8 @@ pub(crate) fn push_state(
     push_untracked(alloc, stage, out)?;
     push_invalid(alloc, stateful, stage, out)?;
     push_replies(alloc, stage, out)?;
-    push_refusals(alloc, stage, 60, IS_FORWARD, true, out)?;
-    push_refusals(alloc, stage, 60, IS_NEW, false, out)?;
+    push_refusals(alloc, stage, REFUSED_PRIORITY, IS_FORWARD, true, out)?;
+    push_refusals(alloc, stage, REFUSED_PRIORITY, IS_NEW, false, out)?;
     push_allowed(alloc, stage, zone, out)?;
     Ok(())
 }

@@ -14,6 +14,7 @@ use match_language::field::Predicate;
 use nb_records::switch::SwitchPort;
 use ovn_base::list::List;
 use ovn_base::memory::NoMemory;
+use stage_rows::priorities::{DISABLED_PRIORITY, TRACKS_PRIORITY};
 use stage_rows::rows::{drop_row, go_on, match_row};
 use stage_rows::terms::{in_is, only, out_is, unicast};
 use std::alloc::Global;
@@ -47,7 +48,7 @@ fn port_track_row(alloc: Global, port: &SwitchPort) -> Result<LFlow, NoMemory>
 {
     let terms = tracks(alloc, in_is(alloc, &port.name)?)?;
     let actions = find_actions(alloc, ZoneOf::In, Stage::SwitchTrack)?;
-    Ok(match_row(alloc, Stage::SwitchTrack, 100, terms, actions))
+    Ok(match_row(alloc, Stage::SwitchTrack, TRACKS_PRIORITY, terms, actions))
 }
 
 // The row for what leaves by the port.
@@ -56,7 +57,13 @@ fn port_track_out_row(alloc: Global, port: &SwitchPort) -> Result<LFlow, NoMemor
 {
     let terms = tracks(alloc, out_is(alloc, &port.name)?)?;
     let actions = find_actions(alloc, ZoneOf::Out, Stage::SwitchTrackOut)?;
-    Ok(match_row(alloc, Stage::SwitchTrackOut, 100, terms, actions))
+    Ok(match_row(
+        alloc,
+        Stage::SwitchTrackOut,
+        TRACKS_PRIORITY,
+        terms,
+        actions,
+    ))
 }
 
 /// Adds the row of s_track of a port that is tracked or isn't.
@@ -87,7 +94,13 @@ pub(crate) fn push_disabled_out(
         return Ok(());
     }
     let terms = only(alloc, out_is(alloc, &port.name)?)?;
-    let row = drop_row(alloc, Stage::SwitchTrackOut, 120, terms, Cause::Disabled)?;
+    let row = drop_row(
+        alloc,
+        Stage::SwitchTrackOut,
+        DISABLED_PRIORITY,
+        terms,
+        Cause::Disabled,
+    )?;
     out.push(row)
 }
 
