@@ -10,12 +10,13 @@ use Rattle.switch_engine.specs.Outcome.{of_program}
 use Rattle.chassis_sim.specs.Passing as passing
 use Rattle.net_model.specs.declared.crossing.Crossing.{Crossing}
 use Rattle.world_core.proofs.WaitingNames.{own_number}
+use Rattle.world_core.specs.Draining.{AreDraining}
 use Rattle.world_core.specs.Packets.{AreGone, HasArrived, sent_among, state_with}
 use Rattle.sim_laws.proofs.journey_laws.Draining.{effects_append}
 use Rattle.sim_laws.proofs.journey_laws.Moving.{length_append}
 use Rattle.sim_laws.proofs.journey_laws.Ways.{crossings_append}
 use Rattle.sim_laws.specs.Effects.{effects_of}
-use Rattle.sim_laws.specs.Passing.{AreDrained, most_arrivals}
+use Rattle.sim_laws.specs.Passing.{AreDrained}
 use Rattle.sim_laws.specs.journeys.Moves.{AreMoved}
 use Rattle.sim_laws.specs.journeys.UnderWay.{IsUnderWay}
 use Rattle.world_core.specs.WorldView.{AreHeld, WorldView}
@@ -24,19 +25,9 @@ use Rattle.net_model.specs.State.{State}
 use Rattle.net_model.specs.Trail.{End, crossings_in}
 use Rattle.physical_flows.proofs.FlowSearch.{is_some_of}
 
--- some frames arrived, and however those that are left arrive, so do all
-pub record AreDraining (old : WorldView) (before : SimOut) (left : ℕ) (now : WorldView) (told : SimOut) : Type 0 where
-  pub own : List End
-  pub all : told.effects ≡ before.effects ++ effects_of old.state.keys old.state.next own
-  pub drained : (after : SimOut) (s : sim.SimState) → AreDrained of_program old.state.clock left now.sim told after s → AreDrained of_program old.state.clock most_arrivals old.sim before after s
-  pub moves : (ends : List End) (m : State) → AreMoved left now.state ends m → AreMoved most_arrivals old.state (own ++ ends) m
-  pub still : now.state ≡ state_with old.state now.state.lists now.state.waiting (old.state.next + length (crossings_in own))
-  pub under_way : IsUnderWay now.state now.zones (sent_among told.effects)
-  pub held : AreHeld now.state now.zones now.sim
-  pub rest : now ≡ record old { state = now.state; sim = now.sim }
-
-pub drain_begins : (old : WorldView) (before : SimOut) → IsUnderWay old.state old.zones (sent_among before.effects) → AreHeld old.state old.zones old.sim → AreDraining old before most_arrivals old before
-drain_begins old before u h = record {
+-- none arrived yet
+pub drain_begins : (old : WorldView) (before : SimOut) (most : ℕ) → IsUnderWay old.state old.zones (sent_among before.effects) → AreHeld old.state old.zones old.sim → AreDraining old before most most old before
+drain_begins old before most u h = record {
   own = [];
   all = sym (append-nil before.effects);
   drained = λ after s d. d;
@@ -55,29 +46,46 @@ pub first_is : {X : Type 0} (xs : List X) (x : X) → slice_get xs 0 ≡ Some x 
 first_is [] x e = absurd (none-some x e)
 first_is (y ∷ ys) x e = (ys, ap (λ z. z ∷ ys) (same_Some y x e))
 
-pub own_waits : (n : ℕ) (x : Crossing) (behind : List (ℕ × Crossing)) → numbered ((n, x) ∷ behind) n ≡ Some x
+pub own_waits : {X : Type 0} (n : ℕ) (x : X) (behind : List (ℕ × X)) → numbered ((n, x) ∷ behind) n ≡ Some x
 own_waits n x behind = ap (λ b. cond b (Some x) (numbered behind n)) (own_number n)
 
 pub first_waits : (m : State) (n : ℕ) (x : Crossing) (behind : List (ℕ × Crossing)) → m.waiting ≡ (n, x) ∷ behind → IsSome (numbered m.waiting n)
 first_waits m n x behind e = is_some_of (numbered m.waiting n) x (ap (λ ws. numbered ws n) e ∙ own_waits n x behind)
 
+-- ---- what comes behind
+
+module _ (old : WorldView) (before : SimOut) (most left : ℕ) (now : WorldView) (told : SimOut) where
+  -- further effects come behind those that came
+  effects_on : (more : SimOut) (ends : List End) → (d : AreDraining old before most left now told) → more.effects ≡ told.effects ++ effects_of now.state.keys now.state.next ends → more.effects ≡ before.effects ++ effects_of old.state.keys old.state.next (d.own ++ ends)
+  effects_on more ends d are =
+      let keys : now.state.keys ≡ old.state.keys = ap (λ (m : State). m.keys) d.still in
+      let number : now.state.next ≡ old.state.next + length (crossings_in d.own) = ap (λ (m : State). m.next) d.still in
+      are
+      ∙ ap (λ l. l ++ effects_of now.state.keys now.state.next ends) d.all
+      ∙ append_assoc before.effects (effects_of old.state.keys old.state.next d.own) (effects_of now.state.keys now.state.next ends)
+      ∙ (λ i. before.effects ++ (effects_of old.state.keys old.state.next d.own ++ effects_of (keys i) (number i) ends))
+      ∙ ap (λ es. before.effects ++ es) (sym (effects_append old.state.keys old.state.next d.own ends))
+
+  -- the state has other lists and crossings, and the number behind those that were sent in all
+  still_on : (next : WorldView) (ends : List End) → (d : AreDraining old before most left now told) → next.state ≡ state_with now.state next.state.lists next.state.waiting (now.state.next + length (crossings_in ends))
+      → next.state ≡ state_with old.state next.state.lists next.state.waiting (old.state.next + length (crossings_in (d.own ++ ends)))
+  still_on next ends d still =
+      let number : now.state.next ≡ old.state.next + length (crossings_in d.own) = ap (λ (m : State). m.next) d.still in
+      let both : length (crossings_in (d.own ++ ends)) ≡ length (crossings_in d.own) + length (crossings_in ends) = ap length (crossings_append d.own ends) ∙ length_append (crossings_in d.own) (crossings_in ends) in
+      let count : now.state.next + length (crossings_in ends) ≡ old.state.next + length (crossings_in (d.own ++ ends)) = omega (arith, number, both) in
+      still ∙ (λ i. state_with (d.still i) next.state.lists next.state.waiting (count i))
+
+  rest_on : (next : WorldView) → AreDraining old before most left now told → next ≡ record now { state = next.state; sim = next.sim } → next ≡ record old { state = next.state; sim = next.sim }
+  rest_on next d rest = rest ∙ ap (λ (w : WorldView). record w { state = next.state; sim = next.sim }) d.rest
+
 -- one frame more
-pub drain_goes_on : (old : WorldView) (before : SimOut) (left : ℕ) (now next : WorldView) (told more : SimOut) (n : ℕ) (x : Crossing) (behind : List (ℕ × Crossing)) → AreDraining old before (suc left) now told → now.state.waiting ≡ (n, x) ∷ behind
-    → HasArrived now n false told more next → AreDraining old before left next more
-drain_goes_on old before left now next told more n x behind d first p =
+pub drain_goes_on : (old : WorldView) (before : SimOut) (most left : ℕ) (now next : WorldView) (told more : SimOut) (n : ℕ) (x : Crossing) (behind : List (ℕ × Crossing)) → AreDraining old before most (suc left) now told → now.state.waiting ≡ (n, x) ∷ behind
+    → HasArrived now n false told more next → AreDraining old before most left next more
+drain_goes_on old before most left now next told more n x behind d first p =
     let clock : now.state.clock ≡ old.state.clock = ap (λ (m : State). m.clock) d.still in
-    let keys : now.state.keys ≡ old.state.keys = ap (λ (m : State). m.keys) d.still in
-    let number : now.state.next ≡ old.state.next + length (crossings_in d.own) = ap (λ (m : State). m.next) d.still in
-    let own = d.own ++ p.ends in
-    let count : now.state.next + length (crossings_in p.ends) ≡ old.state.next + length (crossings_in own) = counted old.state.next now.state.next d.own p.ends number in
     record {
-      own = own;
-      all =
-          p.effects
-          ∙ ap (λ l. l ++ effects_of now.state.keys now.state.next p.ends) d.all
-          ∙ append_assoc before.effects (effects_of old.state.keys old.state.next d.own) (effects_of now.state.keys now.state.next p.ends)
-          ∙ (λ i. before.effects ++ (effects_of old.state.keys old.state.next d.own ++ effects_of (keys i) (number i) p.ends))
-          ∙ ap (λ es. before.effects ++ es) (sym (effects_append old.state.keys old.state.next d.own p.ends));
+      own = d.own ++ p.ends;
+      all = effects_on old before most (suc left) now told more p.ends d p.effects;
       drained = λ after s rest. d.drained after s (inr (record {
         n = n;
         frame = (frame_of_crossing now.state.keys (n, x)).1;
@@ -88,7 +96,7 @@ drain_goes_on old before left now next told more n x behind d first p =
         arrives = subst (λ t. passing.IsArrived of_program now.sim n false t told more next.sim) clock p.passed;
         others = rest;
       }));
-      moves = λ ends m rest. subst (λ l. AreMoved most_arrivals old.state l m) (sym (append_assoc d.own p.ends ends)) (d.moves (p.ends ++ ends) m (inr (record {
+      moves = λ ends m rest. subst (λ l. AreMoved most old.state l m) (sym (append_assoc d.own p.ends ends)) (d.moves (p.ends ++ ends) m (inr (record {
         n = n;
         crossing = x;
         behind = behind;
@@ -100,16 +108,11 @@ drain_goes_on old before left now next told more n x behind d first p =
         arrives = p.moved;
         others = rest;
       })));
-      still = p.still ∙ (λ i. state_with (d.still i) next.state.lists next.state.waiting (count i));
+      still = still_on old before most (suc left) now told next p.ends d p.still;
       under_way = p.under_way;
       held = p.held;
-      rest = p.rest ∙ ap (λ (w : WorldView). record w { state = next.state; sim = next.sim }) d.rest;
+      rest = rest_on old before most (suc left) now told next d p.rest;
     }
-  where
-    counted : (start then' : ℕ) (es fs : List End) → then' ≡ start + length (crossings_in es) → then' + length (crossings_in fs) ≡ start + length (crossings_in (es ++ fs))
-    counted start then' es fs is =
-        let both : length (crossings_in (es ++ fs)) ≡ length (crossings_in es) + length (crossings_in fs) = ap length (crossings_append es fs) ∙ length_append (crossings_in es) (crossings_in fs) in
-        omega (arith, is, both)
 
 over_sim : (now left : ℕ) (s : sim.SimState) (told : SimOut) → (left ≡ 0) ⊎ (s.waiting ≡ []) → AreDrained of_program now left s told told s
 over_sim now zero s told e = (refl, refl)
@@ -125,17 +128,32 @@ none_held : (m : State) (zones : Zoned) (s : sim.SimState) → AreHeld m zones s
 none_held m zones s h none = h.waiting ∙ ap (λ ws. map (frame_of_crossing m.keys) ws) none
 
 -- none is left, or enough arrived
-pub drain_ends : (old : WorldView) (before : SimOut) (left : ℕ) (now : WorldView) (told : SimOut) → AreDraining old before left now told → (left ≡ 0) ⊎ (now.state.waiting ≡ []) → AreGone most_arrivals old before told now
-drain_ends old before left now told d e = record {
+pub drain_ends : (old : WorldView) (before : SimOut) (most left : ℕ) (now : WorldView) (told : SimOut) → AreDraining old before most left now told → (left ≡ 0) ⊎ (now.state.waiting ≡ []) → AreGone most old before told now
+drain_ends old before most left now told d e = record {
   passed = d.drained told now.sim (over_sim old.state.clock left now.sim told (elim e [ inl z ↦ inl z | inr none ↦ inr (none_held now.state now.zones now.sim d.held none) ]));
   ends = d.own;
   effects = d.all;
-  moved = subst (λ l. AreMoved most_arrivals old.state l now.state) (append-nil d.own) (d.moves [] now.state (over_net left now.state e));
+  moved = subst (λ l. AreMoved most old.state l now.state) (append-nil d.own) (d.moves [] now.state (over_net left now.state e));
   still = d.still;
   under_way = d.under_way;
   held = d.held;
   rest = d.rest;
 }
+
+-- some arrived, and then those that may still
+pub drain_joins : (old : WorldView) (before : SimOut) (most left : ℕ) (now : WorldView) (told after : SimOut) (new : WorldView) → AreDraining old before most left now told → AreGone left now told after new → AreGone most old before after new
+drain_joins old before most left now told after new d g =
+    let clock : now.state.clock ≡ old.state.clock = ap (λ (m : State). m.clock) d.still in
+    record {
+      passed = d.drained after new.sim (subst (λ t. AreDrained of_program t left now.sim told after new.sim) clock g.passed);
+      ends = d.own ++ g.ends;
+      effects = effects_on old before most left now told after g.ends d g.effects;
+      moved = d.moves g.ends new.state g.moved;
+      still = still_on old before most left now told new g.ends d g.still;
+      under_way = g.under_way;
+      held = g.held;
+      rest = rest_on old before most left now told new d g.rest;
+    }
 
 -- nothing is there where no first entry is
 pub none_there : {X : Type 0} (xs : List X) → (0 < length xs → ⊥) → xs ≡ []

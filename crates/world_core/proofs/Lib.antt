@@ -1,15 +1,18 @@
 -- Lemmas.
 pub mod AcceptedTurns
+pub mod BoundPorts
 pub mod ClockEvents
 pub mod CrossingStore
 pub mod DecidedFlows
 pub mod DrainSteps
 pub mod EmptyWorld
 pub mod EventKinds
+pub mod FirstArrival
 pub mod FrameCrossings
 pub mod FrameFaults
 pub mod FramePackets
 pub mod HeaderParts
+pub mod KeptCrossings
 pub mod KeptLists
 pub mod NumberedNames
 pub mod OneStep

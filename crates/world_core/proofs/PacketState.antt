@@ -42,7 +42,10 @@ world_with w waiting s = record w { state = state_with w.state (lists_seen w.zon
 
 -- what packets leave, once the crossings of the frames that they sent wait behind these
 pub record GoesOn (old : WorldView) (first : List (ℕ × Crossing)) (s : sim.SimState) (effects : List NetEffect) (Done : WorldView → Type 0) : Type 0 where
+  pub sent : List Crossing
+  pub count : s.next ≡ old.state.next + length sent
   pub crossings : List (ℕ × Crossing)
+  pub numbers : crossings ≡ numbered_from old.state.next sent
   pub can : CanBeKept (world_with old first s).state effects crossings
   pub done : Done (world_with old (first ++ crossings) s)
 
@@ -126,7 +129,10 @@ module _ (old : WorldView) (more : ℕ) (s : sim.SimState) (before after : SimOu
         let effects_are : effects ≡ told = are ∙ ap (λ l. drop (length before.effects) l) j.effects ∙ drop_at before.effects told (length before.effects) refl in
         let done = passed_at (first ++ ws) (sym waiting) Passed passed in
         record {
+          sent = crossings_in j.ends;
+          count = next_is;
           crossings = ws;
+          numbers = refl;
           can = record {
             sent = record {
               frames = ap frames_sent effects_are ∙ frames_named m.keys m.next j.ends;

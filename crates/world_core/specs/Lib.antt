@@ -1,4 +1,5 @@
 -- Definitions that contracts cite.
+pub mod Draining
 pub mod EventPasses
 pub mod FramePackets
 pub mod FrameReading

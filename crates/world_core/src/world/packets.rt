@@ -1,5 +1,5 @@
 //! Packets that go through the simulated chassis of a world.
-ghost use Rattle.std.specs.Prelude.{◌≡◌, ◌≤◌, ◌<◌, ◌+◌, ◌*◌, ◌^◌, ◌++◌, ℕ, List, false, IfOk, OnOk, IsSome, Some};
+ghost use Rattle.std.specs.Prelude.{◌≡◌, ◌<◌, ◌+◌, ◌*◌, ◌^◌, ◌++◌, ℕ, List, true, false, IfOk, OnOk, IsSome, IsTrue, Some};
 ghost use Rattle.std.specs.BTreeMap.{insert_entry};
 ghost use Rattle.std.specs.Ordering.{nat_cmp};
 ghost use Rattle.ovn_base.specs.declared.name.Name.{Name};
@@ -7,12 +7,11 @@ ghost use Rattle.ovn_base.specs.names.ByName.{at};
 ghost use Rattle.chassis_sim.specs.InNames.{frames_sent};
 ghost use Rattle.chassis_sim.specs.State.{numbered, without};
 ghost use Rattle.inet_packet.specs.Whole.{IsWhole};
-ghost use Rattle.sim_laws.specs.Passing.{most_arrivals};
 ghost use Rattle.sim_laws.specs.journeys.Refining.{waiting_on, without_crossing};
 ghost use Rattle.sim_laws.specs.journeys.UnderWay.{IsUnderWay};
-ghost use Rattle.world_core.specs.WorldView.{AreHeld};
+ghost use Rattle.world_core.specs.Draining.{HasBegun, IsUnnamed};
+ghost use Rattle.world_core.specs.WorldView.{AreHeld, WorldView};
 ghost use Rattle.sim_laws.specs.Sound.{AreCrossings};
-ghost use Rattle.net_model.specs.State.{event_count};
 ghost use Rattle.world_core.specs.Packets.{AreGone, CanBeKept, HasArrived, HasEntered, IsNumberOf, IsPortNumber, IsSentAs, IsSwitchNumber, sent_among};
 ghost use Rattle.world_core.specs.Waiting.{AreWaiting, crossing_of, frame_under, names_of};
 ghost use Rattle.sim_laws.specs.Held.{HaveOwnersNames};
@@ -35,6 +34,15 @@ use ovn_base::name::Name;
 use sim_laws::journeys::journeys_refine;
 use switch_engine::effect::NetEffect;
 use tunnel_keys::owner::Identity;
+
+// Whether one frame was sent where none waited before, by the numbers of the next frame before and after.
+fn sent_one(none_waits: bool, first: u128, next: u128) -> bool
+    requires { first < 2 ^ 127 }
+    ensures waits { IsTrue result → none_waits ≡ true }
+    ensures one { IsTrue result → next ≡ first + 1 }
+{
+    none_waits && next == first + 1
+}
 
 impl World {
     // The switch that has the key, where one has it.
@@ -187,6 +195,62 @@ impl World {
         Ok(())
     }
 
+    // Takes the frame of this number, that waits alone and is unnamed, through the chassis to which it goes. It waits no more, and
+    // the frames that are sent for it do.
+    fn arrive_unnamed(&mut self, frame: u128, out: &mut SimOut) -> Result<(), NoMemory>
+        requires taken { self.old.whole ≡ false }
+        requires unnamed { (w : WorldView) × IsUnnamed w frame out.old self.old }
+        ensures { OnOk result ((w : WorldView) → IsUnnamed w frame out.old self.old → HasArrived w frame false out.old out.new self.new) }
+    {
+        journeys_refine();
+        // No list in memory has 2^64 elements, so that so many frames weren't sent.
+        let _sent = out.effects.iter();
+        let before = out.effects.len();
+        match self.sim.arrive(frame, false, self.clock, out) {
+            Ok(()) => {}
+            Err(SimFault::Memory) => return Err(NoMemory),
+            Err(SimFault::NotBound(_)) => unreachable!(),
+            Err(SimFault::NoFrame(_)) => unreachable!(),
+        }
+        self.keep_crossings(&out.effects.as_slice()[before..])?;
+        Ok(())
+    }
+
+    // Takes a packet from its port through the chassis. Where it sends one frame and no other waits, that one arrives before it is
+    // named. How many frames may arrive still.
+    pub(super) fn enter_and_cross(
+        &mut self,
+        port: &Name,
+        packet: Packet,
+        out: &mut SimOut,
+    ) -> Result<usize, NoMemory>
+        requires under_way { IsUnderWay self.old.state self.old.zones (sent_among out.old.effects) }
+        requires held { AreHeld self.old.state self.old.zones self.old.sim }
+        requires taken { self.old.whole ≡ false }
+        requires bound { IsSome (at self.old.state.config.bindings port.now) }
+        requires whole { IsWhole packet }
+        ensures { IfOk result (λ left. HasBegun self.old port.now packet out.old out.new left self.new) }
+    {
+        journeys_refine();
+        // No list in memory has 2^64 elements, so that so many frames weren't sent.
+        let _sent = out.effects.iter();
+        let before = out.effects.len();
+        let none_waits = self.crossings.is_empty();
+        let first = self.sim.next_frame();
+        match self.sim.inject(port, packet, self.clock, out) {
+            Ok(()) => {}
+            Err(SimFault::Memory) => return Err(NoMemory),
+            Err(SimFault::NotBound(_)) => unreachable!(),
+            Err(SimFault::NoFrame(_)) => unreachable!(),
+        }
+        if sent_one(none_waits, first, self.sim.next_frame()) {
+            self.arrive_unnamed(first, out)?;
+            return Ok(MAX_ARRIVALS - 1);
+        }
+        self.keep_crossings(&out.effects.as_slice()[before..])?;
+        Ok(MAX_ARRIVALS)
+    }
+
     // A frame that arrived waits on where it is kept.
     fn let_go(&mut self, frame: u128, keep: bool)
         requires taken { self.old.whole ≡ false }
@@ -243,14 +307,14 @@ impl World {
         self.crossings.remove(&frame);
     }
 
-    // The lowest frame arrives again and again, until none waits or 65,536 arrived.
-    pub(super) fn drain(&mut self, out: &mut SimOut) -> Result<(), NoMemory>
+    // The lowest frame arrives again and again, until none waits or so many arrived.
+    pub(super) fn drain(&mut self, most: usize, out: &mut SimOut) -> Result<(), NoMemory>
         requires under_way { IsUnderWay self.old.state self.old.zones (sent_among out.old.effects) }
         requires held { AreHeld self.old.state self.old.zones self.old.sim }
         requires taken { self.old.whole ≡ false }
-        ensures { OnOk result (AreGone most_arrivals self.old out.old out.new self.new) }
+        ensures { OnOk result (AreGone most self.old out.old out.new self.new) }
     {
-        let mut left = MAX_ARRIVALS;
+        let mut left = most;
         'arrivals: while left > 0 {
             let Some((&frame, _)) = self.crossings.first_key_value() else {
                 return Ok(());

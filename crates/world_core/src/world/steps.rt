@@ -16,7 +16,7 @@ use crate::world::{Done, World};
 use chassis_sim::out::SimOut;
 use event_lines::refusal::{Refusal, StepFault};
 use inet_packet::packet::Packet;
-use ovn_base::limits::MAX_WAITING;
+use ovn_base::limits::{MAX_ARRIVALS, MAX_WAITING};
 use ovn_base::list::Bytes;
 use ovn_base::memory::NoMemory;
 use ovn_base::name::Name;
@@ -74,10 +74,16 @@ impl World {
         None
     }
 
-    // Whether a virtual port of the name is there.
-    fn is_virtual_port(&self, port: &Name) -> bool
+    // Whether a virtual port of the name is there. One that is bound is, so that nobody looks for its record.
+    #[tactic(auto, using(crate::proofs::BoundPorts::bound_is_virtual))]
+    fn is_virtual_port(&self, port: &Name, unbound: bool) -> bool
+        requires taken { IsTaken self.now }
+        requires unbound { unbound ≡ is_none (at self.now.state.config.bindings port.now) }
         ensures { result ≡ is_virtual_port (at self.now.state.config.net.switch_ports port.now) }
     {
+        if !unbound {
+            return true;
+        }
         self.setup.is_virtual_port(port)
     }
 
@@ -90,14 +96,16 @@ impl World {
 
     // The packet of the frame, which may enter at the port, or why it may not.
     fn packet_for(&self, alloc: Global, port: &Name, frame: &[u8]) -> Result<Packet, StepFault>
+        requires taken { IsTaken self.now }
         ensures allowed { IfOk result (λ packet. cause_of_entry self.now.state port.now frame.now ≡ None) }
         ensures packet { IfOk result (λ packet. IsPacketOf packet frame.now) }
         ensures refused { IfErr result (λ fault. Tells fault (cause_of_entry self.now.state port.now frame.now)) }
     {
-        if !self.is_virtual_port(port) {
+        let unbound = self.is_unbound(port);
+        if !self.is_virtual_port(port, unbound) {
             return Err(StepFault::Refused(Refusal::NoSuch(*port)));
         }
-        if self.is_unbound(port) {
+        if unbound {
             return Err(StepFault::Refused(Refusal::NotBound(*port)));
         }
         let packet = match read_entering(alloc, frame)? {
@@ -133,8 +141,8 @@ impl World {
     {
         let packet = self.packet_for(alloc, port, frame.as_slice())?;
         let mut out = SimOut::new(alloc);
-        self.enter(port, packet, &mut out)?;
-        self.drain(&mut out)?;
+        let left = self.enter_and_cross(port, packet, &mut out)?;
+        self.drain(left, &mut out)?;
         self.finish();
         Ok(done_from(out))
     }
@@ -186,7 +194,7 @@ impl World {
         ensures { IfOk result (λ done. IsDone self.old event_of.Drain done.effects done.walks done.matched self.new) }
     {
         let mut out = SimOut::new(alloc);
-        self.drain(&mut out)?;
+        self.drain(MAX_ARRIVALS, &mut out)?;
         self.finish();
         Ok(done_from(out))
     }

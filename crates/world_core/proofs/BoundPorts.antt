@@ -1,0 +1,26 @@
+-- Ports that are bound.
+use Rattle.std.specs.Prelude.{◌≡◌, true, false, Option, None, Some, is_none, refl}
+use Rattle.std.proofs.Common.{sym, ap, ◌∙◌}
+use Rattle.std.proofs.lemmas.Bool.{false≢true}
+use Rattle.net_model.specs.State.{State}
+use Rattle.ovn_base.specs.declared.name.Name.{Name}
+use Rattle.ovn_base.specs.names.ByName.{at}
+use Rattle.physical_flows.proofs.FlowSearch.{some_of}
+use Rattle.sim_laws.proofs.journey_laws.Finishing.{begins}
+use Rattle.world_core.specs.StepParts.{IsTaken}
+use Rattle.world_core.specs.WorldView.{WorldView}
+use Rattle.world_setup.specs.Refusing.{is_virtual_port}
+
+-- each is a virtual port that is there
+pub bound_is_virtual : (w : WorldView) (port : Name) → IsTaken w → false ≡ is_none (at w.state.config.bindings port) → true ≡ is_virtual_port (at w.state.config.net.switch_ports port)
+bound_is_virtual w port t bound = by (at w.state.config.bindings port) refl bound
+  where
+    m : State
+    m = w.state
+
+    by : (o : Option Name) → at m.config.bindings port ≡ o → false ≡ is_none o → true ≡ is_virtual_port (at m.config.net.switch_ports port)
+    by None is h = absurd (false≢true h)
+    by (Some chassis) is h =
+        let u = begins m w.zones t.consistent.at_rest in
+        let there = some_of (at m.config.net.switch_ports port) (u.bound.port_there port chassis is) in
+        sym (ap is_virtual_port there.1 ∙ u.bound_virtual port chassis there.0 is there.1)
