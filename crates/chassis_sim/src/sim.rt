@@ -1,5 +1,5 @@
 //! The simulated chassis.
-ghost use Rattle.std.specs.Prelude.{◌≡◌, ◌+◌, ◌<◌, ◌≤◌, ◌^◌, List, Some, IfOk, OnOk, length, map};
+ghost use Rattle.std.specs.Prelude.{◌≡◌, ◌+◌, ◌<◌, ◌≤◌, ◌^◌, List, Some, IfOk, OnOk, is_some, length, map};
 ghost use Rattle.std.specs.Option.{option_copied};
 ghost use Rattle.std.specs.Map.{keys_of};
 ghost use Rattle.ovn_base.specs.lists.Once.{EachOnce};
@@ -96,6 +96,13 @@ impl<T: Lookup + Drop> Sim<T> {
         ensures { result ≡ name_of self.now.state.names datapath port }
     {
         name_at(&self.names, datapath, port)
+    }
+
+    /// Whether the port is bound to a chassis. No memory is taken.
+    pub fn is_bound(&self, port: &Name) -> bool
+        ensures { result ≡ is_some (at_name self.now.state.bindings port.now) }
+    {
+        self.bindings.contains_key(port)
     }
 
     /// Each flow of the chassis at exactly one index below their number; `None` past the last, and where no such chassis is

@@ -1,5 +1,5 @@
 //! What the tables of the chassis follow from.
-ghost use Rattle.std.specs.Prelude.{◌≡◌, IfOk, is_none};
+ghost use Rattle.std.specs.Prelude.{◌≡◌, IfOk};
 ghost use Rattle.physical_flows.specs.Compiling.{basis_of};
 ghost use Rattle.tunnel_keys.specs.Keys.{settled};
 ghost use Rattle.net_model.specs.Config.{is_chassis};
@@ -90,13 +90,6 @@ impl Ground {
             Some(port) => matches!(port.kind, PortKind::Virtual),
             None => false,
         }
-    }
-
-    /// Whether the port of the name is bound to no chassis.
-    pub(crate) fn is_unbound(&self, port: &Name) -> bool
-        ensures { result ≡ is_none (at self.now.config.bindings port.now) }
-    {
-        self.zones.homes().port(port).is_none()
     }
 
     /// What the flows of the chassis follow from after the change.

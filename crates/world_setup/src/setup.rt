@@ -1,5 +1,5 @@
 //! The ground of the tables, the flows of each chassis, and the turns of both.
-ghost use Rattle.std.specs.Prelude.{◌≡◌, ◌≤◌, IfErr, IfOk, IsSome, None, [], is_none, map, option_map};
+ghost use Rattle.std.specs.Prelude.{◌≡◌, ◌≤◌, IfErr, IfOk, IsSome, None, [], map, option_map};
 ghost use Rattle.std.specs.Map.{keys_of};
 ghost use Rattle.std.specs.BTreeSet.{insert_key};
 ghost use Rattle.std.specs.Cmp.Lexicographic.{slice_cmp};
@@ -356,13 +356,6 @@ impl Setup {
         ensures { result ≡ is_virtual_port (at self.now.ground.config.net.switch_ports port.now) }
     {
         self.ground.is_virtual_port(port)
-    }
-
-    /// Whether the port of the name is bound to no chassis.
-    pub fn is_unbound(&self, port: &Name) -> bool
-        ensures { result ≡ is_none (at self.now.ground.config.bindings port.now) }
-    {
-        self.ground.is_unbound(port)
     }
 
     /// Frees all retired keys.

@@ -1,5 +1,5 @@
 //! Packets that go through the simulated chassis of a world.
-ghost use Rattle.std.specs.Prelude.{◌≡◌, ◌<◌, ◌+◌, ◌*◌, ◌^◌, ◌++◌, ℕ, List, true, false, IfOk, OnOk, IsSome, IsTrue, Some};
+ghost use Rattle.std.specs.Prelude.{◌≡◌, ◌↔◌, ◌<◌, ◌+◌, ◌*◌, ◌^◌, ◌++◌, ℕ, List, true, false, IfOk, OnOk, IsSome, IsTrue, Some};
 ghost use Rattle.std.specs.BTreeMap.{insert_entry};
 ghost use Rattle.std.specs.Ordering.{nat_cmp};
 ghost use Rattle.ovn_base.specs.declared.name.Name.{Name};
@@ -38,8 +38,7 @@ use tunnel_keys::owner::Identity;
 // Whether one frame was sent where none waited before, by the numbers of the next frame before and after.
 fn sent_one(none_waits: bool, first: u128, next: u128) -> bool
     requires { first < 2 ^ 127 }
-    ensures waits { IsTrue result → none_waits ≡ true }
-    ensures one { IsTrue result → next ≡ first + 1 }
+    ensures { IsTrue result ↔ ((none_waits ≡ true) × (next ≡ first + 1)) }
 {
     none_waits && next == first + 1
 }

@@ -87,11 +87,13 @@ impl World {
         self.setup.is_virtual_port(port)
     }
 
-    // Whether the port of the name is bound to no chassis.
+    // Whether the port of the name is bound to no chassis. The simulated chassis find it by its hash.
+    #[tactic(auto, using(crate::proofs::BoundPorts::bound_as_held))]
     fn is_unbound(&self, port: &Name) -> bool
+        requires taken { IsTaken self.now }
         ensures { result ≡ is_none (at self.now.state.config.bindings port.now) }
     {
-        self.setup.is_unbound(port)
+        !self.sim.is_bound(port)
     }
 
     // The packet of the frame, which may enter at the port, or why it may not.

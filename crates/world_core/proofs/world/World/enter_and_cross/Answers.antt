@@ -39,8 +39,8 @@ sent_one-requires c =
 
 pub arrive_unnamed-requires-clause-unnamed : goal.arrive_unnamed-requires-clause-unnamed
 arrive_unnamed-requires-clause-unnamed c =
-    let none = c.is_empty-none_waits.ensures.0 (c.sent_one.ensures.waits c.if-sent_one.true) in
-    let one = sym c.next_frame.ensures ∙ c.sent_one.ensures.one c.if-sent_one.true in (
+    let none = c.is_empty-none_waits.ensures.0 ((c.sent_one.ensures.0 c.if-sent_one.true).0) in
+    let one = sym c.next_frame.ensures ∙ (c.sent_one.ensures.0 c.if-sent_one.true).1 in (
       first_sent c.journeys_refine.ensures.enters c.self.inside c.args.self.now c.self.view_is c.args.port.now c.args.packet c.args.out.now c.inject.new.out c.inject.new.self.state _ c.requires.under_way c.requires.held c.requires.whole c.in-Ok.ensures.answer.1 refl,
       first_unnamed c.journeys_refine.ensures.enters c.self.inside c.args.self.now c.self.view_is c.args.port.now c.args.packet c.args.out.now c.inject.new.out c.inject.new.self.state _ c.requires.under_way c.requires.held c.requires.whole c.in-Ok.ensures.answer.1 refl none
           c.next_frame-first.result c.next_frame-first.ensures one _ refl,
@@ -48,8 +48,8 @@ arrive_unnamed-requires-clause-unnamed c =
 
 pub returns-then-sent_one : goal.returns-then-sent_one
 returns-then-sent_one c =
-    let none = c.is_empty-none_waits.ensures.0 (c.sent_one.ensures.waits c.if-sent_one.true) in
-    let one = sym c.next_frame.ensures ∙ c.sent_one.ensures.one c.if-sent_one.true in
+    let none = c.is_empty-none_waits.ensures.0 ((c.sent_one.ensures.0 c.if-sent_one.true).0) in
+    let one = sym c.next_frame.ensures ∙ (c.sent_one.ensures.0 c.if-sent_one.true).1 in
     let first = first_sent c.journeys_refine.ensures.enters c.self.inside c.args.self.now c.self.view_is c.args.port.now c.args.packet c.args.out.now c.inject.new.out c.inject.new.self.state _ c.requires.under_way c.requires.held c.requires.whole c.in-Ok.ensures.answer.1 refl in
     let entered = first_entered c.journeys_refine.ensures.enters c.self.inside c.args.self.now c.self.view_is c.args.port.now c.args.packet c.args.out.now c.inject.new.out c.inject.new.self.state _ c.requires.under_way c.requires.held c.requires.whole c.in-Ok.ensures.answer.1 refl in
     let unnamed =
