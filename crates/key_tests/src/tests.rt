@@ -42,6 +42,19 @@ fn retired_keys(rt: HostRuntime) -> Result<(), Fail> {
     Ok(())
 }
 
+// The range has one key of datapaths: a second datapath gets none, and the first keeps its own.
+#[test]
+fn no_datapath_key(rt: HostRuntime) -> Result<(), Fail> {
+    let s0 = name(b"s0")?;
+    let a0 = name(b"a0")?;
+    let mut register = Register::with_ranges(rt.alloc(), 1, MAX_PORT_KEY)?;
+    register.add_datapath(s0)?;
+    let none = register.add_datapath(a0);
+    assert_eq!(rt; none, Err(KeyFault::NoDatapathKey));
+    assert_eq!(rt; register.keys().datapath(&s0), Some(1));
+    Ok(())
+}
+
 // The key of a port that went is not its own again when it comes again, while frames may be on their way.
 #[test]
 fn late_frame_to_removed_port(rt: HostRuntime) -> Result<(), Fail> {

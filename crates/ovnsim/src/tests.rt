@@ -191,10 +191,12 @@ const LATE_OUTPUT: &[u8] =
 end events=11 accepted=11 refused=0 waiting=0
 ";
 
-// A frame goes each way, and both arrive at once.
+// A frame goes each way, and both arrive at once. Then one waits as a packet goes the other way: the one that waits arrives first.
 const DRAIN: &[u8] = b"{\"inject\":{\"port\":\"p1\",\"frame\":\"0a00000000020a000000000188b56869\"}}
 {\"inject\":{\"port\":\"p2\",\"frame\":\"0a00000000010a000000000288b5\"}}
 {\"drain\":{}}
+{\"inject\":{\"port\":\"p1\",\"frame\":\"0a00000000020a000000000188b56869\"}}
+{\"packet\":{\"port\":\"p2\",\"frame\":\"0a00000000010a000000000288b5\"}}
 ";
 
 const DRAIN_OUTPUT: &[u8] =
@@ -205,7 +207,13 @@ const DRAIN_OUTPUT: &[u8] =
 10 out p2 0a00000000020a000000000188b56869
 10 out p1 0a00000000010a000000000288b5
 10 ok walks=16
-end events=10 accepted=10 refused=0 waiting=0
+11 tunnel 3 hv1 hv2 024065580000010001028001000100020a00000000020a000000000188b56869
+11 ok walks=9
+12 tunnel 4 hv2 hv1 024065580000010001028001000200010a00000000010a000000000288b5
+12 out p2 0a00000000020a000000000188b56869
+12 out p1 0a00000000010a000000000288b5
+12 ok walks=25
+end events=12 accepted=12 refused=0 waiting=0
 ";
 
 // Names and frames that aren't there, a chassis that is, frames with a fault, and what isn't built.

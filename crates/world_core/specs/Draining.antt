@@ -15,7 +15,7 @@ use Rattle.switch_engine.specs.Outcome.{of_program}
 use Rattle.world_core.specs.Packets.{HasEntered, sent_among, state_with}
 use Rattle.world_core.specs.WorldView.{AreHeld, WorldView}
 
--- Of so many frames that may arrive some did, the lowest first, and so many may still: however these go on, all of them did so.
+-- Frames arrived, or none did, and up to so many may still: however these go on, all together are an arrival of up to `most`, the lowest first.
 pub record AreDraining (old : WorldView) (before : SimOut) (most left : ℕ) (now : WorldView) (told : SimOut) : Type 0 where
   pub own : List End
   pub all : told.effects ≡ before.effects ++ effects_of old.state.keys old.state.next own
@@ -26,7 +26,7 @@ pub record AreDraining (old : WorldView) (before : SimOut) (most left : ℕ) (no
   pub held : AreHeld now.state now.zones now.sim
   pub rest : now ≡ record old { state = now.state; sim = now.sim }
 
--- a packet went in at a port, of the frames that wait then perhaps the lowest arrived, and so many may arrive still
+-- a packet went in at a port, some of the frames that wait then may have arrived, the lowest first, and so many may arrive still
 pub record HasBegun (old : WorldView) (p : Name) (packet : inet.Packet) (before after : SimOut) (left : ℕ) (new : WorldView) : Type 0 where
   pub between : SimOut
   pub first : WorldView

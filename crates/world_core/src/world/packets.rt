@@ -215,8 +215,8 @@ impl World {
         Ok(())
     }
 
-    // Takes a packet from its port through the chassis. Where it sends one frame and no other waits, that one arrives before it is
-    // named. How many frames may arrive still.
+    // Takes a packet from its port through the chassis. Where it sends one frame and no other waits, that one arrives at once, and
+    // needn't be named, which no clause says, since none speaks of cost. How many frames may arrive still.
     pub(super) fn enter_and_cross(
         &mut self,
         port: &Name,
